@@ -1,0 +1,83 @@
+-- Laws of a search by halving, one for each need of its loop, and what it finds among keys that do not fall.
+use Prim.Native.Nat.{ℕ, zero, suc, _+_, _-_, _<_, _≤_}
+use mathlib.Core.Path.{_≡_, refl, ap, _∙_, sym}
+use mathlib.Core.Bool.{Bool, true, false}
+use mathlib.Core.Logic.{_⊎_, inl, inr, ⊎-elim}
+use native.Mathlib.Nat.{eq-or-lt-of-le}
+use native.Mathlib.Omega.{arith}
+use lib.Dec.{ltb, leb, eqb}
+use borrow.Author.Tests.{ltb-true, ltb-false, leb-true, leb-false, eqb-true, le-leb, lt-leb, eq-eqb, ne-eqb}
+use Rattle.loops.specs.Iter.{first, firstIn, Hit, hit, miss, foundOr}
+use Rattle.loops.specs.Order.{Stays, Rising, Halved}
+use Rattle.loops.proofs.Iter.{first-found, first-before, first-bound, first-none}
+
+clash : {b : Bool} → b ≡ true → b ≡ false → ⊥
+clash {b} p q = let z : _≡_ {A = ℕ} 0 1 = cc in omega arith
+
+pub halved-start : (f : ℕ → Bool) (n : ℕ) → Halved f n 0 n
+halved-start f n = record { order = omega arith; inside = omega arith; below = λ k l. absurd (omega arith); above = λ k l u. absurd (omega arith) }
+
+-- the test fails in the middle: the interval begins after it
+pub halved-up : (f : ℕ → Bool) (n lo hi mid : ℕ) → Stays f n → Halved f n lo hi → f mid ≡ false → mid < hi → Halved f n (mid + 1) hi
+halved-up f n lo hi mid s h e u =
+    record { order = omega arith; inside = h .inside; below = λ k l. go k (omega arith) (f k) refl; above = h .above }
+  where
+    go : (k : ℕ) → k ≤ mid → (b : Bool) → f k ≡ b → f k ≡ false
+    go k l true q = absurd (clash (s .stays k mid l (omega (arith, h .inside)) q) e)
+    go k l false q = q
+
+-- it passes there: the interval ends before it
+pub halved-down : (f : ℕ → Bool) (n lo hi mid : ℕ) → Stays f n → Halved f n lo hi → f mid ≡ true → lo ≤ mid → mid < hi → Halved f n lo mid
+halved-down f n lo hi mid s h e l u =
+    record { order = l; inside = omega (arith, h .inside); below = h .below; above = λ k a b. s .stays mid k a b e }
+
+pub split : (a b : ℕ) → (a < b) ⊎ (b ≤ a)
+split a b = pick (ltb a b) refl
+  where
+    pick : (t : Bool) → ltb a b ≡ t → (a < b) ⊎ (b ≤ a)
+    pick true q = inl (ltb-true a b q)
+    pick false q = inr (ltb-false a b q)
+
+-- a search finds k exactly where k passes and none before it does, and nothing where none passes
+pub first-is : (f : ℕ → Bool) (n k : ℕ) → f k ≡ true → ((j : ℕ) → j < k → f j ≡ false) → k < n → firstIn f 0 n ≡ hit k
+first-is f n k e b u = go (firstIn f 0 n) refl
+  where
+    go : (x : Hit) → firstIn f 0 n ≡ x → x ≡ hit k
+    go (hit j) q =
+        ⊎-elim
+        (λ (l : j < k). absurd (clash (first-found f 0 (n - 0) j q) (b j l)))
+        (λ (l : k ≤ j). ⊎-elim (λ (z : k ≡ j). ap hit (sym z)) (λ (z : k < j). absurd (clash e (first-before f 0 (n - 0) j k q (omega arith) z))) (eq-or-lt-of-le l))
+        (split j k)
+    go miss q = absurd (clash e (first-none f 0 (n - 0) k q (omega arith) (omega arith)))
+
+pub first-isnt : (f : ℕ → Bool) (n : ℕ) → ((j : ℕ) → j < n → f j ≡ false) → firstIn f 0 n ≡ miss
+first-isnt f n b = go (firstIn f 0 n) refl
+  where
+    go : (x : Hit) → firstIn f 0 n ≡ x → x ≡ miss
+    go (hit j) q = absurd (clash (first-found f 0 (n - 0) j q) (b j (omega (arith, first-bound f 0 (n - 0) j q))))
+    go miss q = refl
+
+-- nothing is left between: the first that passes is found
+pub halved-found : (f : ℕ → Bool) (n lo hi : ℕ) → Halved f n lo hi → hi ≤ lo → lo ≡ foundOr (firstIn f 0 n) n
+halved-found f n lo hi h l =
+    ⊎-elim
+    (λ (q : lo < n). ap (λ (x : Hit). foundOr x n) (sym (first-is f n lo (h .above lo l q) (h .below) q)))
+    (λ (q : n ≤ lo). let e : lo ≡ n = omega (arith, h .order, h .inside) in e ∙ ap (λ (x : Hit). foundOr x n) (sym (first-isnt f n (λ j u. h .below j (omega arith)))))
+    (split lo n)
+
+-- Among keys that do not fall, the first key t is the first that is not below t, if that one is t.
+module _ (key : ℕ → ℕ) (t n : ℕ) (r : Rising key n) where
+  pub keys-stay : Stays (λ i. leb t (key i)) n
+  keys-stay = record { stays = λ i j l u e. le-leb t (key j) (omega (arith, leb-true t (key i) e, r .rising i j l u)) }
+
+  pub found-below : (lo hi : ℕ) → Halved (λ i. leb t (key i)) n lo hi → (j : ℕ) → j < lo → eqb (key j) t ≡ false
+  found-below lo hi h j l = ne-eqb (key j) t (λ e. omega (arith, leb-false t (key j) (h .below j l), e))
+
+  pub same-found : (lo hi : ℕ) → Halved (λ i. leb t (key i)) n lo hi → lo < n → key lo ≡ t → firstIn (λ i. eqb (key i) t) 0 n ≡ hit lo
+  same-found lo hi h l e = first-is (λ i. eqb (key i) t) n lo (eq-eqb (key lo) t e) (found-below lo hi h) l
+
+  pub same-past : (lo hi : ℕ) → Halved (λ i. leb t (key i)) n lo hi → n ≤ lo → firstIn (λ i. eqb (key i) t) 0 n ≡ miss
+  same-past lo hi h l = first-isnt (λ i. eqb (key i) t) n (λ j u. found-below lo hi h j (omega arith))
+
+  pub same-other : (lo hi : ℕ) → Halved (λ i. leb t (key i)) n lo hi → hi ≤ lo → lo < n → (key lo ≡ t → ⊥) → firstIn (λ i. eqb (key i) t) 0 n ≡ miss
+  same-other lo hi h d l x = first-isnt (λ i. eqb (key i) t) n (λ j u. ⊎-elim (λ (q : j < lo). found-below lo hi h j q) (λ (q : lo ≤ j). ne-eqb (key j) t (λ e. x (omega (arith, leb-true t (key lo) (h .above lo d l), r .rising lo j q u, e)))) (split j lo))

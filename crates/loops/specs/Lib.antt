@@ -1,0 +1,3 @@
+pub mod Iter
+pub mod Count
+pub mod Order
