@@ -4,9 +4,9 @@ use mathlib.Core.Path.{_≡_, refl, ap, _∙_, sym, ap₂}
 use native.Mathlib.Nat.{eq-or-lt-of-le, add-zero, add-suc, suc-add}
 use native.Mathlib.Omega.{arith}
 use native.Mathlib.Numerals.{add-one}
-use mathlib.Core.Bool.{Bool, true, false, _&&_}
+use mathlib.Core.Bool.{Bool, true, false, _&&_, _||_}
 use mathlib.Core.Logic.{⊎-elim}
-use Rattle.loops.specs.Iter.{iter, range, every, everyIn, first, firstIn, Hit, hit, miss, until, untilIn}
+use Rattle.loops.specs.Iter.{iter, range, every, everyIn, some, someIn, first, firstIn, Hit, hit, miss, until, untilIn}
 
 pub range-turn : {S : Type 0} (f : ℕ → S → S) (i b : ℕ) (s : S) → i < b → range f i b s ≡ range f (i + 1) b (f i s)
 unfolding iter
@@ -177,3 +177,39 @@ first-before f i (suc n) k j h l u = go (f i) refl (first-before f (suc i) n k j
     go : (t : Bool) → f i ≡ t → (first f (suc i) n ≡ hit k → suc i ≤ j → j < k → f j ≡ false) → f j ≡ false
     go true e later = let z : hit i ≡ hit k = sym (first-yes f i n e) ∙ h in let y : i ≡ k = cc in absurd (omega arith)
     go false e later = ⊎-elim (λ (q : i ≡ j). ap f (sym q) ∙ e) (λ (q : i < j). later (sym (first-next f i n e) ∙ h) q u) (eq-or-lt-of-le l)
+
+-- some number passes exactly where one is at hand; none passes where each fails
+pub some-at : (f : ℕ → Bool) (i n k : ℕ) → f k ≡ true → i ≤ k → k < i + n → some f i n ≡ true
+unfolding some
+some-at f i zero k h l u = absurd (omega arith)
+some-at f i (suc n) k h l u =
+    ⊎-elim (λ (e : i ≡ k). ap (λ (b : Bool). b || some f (suc i) n) (ap f e ∙ h))
+    (λ (e : i < k). ap (λ (b : Bool). f i || b) (some-at f (suc i) n k h e (omega arith)) ∙ or-yes (f i))
+    (eq-or-lt-of-le l)
+  where
+    or-yes : (b : Bool) → b || true ≡ true
+    or-yes true = refl
+    or-yes false = refl
+
+pub some-none : (f : ℕ → Bool) (i n : ℕ) → ((k : ℕ) → i ≤ k → k < i + n → f k ≡ false) → some f i n ≡ false
+unfolding some
+some-none f i zero h = refl
+some-none f i (suc n) h = ap₂ _||_ (h i (omega arith) (omega arith)) (some-none f (suc i) n (λ k l u. h k (omega arith) (omega arith)))
+
+-- the number that passes
+pub record Passes (f : ℕ → Bool) (i n : ℕ) : Type 0 where
+  pub at : ℕ
+  pub low : i ≤ at
+  pub high : at < i + n
+  pub passes : f at ≡ true
+
+pub some-found : (f : ℕ → Bool) (i n : ℕ) → some f i n ≡ true → Passes f i n
+unfolding some
+some-found f i zero h = let z : _≡_ {A = ℕ} 0 1 = cc in absurd (omega arith)
+some-found f i (suc n) h = go (f i) refl (some-found f (suc i) n)
+  where
+    go : (t : Bool) → f i ≡ t → (some f (suc i) n ≡ true → Passes f (suc i) n) → Passes f i (suc n)
+    go true e later = record { at = i; low = omega arith; high = omega arith; passes = e }
+    go false e later =
+        let p = later (ap (λ (b : Bool). b || some f (suc i) n) (sym e) ∙ h) in
+        record { at = p .at; low = omega (arith, p .low); high = omega (arith, p .high); passes = p .passes }

@@ -1,6 +1,6 @@
 -- Loops as functions on values. Definitions only.
 use Prim.Native.Nat.{ℕ, zero, suc, _-_}
-use mathlib.Core.Bool.{Bool, true, false, _&&_}
+use mathlib.Core.Bool.{Bool, true, false, _&&_, _||_}
 
 -- a counted loop: s is taken through f i, f (i + 1), .., n steps
 unfoldable pub iter : {S : Type 0} → (ℕ → S → S) → ℕ → ℕ → S → S
@@ -44,3 +44,11 @@ untilIn stop f a b s = until stop f a (b - a) s
 abbrev pub foundOr : Hit → ℕ → ℕ
 foundOr (hit k) n = k
 foundOr miss n = n
+
+-- some one of the n numbers from i on passes
+unfoldable pub some : (ℕ → Bool) → ℕ → ℕ → Bool
+some f i zero = false
+some f i (suc n) = f i || some f (suc i) n
+
+abbrev pub someIn : (ℕ → Bool) → ℕ → ℕ → Bool
+someIn f a b = some f a (b - a)
