@@ -1,0 +1,428 @@
+// Inputs, the oracle's answers to them, and an independent reading of the doors of document 01.
+use gtfs::cell_bitset::CellBitSet as Oracle;
+use gtfs::pack::{FrequencyWindow, GlobalTrip, PackedStopTime, StaticEpoch, WalkEdge};
+use routing::journey::{ItineraryQuery, RtTripAdjust};
+
+pub const LIMIT: u32 = 1_048_575;
+pub const UNKNOWN: u32 = u32::MAX;
+
+pub fn refused(code: u32) -> Answer {
+    Answer { code, value: 0 }
+}
+
+pub fn given(value: u32) -> Answer {
+    Answer { code: 0, value }
+}
+
+// Numbers from a seed (splitmix64).
+pub struct Random(pub u64);
+
+impl Random {
+    pub fn next(&mut self) -> u64 {
+        self.0 = self.0.wrapping_add(0x9E37_79B9_7F4A_7C15);
+        let mut z = self.0;
+        z = (z ^ (z >> 30)).wrapping_mul(0xBF58_476D_1CE4_E5B9);
+        z = (z ^ (z >> 27)).wrapping_mul(0x94D0_49BB_1331_11EB);
+        z ^ (z >> 31)
+    }
+    pub fn below(&mut self, n: u32) -> u32 {
+        (self.next() % n as u64) as u32
+    }
+    // any u32, the limits and small numbers often
+    pub fn any(&mut self) -> u32 {
+        match self.below(8) {
+            0 => self.next() as u32,
+            1 => u32::MAX - self.below(3),
+            2 => LIMIT + 2 - self.below(4),
+            _ => self.below(70),
+        }
+    }
+    // a time, now and then past the limit
+    pub fn time(&mut self) -> u32 {
+        match self.below(10) {
+            0 => LIMIT + 1 - self.below(3),
+            1 | 2 => self.below(LIMIT + 1),
+            3 if self.below(20) == 0 => self.next() as u32,
+            _ => self.below(2000),
+        }
+    }
+    // the bits of a signed size, now and then past the limit
+    pub fn signed(&mut self) -> u32 {
+        let v = self.time() as i64;
+        (if self.below(2) == 0 { v } else { -v }) as u32
+    }
+}
+
+pub fn near_limit() -> [u32; 5] {
+    [LIMIT - 1, LIMIT, LIMIT + 1, u32::MAX - 1, u32::MAX]
+}
+
+// Is ours, byte for byte, the oracle's set?
+pub fn same_set(s: &CellBitSet, o: &Oracle) -> bool {
+    let mut bytes = [0u8; 64];
+    for (i, w) in o.words().iter().enumerate() {
+        bytes[i * 8..i * 8 + 8].copy_from_slice(&w.to_le_bytes());
+    }
+    s.bytes == bytes && s.reserved as usize == o.words().len() * 8
+}
+
+pub fn random_set(r: &mut Random) -> (CellBitSet, Oracle) {
+    let n = r.below(513);
+    let mut o = Oracle::new(n);
+    let mut s = unsafe { savoiky_cell_bitset_new(n) }.set;
+    for _ in 0..r.below(5) {
+        let c = r.below(530);
+        o.set_bit(c as usize);
+        s = unsafe { savoiky_cell_bitset_set_bit(s, c) };
+    }
+    (s, o)
+}
+
+pub fn oracle_duration(duration_s: u32, mode: u32, wheelchair: bool) -> u32 {
+    let pathway_mode = if mode == 0 { None } else { Some(mode as u8) };
+    WalkEdge { from_stop_idx: 0, to_stop_idx: 0, duration_s, distance_m: 0.0, pathway_mode }.effective_duration_s(wheelchair)
+}
+
+pub fn oracle_rounds(wanted: u32, transfers: u32) -> u32 {
+    let q = ItineraryQuery { raptor_max_rounds: wanted, max_transfers: transfers, ..Default::default() };
+    routing::tbr::rounds(&q) as u32
+}
+
+fn trip_of(w: &[u32]) -> GlobalTrip {
+    let windows = w.chunks(3).map(|c| FrequencyWindow { start_s: c[0], end_s: c[1], headway_s: c[2] }).collect();
+    GlobalTrip { frequency_windows: windows, ..Default::default() }
+}
+
+pub fn freq_outcome(count: u32, w: &[u32], base: u32, dep: u32, after: u32) -> FreqAnswer {
+    let no = |code| FreqAnswer { code, found: 0, departure: 0, time_shift_s: 0 };
+    if count > 65536 {
+        return no(1);
+    }
+    if w.len() as u64 != 3 * count as u64 {
+        return no(2);
+    }
+    if w.iter().any(|&x| x > LIMIT) || base > LIMIT || dep > LIMIT || after > LIMIT {
+        return no(5);
+    }
+    match routing::freq_board(&trip_of(w), base, dep, after) {
+        None => no(0),
+        Some((departure, shift)) => FreqAnswer { code: 0, found: 1, departure, time_shift_s: shift as u32 },
+    }
+}
+
+pub fn random_windows(r: &mut Random) -> (u32, Vec<u32>, u32, u32, u32) {
+    let count = r.below(5);
+    let scale = [20, 400, 5000, LIMIT][r.below(4) as usize];
+    let mut w = vec![];
+    for _ in 0..count {
+        let (start, parts, spread) = (r.below(scale), 1 + r.below(3), 1 + r.below(40));
+        w.extend([start, start + r.below(scale) / parts, r.below(1 + scale / spread)]);
+    }
+    for x in w.iter_mut() {
+        *x = (*x).min(LIMIT);
+    }
+    let base = r.below(scale);
+    let dep = if r.below(4) == 0 { r.below(scale) } else { (base + r.below(scale / 2 + 1)).min(LIMIT) };
+    let after = r.below((scale as u64 * 3 / 2) as u32).min(LIMIT);
+    let mut out = (count, w, base, dep, after);
+    match r.below(60) {
+        0 => out.0 = r.any(),
+        1 => out.1.push(r.time()),
+        2 => out.2 = r.any(),
+        3 => out.3 = r.any(),
+        4 => out.4 = r.any(),
+        5 | 6 if !out.1.is_empty() => {
+            let i = r.below(out.1.len() as u32) as usize;
+            out.1[i] = r.any();
+        }
+        _ => {}
+    }
+    out
+}
+
+fn large(bits: u32) -> bool {
+    (bits as i32).unsigned_abs() > LIMIT
+}
+
+fn stop_time(time: u32, sequence: u32) -> PackedStopTime {
+    PackedStopTime {
+        stop_idx: 0, arrival_s: time, departure_s: time, stop_sequence: sequence, pickup_type: 0, drop_off_type: 0, stop_headsign_idx: 0, timepoint: 0,
+        shape_dist_traveled: None,
+    }
+}
+
+fn adjust(trip: u32, flags: u32, departure: u32, arrival: u32) -> RtTripAdjust {
+    let mut a = RtTripAdjust { trip_delay_s: trip as i32, ..Default::default() };
+    add_stop(&mut a, 7, flags, departure, arrival);
+    a
+}
+
+fn add_stop(a: &mut RtTripAdjust, sequence: u32, flags: u32, departure: u32, arrival: u32) {
+    if flags & 1 != 0 {
+        a.dep_delay.insert(sequence, departure as i32);
+    }
+    if flags & 2 != 0 {
+        a.arr_delay.insert(sequence, arrival as i32);
+    }
+    if flags & 4 != 0 {
+        a.skipped.insert(sequence);
+    }
+}
+
+pub fn oracle_departure(time: u32, trip: u32, flags: u32, own: u32) -> Answer {
+    if time > LIMIT || large(trip) || large(own) || flags > 7 {
+        return refused(5);
+    }
+    given(routing::effective_dep(Some(&adjust(trip, flags, own, 9)), &stop_time(time, 7)))
+}
+
+pub fn oracle_arrival(time: u32, shift: u32, trip: u32, flags: u32, own: u32) -> Answer {
+    if time > LIMIT || large(shift) || large(trip) || large(own) || flags > 7 {
+        return refused(5);
+    }
+    given(routing::effective_arr(Some(&adjust(trip, flags, 9, own)), &stop_time(time, 7), shift as i32))
+}
+
+pub fn departure_agrees(time: u32, trip: u32, flags: u32, own: u32) -> bool {
+    unsafe { savoiky_effective_departure(time, trip, flags, own) == oracle_departure(time, trip, flags, own) }
+}
+
+pub fn arrival_agrees(time: u32, shift: u32, trip: u32, flags: u32, own: u32) -> bool {
+    unsafe { savoiky_effective_arrival(time, shift, trip, flags, own) == oracle_arrival(time, shift, trip, flags, own) }
+}
+
+// Delay tables, with counts that may be damaged.
+#[derive(Clone)]
+pub struct Delays {
+    pub trips: u32,
+    pub rows: Vec<u32>,
+    pub stop_rows: Vec<u32>,
+    pub row_count: u32,
+    pub stop_row_count: u32,
+}
+
+impl Delays {
+    // n rows and n stop rows, in order
+    pub fn filled(n: u32) -> Delays {
+        let rows = (0..n).flat_map(|i| [i, i.wrapping_sub(3)]).collect();
+        let stop_rows = (0..n).flat_map(|i| [i / 2, i, i % 8, i, 0u32.wrapping_sub(i)]).collect();
+        Delays { trips: n.min(4096), rows, stop_rows, row_count: n, stop_row_count: n }
+    }
+
+    // the number of the first no of document 01, read independently
+    pub fn door(&self) -> u32 {
+        if self.trips > 4096 || self.row_count > 4096 || self.stop_row_count > 4096 {
+            return 1;
+        }
+        if self.rows.len() as u64 != 2 * self.row_count as u64 || self.stop_rows.len() as u64 != 5 * self.stop_row_count as u64 {
+            return 2;
+        }
+        if self.rows.chunks(2).any(|c| c[0] != UNKNOWN && c[0] >= self.trips) || self.stop_rows.chunks(5).any(|c| c[0] >= self.row_count) {
+            return 4;
+        }
+        if self.rows.chunks(2).any(|c| large(c[1])) || self.stop_rows.chunks(5).any(|c| c[2] > 7 || large(c[3]) || large(c[4])) {
+            return 5;
+        }
+        let rows: Vec<_> = self.rows.chunks(2).collect();
+        let stops: Vec<_> = self.stop_rows.chunks(5).collect();
+        let falls = rows.windows(2).any(|p| p[0][0] > p[1][0] || (p[0][0] == p[1][0] && p[0][0] != UNKNOWN));
+        if falls || stops.windows(2).any(|p| (p[0][0], p[0][1]) >= (p[1][0], p[1][1])) {
+            return 6;
+        }
+        0
+    }
+
+    // the delay rows as the Rust has them
+    fn adjusts(&self) -> Vec<RtTripAdjust> {
+        let mut out: Vec<_> = self.rows.chunks(2).map(|c| RtTripAdjust { trip_delay_s: c[1] as i32, ..Default::default() }).collect();
+        for c in self.stop_rows.chunks(5) {
+            add_stop(&mut out[c[0] as usize], c[1], c[2], c[3], c[4]);
+        }
+        out
+    }
+
+    pub fn oracle_margin(&self) -> u32 {
+        let mut e = StaticEpoch::default();
+        let mut q = ItineraryQuery::default();
+        for i in 0..self.trips {
+            e.trips.push(GlobalTrip::default());
+            e.trip_id_to_idx.insert(format!("t{i}"), i);
+        }
+        for (i, a) in self.adjusts().into_iter().enumerate() {
+            let trip = self.rows[i * 2];
+            q.rt_adjust.insert(if trip == UNKNOWN { format!("unknown{i}") } else { format!("t{trip}") }, a);
+        }
+        routing::tbr::margin(&e, &q)
+    }
+
+    pub fn margin_agrees(&self) -> bool {
+        let want = match self.door() {
+            0 => given(self.oracle_margin()),
+            n => refused(n),
+        };
+        let got = unsafe {
+            savoiky_margin(
+                self.trips, self.row_count, self.stop_row_count, self.rows.as_ptr(), self.rows.len(), self.stop_rows.as_ptr(), self.stop_rows.len(),
+            )
+        };
+        got == want
+    }
+
+    // the answers for one stop time: what the tables say, and with it the times that the Rust works out
+    pub fn row_agrees(&self, r: &mut Random) -> bool {
+        let trip = r.below(self.trips.saturating_add(2));
+        let sequence = if r.below(4) > 0 && self.stop_rows.len() > 4 { self.stop_rows[5 * r.below(self.stop_rows.len() as u32 / 5) as usize + 1] } else { r.below(9) };
+        let got = unsafe {
+            savoiky_delay_at(
+                self.trips, self.row_count, self.stop_row_count, self.rows.as_ptr(), self.rows.len(), self.stop_rows.as_ptr(), self.stop_rows.len(), trip,
+                sequence,
+            )
+        };
+        let code = match self.door() {
+            0 if trip >= self.trips => 4,
+            n if n > 4 && trip >= self.trips => 4,
+            n => n,
+        };
+        if code != 0 {
+            return got == DelayAnswer { code, known: 0, trip_delay: 0, flags: 0, departure_delay: 0, arrival_delay: 0 };
+        }
+        let all = self.adjusts();
+        let adj = self.rows.chunks(2).position(|c| c[0] == trip).map(|i| &all[i]);
+        let time = r.below(LIMIT + 1);
+        let shift = r.below(2 * LIMIT + 1) as i32 - LIMIT as i32;
+        let st = stop_time(time, sequence);
+        let skipped = adj.map(|a| a.is_skipped(sequence)).unwrap_or(false);
+        unsafe {
+            got.code == 0
+                && got.known == adj.is_some() as u32
+                && savoiky_skipped(got.flags) == given(skipped as u32)
+                && savoiky_effective_departure(time, got.trip_delay, got.flags, got.departure_delay) == given(routing::effective_dep(adj, &st))
+                && savoiky_effective_arrival(time, shift as u32, got.trip_delay, got.flags, got.arrival_delay)
+                    == given(routing::effective_arr(adj, &st, shift))
+        }
+    }
+}
+
+pub fn random_delays(r: &mut Random) -> Delays {
+    let trips = r.below(12);
+    let mut rows = vec![];
+    for t in 0..trips {
+        if r.below(3) == 0 {
+            rows.extend([t, r.signed_inside()]);
+        }
+    }
+    for _ in 0..r.below(3) {
+        rows.extend([UNKNOWN, r.signed_inside()]);
+    }
+    let row_count = rows.len() as u32 / 2;
+    let mut stop_rows = vec![];
+    for row in 0..row_count {
+        let mut sequence = r.below(3);
+        for _ in 0..r.below(4) {
+            stop_rows.extend([row, sequence, r.below(8), r.signed_inside(), r.signed_inside()]);
+            sequence += 1 + r.below(3);
+        }
+    }
+    let stop_row_count = stop_rows.len() as u32 / 5;
+    let mut d = Delays { trips, rows, stop_rows, row_count, stop_row_count };
+    match r.below(12) {
+        0 => d.trips = r.any(),
+        1 => d.row_count = r.any(),
+        2 => d.stop_row_count = r.any(),
+        3 => d.rows.push(r.any()),
+        4 => d.stop_rows.push(r.any()),
+        5 if !d.rows.is_empty() => {
+            let i = r.below(d.rows.len() as u32) as usize;
+            d.rows[i] = r.any();
+        }
+        6 | 7 if !d.stop_rows.is_empty() => {
+            let i = r.below(d.stop_rows.len() as u32) as usize;
+            d.stop_rows[i] = r.any();
+        }
+        _ => {}
+    }
+    d
+}
+
+impl Random {
+    pub fn signed_inside(&mut self) -> u32 {
+        let v = match self.below(6) {
+            0 => LIMIT - self.below(2),
+            1 => self.below(LIMIT + 1),
+            2 => 21600 + self.below(3) - 1,
+            _ => self.below(900),
+        } as i64;
+        (if self.below(2) == 0 { v } else { -v }) as u32
+    }
+    // a distance: any bits, among them NaNs with a payload, -0.0 and the infinities
+    pub fn distance(&mut self) -> f64 {
+        f64::from_bits(match self.below(8) {
+            0 => 0x8000_0000_0000_0000,
+            1 => 0x7FF0_0000_0000_0000 | (self.next() & 0x800F_FFFF_FFFF_FFFF),
+            2 => 0x7FF8_0000_0000_0000 | (self.next() & 0x8007_FFFF_FFFF_FFFF),
+            3 => (self.below(5000) as f64).to_bits(),
+            _ => self.next(),
+        })
+    }
+}
+
+// Stores one label of random kind into tables of random content and reads it back; compares every word of both tables.
+pub fn label_agrees(r: &mut Random) -> bool {
+    let stops = 1 + r.below(3);
+    let n = 13 * stops as usize;
+    let mut words: Vec<u32> = (0..8 * n).map(|i| (i as u32).wrapping_mul(2_654_435_761)).collect();
+    let mut dist: Vec<u64> = (0..n).map(|_| r.distance().to_bits()).collect();
+    let mut a = [0u32; 7];
+    for x in a.iter_mut() {
+        *x = r.any();
+    }
+    let kind = 1 + r.below(3);
+    // the round is a u16 in the Rust
+    a[if kind == 2 { 5 } else { 4 }] = if kind == 1 { 0 } else { r.below(13) };
+    let d = r.distance();
+    let (mut given_stops, mut stop, mut row) = (stops, r.below(stops), r.below(13));
+    match r.below(20) {
+        0 => given_stops = r.any(),
+        1 => stop = r.any(),
+        2 => row = r.any(),
+        3 => {
+            words.pop();
+        }
+        4 => dist.push(1),
+        _ => {}
+    }
+    let code = if given_stops > 4096 {
+        1
+    } else if words.len() as u64 != given_stops as u64 * 104 || dist.len() as u64 != given_stops as u64 * 13 {
+        2
+    } else if stop >= given_stops {
+        4
+    } else if row > 12 {
+        5
+    } else {
+        0
+    };
+    let (mut want_words, mut want_dist) = (words.clone(), dist.clone());
+    let (label, bits) = routing::tbr::label_words(kind, a, d);
+    if code == 0 {
+        let at = (13 * stop + row) as usize;
+        want_words[8 * at..8 * at + 8].copy_from_slice(&label);
+        want_dist[at] = bits;
+    }
+    let (wp, wl, dp, dl) = (words.as_mut_ptr(), words.len(), dist.as_mut_ptr() as *mut f64, dist.len());
+    let got = unsafe {
+        match kind {
+            1 => savoiky_label_store_access(given_stops, stop, row, a[0], a[1], a[2], d, wp, wl, dp, dl),
+            2 => savoiky_label_store_transit(given_stops, stop, row, a[0], a[1], a[2], a[3], a[4], a[5], a[6], wp, wl, dp, dl),
+            _ => savoiky_label_store_walk(given_stops, stop, row, a[0], a[1], a[2], a[3], d, a[4], wp, wl, dp, dl),
+        }
+    };
+    if got != code || words != want_words || dist != want_dist {
+        return false;
+    }
+    let back = unsafe { savoiky_label_load(given_stops, stop, row, wp, wl, dp as *const f64, dl) };
+    if code != 0 {
+        return back.code == code && back.row.words == [0; 8] && back.row.distance.to_bits() == 0;
+    }
+    back.code == 0 && back.row.words == label && back.row.distance.to_bits() == bits
+}

@@ -1,0 +1,94 @@
+// The exported calls, as crates/exports declares them. Wrong declarations show as differing answers.
+#[repr(C)]
+#[derive(Clone, Copy, PartialEq, Debug)]
+pub struct Answer {
+    pub code: u32,
+    pub value: u32,
+}
+
+#[repr(C)]
+#[derive(Clone, Copy)]
+pub struct CellBitSet {
+    pub bytes: [u8; 64],
+    pub reserved: u32,
+}
+
+#[repr(C)]
+#[derive(Clone, Copy)]
+pub struct Sized {
+    pub code: u32,
+    pub set: CellBitSet,
+}
+
+#[repr(C)]
+#[derive(Clone, Copy, PartialEq, Debug)]
+pub struct FreqAnswer {
+    pub code: u32,
+    pub found: u32,
+    pub departure: u32,
+    pub time_shift_s: u32,
+}
+
+#[repr(C)]
+#[derive(Clone, Copy, PartialEq, Debug)]
+pub struct DelayAnswer {
+    pub code: u32,
+    pub known: u32,
+    pub trip_delay: u32,
+    pub flags: u32,
+    pub departure_delay: u32,
+    pub arrival_delay: u32,
+}
+
+#[repr(C)]
+#[derive(Clone, Copy)]
+pub struct LabelRow {
+    pub words: [u32; 8],
+    pub distance: f64,
+}
+
+#[repr(C)]
+#[derive(Clone, Copy)]
+pub struct LabelAnswer {
+    pub code: u32,
+    pub row: LabelRow,
+}
+
+extern "C" {
+    pub fn savoiky_cell_bitset_new(num_cells: u32) -> Sized;
+    pub fn savoiky_cell_bitset_ensure_sized(set: CellBitSet, num_cells: u32) -> Sized;
+    pub fn savoiky_cell_bitset_set_bit(set: CellBitSet, cell: u32) -> CellBitSet;
+    pub fn savoiky_cell_bitset_get_bit(set: CellBitSet, cell: u32) -> bool;
+    pub fn savoiky_cell_bitset_intersects(set: CellBitSet, other: CellBitSet) -> bool;
+    pub fn savoiky_cell_bitset_union_with(set: CellBitSet, other: CellBitSet) -> CellBitSet;
+    pub fn savoiky_cell_bitset_is_empty(set: CellBitSet) -> bool;
+    pub fn savoiky_walk_duration(duration: u32, pathway_mode: u32, wheelchair: u32) -> Answer;
+    pub fn savoiky_max_rounds(wanted: u32, transfers: u32) -> u32;
+    pub fn savoiky_freq_board(count: u32, windows: *const u32, len: usize, base: u32, dep: u32, after: u32) -> FreqAnswer;
+    pub fn savoiky_effective_departure(departure: u32, trip_delay: u32, flags: u32, departure_delay: u32) -> Answer;
+    pub fn savoiky_effective_arrival(arrival: u32, time_shift_s: u32, trip_delay: u32, flags: u32, arrival_delay: u32) -> Answer;
+    pub fn savoiky_skipped(flags: u32) -> Answer;
+    pub fn savoiky_margin(
+        trips: u32, delay_rows: u32, stop_row_count: u32, rows: *const u32, rows_len: usize, stop_rows: *const u32, stop_rows_len: usize,
+    ) -> Answer;
+    pub fn savoiky_delay_at(
+        trips: u32, delay_rows: u32, stop_row_count: u32, rows: *const u32, rows_len: usize, stop_rows: *const u32, stop_rows_len: usize, trip: u32,
+        sequence: u32,
+    ) -> DelayAnswer;
+    pub fn savoiky_service_second(hour: u32, minute: u32, second: u32) -> Answer;
+    pub fn savoiky_label_store_access(
+        stops: u32, stop: u32, row: u32, stop_idx: u32, arrival_s: u32, walk_duration: u32, walk_distance: f64, labels: *mut u32, labels_len: usize,
+        distances: *mut f64, distances_len: usize,
+    ) -> u32;
+    pub fn savoiky_label_store_transit(
+        stops: u32, stop: u32, row: u32, arrival_s: u32, trip_idx: u32, board_stop: u32, board_off: u32, alight_off: u32, prev_round: u32,
+        time_shift_s: u32, labels: *mut u32, labels_len: usize, distances: *mut f64, distances_len: usize,
+    ) -> u32;
+    pub fn savoiky_label_store_walk(
+        stops: u32, stop: u32, row: u32, arrival_s: u32, from_stop: u32, to_stop: u32, duration_s: u32, distance_m: f64, prev_round: u32,
+        labels: *mut u32, labels_len: usize, distances: *mut f64, distances_len: usize,
+    ) -> u32;
+    pub fn savoiky_label_load(
+        stops: u32, stop: u32, row: u32, labels: *const u32, labels_len: usize, distances: *const f64, distances_len: usize,
+    ) -> LabelAnswer;
+}
