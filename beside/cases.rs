@@ -57,27 +57,6 @@ pub fn near_limit() -> [u32; 5] {
     [LIMIT - 1, LIMIT, LIMIT + 1, u32::MAX - 1, u32::MAX]
 }
 
-// Is ours, byte for byte, the oracle's set?
-pub fn same_set(s: &CellBitSet, o: &Oracle) -> bool {
-    let mut bytes = [0u8; 64];
-    for (i, w) in o.words().iter().enumerate() {
-        bytes[i * 8..i * 8 + 8].copy_from_slice(&w.to_le_bytes());
-    }
-    s.bytes == bytes && s.reserved as usize == o.words().len() * 8
-}
-
-pub fn random_set(r: &mut Random) -> (CellBitSet, Oracle) {
-    let n = r.below(513);
-    let mut o = Oracle::new(n);
-    let mut s = unsafe { savoiky_cell_bitset_new(n) }.set;
-    for _ in 0..r.below(5) {
-        let c = r.below(530);
-        o.set_bit(c as usize);
-        s = unsafe { savoiky_cell_bitset_set_bit(s, c) };
-    }
-    (s, o)
-}
-
 pub fn oracle_duration(duration_s: u32, mode: u32, wheelchair: bool) -> u32 {
     let pathway_mode = if mode == 0 { None } else { Some(mode as u8) };
     WalkEdge { from_stop_idx: 0, to_stop_idx: 0, duration_s, distance_m: 0.0, pathway_mode }.effective_duration_s(wheelchair)
@@ -88,7 +67,7 @@ pub fn oracle_rounds(wanted: u32, transfers: u32) -> u32 {
     routing::tbr::rounds(&q) as u32
 }
 
-fn trip_of(w: &[u32]) -> GlobalTrip {
+pub fn trip_of(w: &[u32]) -> GlobalTrip {
     let windows = w.chunks(3).map(|c| FrequencyWindow { start_s: c[0], end_s: c[1], headway_s: c[2] }).collect();
     GlobalTrip { frequency_windows: windows, ..Default::default() }
 }
@@ -140,18 +119,18 @@ pub fn random_windows(r: &mut Random) -> (u32, Vec<u32>, u32, u32, u32) {
     out
 }
 
-fn large(bits: u32) -> bool {
+pub fn large(bits: u32) -> bool {
     (bits as i32).unsigned_abs() > LIMIT
 }
 
-fn stop_time(time: u32, sequence: u32) -> PackedStopTime {
+pub fn stop_time(time: u32, sequence: u32) -> PackedStopTime {
     PackedStopTime {
         stop_idx: 0, arrival_s: time, departure_s: time, stop_sequence: sequence, pickup_type: 0, drop_off_type: 0, stop_headsign_idx: 0, timepoint: 0,
         shape_dist_traveled: None,
     }
 }
 
-fn adjust(trip: u32, flags: u32, departure: u32, arrival: u32) -> RtTripAdjust {
+pub fn adjust(trip: u32, flags: u32, departure: u32, arrival: u32) -> RtTripAdjust {
     let mut a = RtTripAdjust { trip_delay_s: trip as i32, ..Default::default() };
     add_stop(&mut a, 7, flags, departure, arrival);
     a
@@ -181,14 +160,6 @@ pub fn oracle_arrival(time: u32, shift: u32, trip: u32, flags: u32, own: u32) ->
         return refused(5);
     }
     given(routing::effective_arr(Some(&adjust(trip, flags, 9, own)), &stop_time(time, 7), shift as i32))
-}
-
-pub fn departure_agrees(time: u32, trip: u32, flags: u32, own: u32) -> bool {
-    unsafe { savoiky_effective_departure(time, trip, flags, own) == oracle_departure(time, trip, flags, own) }
-}
-
-pub fn arrival_agrees(time: u32, shift: u32, trip: u32, flags: u32, own: u32) -> bool {
-    unsafe { savoiky_effective_arrival(time, shift, trip, flags, own) == oracle_arrival(time, shift, trip, flags, own) }
 }
 
 // Delay tables, with counts that may be damaged.
@@ -233,7 +204,7 @@ impl Delays {
     }
 
     // the delay rows as the Rust has them
-    fn adjusts(&self) -> Vec<RtTripAdjust> {
+    pub fn adjusts(&self) -> Vec<RtTripAdjust> {
         let mut out: Vec<_> = self.rows.chunks(2).map(|c| RtTripAdjust { trip_delay_s: c[1] as i32, ..Default::default() }).collect();
         for c in self.stop_rows.chunks(5) {
             add_stop(&mut out[c[0] as usize], c[1], c[2], c[3], c[4]);
@@ -241,9 +212,8 @@ impl Delays {
         out
     }
 
-    pub fn oracle_margin(&self) -> u32 {
-        let mut e = StaticEpoch::default();
-        let mut q = ItineraryQuery::default();
+    // the same tables as the Rust takes them
+    pub fn fill(&self, e: &mut StaticEpoch, q: &mut ItineraryQuery) {
         for i in 0..self.trips {
             e.trips.push(GlobalTrip::default());
             e.trip_id_to_idx.insert(format!("t{i}"), i);
@@ -252,54 +222,13 @@ impl Delays {
             let trip = self.rows[i * 2];
             q.rt_adjust.insert(if trip == UNKNOWN { format!("unknown{i}") } else { format!("t{trip}") }, a);
         }
+    }
+
+    pub fn oracle_margin(&self) -> u32 {
+        let mut e = StaticEpoch::default();
+        let mut q = ItineraryQuery::default();
+        self.fill(&mut e, &mut q);
         routing::tbr::margin(&e, &q)
-    }
-
-    pub fn margin_agrees(&self) -> bool {
-        let want = match self.door() {
-            0 => given(self.oracle_margin()),
-            n => refused(n),
-        };
-        let got = unsafe {
-            savoiky_margin(
-                self.trips, self.row_count, self.stop_row_count, self.rows.as_ptr(), self.rows.len(), self.stop_rows.as_ptr(), self.stop_rows.len(),
-            )
-        };
-        got == want
-    }
-
-    // the answers for one stop time: what the tables say, and with it the times that the Rust works out
-    pub fn row_agrees(&self, r: &mut Random) -> bool {
-        let trip = r.below(self.trips.saturating_add(2));
-        let sequence = if r.below(4) > 0 && self.stop_rows.len() > 4 { self.stop_rows[5 * r.below(self.stop_rows.len() as u32 / 5) as usize + 1] } else { r.below(9) };
-        let got = unsafe {
-            savoiky_delay_at(
-                self.trips, self.row_count, self.stop_row_count, self.rows.as_ptr(), self.rows.len(), self.stop_rows.as_ptr(), self.stop_rows.len(), trip,
-                sequence,
-            )
-        };
-        let code = match self.door() {
-            0 if trip >= self.trips => 4,
-            n if n > 4 && trip >= self.trips => 4,
-            n => n,
-        };
-        if code != 0 {
-            return got == DelayAnswer { code, known: 0, trip_delay: 0, flags: 0, departure_delay: 0, arrival_delay: 0 };
-        }
-        let all = self.adjusts();
-        let adj = self.rows.chunks(2).position(|c| c[0] == trip).map(|i| &all[i]);
-        let time = r.below(LIMIT + 1);
-        let shift = r.below(2 * LIMIT + 1) as i32 - LIMIT as i32;
-        let st = stop_time(time, sequence);
-        let skipped = adj.map(|a| a.is_skipped(sequence)).unwrap_or(false);
-        unsafe {
-            got.code == 0
-                && got.known == adj.is_some() as u32
-                && savoiky_skipped(got.flags) == given(skipped as u32)
-                && savoiky_effective_departure(time, got.trip_delay, got.flags, got.departure_delay) == given(routing::effective_dep(adj, &st))
-                && savoiky_effective_arrival(time, shift as u32, got.trip_delay, got.flags, got.arrival_delay)
-                    == given(routing::effective_arr(adj, &st, shift))
-        }
     }
 }
 
@@ -364,65 +293,4 @@ impl Random {
             _ => self.next(),
         })
     }
-}
-
-// Stores one label of random kind into tables of random content and reads it back; compares every word of both tables.
-pub fn label_agrees(r: &mut Random) -> bool {
-    let stops = 1 + r.below(3);
-    let n = 13 * stops as usize;
-    let mut words: Vec<u32> = (0..8 * n).map(|i| (i as u32).wrapping_mul(2_654_435_761)).collect();
-    let mut dist: Vec<u64> = (0..n).map(|_| r.distance().to_bits()).collect();
-    let mut a = [0u32; 7];
-    for x in a.iter_mut() {
-        *x = r.any();
-    }
-    let kind = 1 + r.below(3);
-    // the round is a u16 in the Rust
-    a[if kind == 2 { 5 } else { 4 }] = if kind == 1 { 0 } else { r.below(13) };
-    let d = r.distance();
-    let (mut given_stops, mut stop, mut row) = (stops, r.below(stops), r.below(13));
-    match r.below(20) {
-        0 => given_stops = r.any(),
-        1 => stop = r.any(),
-        2 => row = r.any(),
-        3 => {
-            words.pop();
-        }
-        4 => dist.push(1),
-        _ => {}
-    }
-    let code = if given_stops > 4096 {
-        1
-    } else if words.len() as u64 != given_stops as u64 * 104 || dist.len() as u64 != given_stops as u64 * 13 {
-        2
-    } else if stop >= given_stops {
-        4
-    } else if row > 12 {
-        5
-    } else {
-        0
-    };
-    let (mut want_words, mut want_dist) = (words.clone(), dist.clone());
-    let (label, bits) = routing::tbr::label_words(kind, a, d);
-    if code == 0 {
-        let at = (13 * stop + row) as usize;
-        want_words[8 * at..8 * at + 8].copy_from_slice(&label);
-        want_dist[at] = bits;
-    }
-    let (wp, wl, dp, dl) = (words.as_mut_ptr(), words.len(), dist.as_mut_ptr() as *mut f64, dist.len());
-    let got = unsafe {
-        match kind {
-            1 => savoiky_label_store_access(given_stops, stop, row, a[0], a[1], a[2], d, wp, wl, dp, dl),
-            2 => savoiky_label_store_transit(given_stops, stop, row, a[0], a[1], a[2], a[3], a[4], a[5], a[6], wp, wl, dp, dl),
-            _ => savoiky_label_store_walk(given_stops, stop, row, a[0], a[1], a[2], a[3], d, a[4], wp, wl, dp, dl),
-        }
-    };
-    if got != code || words != want_words || dist != want_dist {
-        return false;
-    }
-    let back = unsafe { savoiky_label_load(given_stops, stop, row, wp, wl, dp as *const f64, dl) };
-    if code != 0 {
-        return back.code == code && back.row.words == [0; 8] && back.row.distance.to_bits() == 0;
-    }
-    back.code == 0 && back.row.words == label && back.row.distance.to_bits() == bits
 }

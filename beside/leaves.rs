@@ -4,6 +4,7 @@
 include!(concat!(env!("ORACLE"), "/oracle.rs"));
 include!(concat!(env!("BESIDE"), "/ffi.rs"));
 include!(concat!(env!("BESIDE"), "/cases.rs"));
+include!(concat!(env!("BESIDE"), "/ours.rs"));
 
 const RANDOM: u64 = 1_000_000;
 

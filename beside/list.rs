@@ -1,0 +1,141 @@
+// The fixed list of the oracle's answers that crates/replay replays: a case a line, numbers in decimal, kind first.
+// Only the Rust of docs/src is asked (and, for refusals and the clock, cases.rs's own reading of document 01).
+//   1 cells: n, k, k cells set, m, j, j cells set, probe; then: probe held, empty, intersects, probe held by the union, union's bytes reserved
+//   2 walk: duration, mode, wheelchair; then code, value          3 rounds: wanted, transfers; then rounds
+//   4 frequency: count, length, words, base, departure, wanted; then code, found, departure, shift
+//   5 departure: time, trip delay, flags, own; then code, value   6 arrival: time, shift, trip delay, flags, own; then code, value
+//   7 margin: trips, rows, stop rows, length, words, length, words; then code, value
+//   8 one stop time: the tables as in 7, trip, sequence, time, shift; then skipped, departure, arrival
+//   9 clock: hour, minute, second; then code, value
+//   10 label: kind, seven fields, distance (a whole number), stop, row of three stops; then the record's eight words and its distance
+#![allow(dead_code, unused)]
+include!(concat!(env!("ORACLE"), "/oracle.rs"));
+#[derive(Clone, Copy, PartialEq, Debug)]
+pub struct Answer {
+    pub code: u32,
+    pub value: u32,
+}
+#[derive(Clone, Copy, PartialEq, Debug)]
+pub struct FreqAnswer {
+    pub code: u32,
+    pub found: u32,
+    pub departure: u32,
+    pub time_shift_s: u32,
+}
+include!(concat!(env!("BESIDE"), "/cases.rs"));
+
+const EACH: u32 = 240;
+
+fn line(kind: u32, words: &[u32]) {
+    let mut s = kind.to_string();
+    for w in words {
+        s += " ";
+        s += &w.to_string();
+    }
+    println!("{s}");
+}
+
+fn some_cells(r: &mut Random) -> (u32, Vec<u32>, Oracle) {
+    let n = [0, 1, 63, 64, 65, 128, 500, 512][r.below(8) as usize];
+    let cells: Vec<u32> = (0..r.below(4)).map(|_| r.below(n + 70)).collect();
+    let mut o = Oracle::new(n);
+    for &c in &cells {
+        o.set_bit(c as usize);
+    }
+    (n, cells, o)
+}
+
+fn cells(r: &mut Random) {
+    let (n, a, oa) = some_cells(r);
+    let (m, b, ob) = some_cells(r);
+    let probe = match (a.first(), b.first()) {
+        (Some(&c), _) if r.below(2) == 0 => c,
+        (_, Some(&c)) if r.below(2) == 0 => c,
+        _ => r.below(520),
+    };
+    let mut u = oa.clone();
+    u.union_with(&ob);
+    let mut w = vec![n, a.len() as u32];
+    w.extend(&a);
+    w.extend([m, b.len() as u32]);
+    w.extend(&b);
+    let p = probe as usize;
+    w.extend([probe, oa.get_bit(p) as u32, oa.is_empty() as u32, oa.intersects(&ob) as u32, u.get_bit(p) as u32, 8 * u.words().len() as u32]);
+    line(1, &w);
+}
+
+fn tables(d: &Delays) -> Vec<u32> {
+    let mut w = vec![d.trips, d.row_count, d.stop_row_count, d.rows.len() as u32];
+    w.extend(&d.rows);
+    w.push(d.stop_rows.len() as u32);
+    w.extend(&d.stop_rows);
+    w
+}
+
+fn delays(r: &mut Random) {
+    let d = random_delays(r);
+    let mut w = tables(&d);
+    match d.door() {
+        0 => w.extend([0, d.oracle_margin()]),
+        n => w.extend([n, 0]),
+    }
+    line(7, &w);
+    let d = loop {
+        let d = random_delays(r);
+        if d.door() == 0 && d.trips > 0 {
+            break d;
+        }
+    };
+    let mut w = tables(&d);
+    let trip = if d.rows.is_empty() || r.below(3) == 0 || d.rows[0] == UNKNOWN { r.below(d.trips) } else { d.rows[0] };
+    let sequence = if d.stop_rows.is_empty() || r.below(3) == 0 { r.below(6) } else { d.stop_rows[1] };
+    let time = r.below(5000);
+    let shift = r.below(4000) as i32 - 2000;
+    let all = d.adjusts();
+    let adj = d.rows.chunks(2).position(|c| c[0] == trip).map(|i| &all[i]);
+    let st = stop_time(time, sequence);
+    let skipped = adj.map(|a| a.is_skipped(sequence)).unwrap_or(false);
+    w.extend([trip, sequence, time, shift as u32, skipped as u32, routing::effective_dep(adj, &st), routing::effective_arr(adj, &st, shift)]);
+    line(8, &w);
+}
+
+fn main() {
+    let mut r = Random(2026);
+    for _ in 0..EACH {
+        cells(&mut r);
+        let (d, m, w) = (r.time(), r.below(9), r.below(3));
+        let a = if d > LIMIT || m > 7 || w > 1 { refused(5) } else { given(oracle_duration(d, m, w == 1)) };
+        line(2, &[d, m, w, a.code, a.value]);
+        let (x, y) = (r.any(), r.any());
+        line(3, &[x, y, oracle_rounds(x, y)]);
+        let (count, w, base, dep, after) = random_windows(&mut r);
+        let f = freq_outcome(count, &w, base, dep, after);
+        let mut all = vec![count, w.len() as u32];
+        all.extend(&w);
+        all.extend([base, dep, after, f.code, f.found, f.departure, f.time_shift_s]);
+        line(4, &all);
+        let (time, trip, flags, own, shift) = (r.time(), r.signed(), r.below(9), r.signed(), r.signed());
+        let a = oracle_departure(time, trip, flags, own);
+        line(5, &[time, trip, flags, own, a.code, a.value]);
+        let a = oracle_arrival(time, shift, trip, flags, own);
+        line(6, &[time, shift, trip, flags, own, a.code, a.value]);
+        delays(&mut r);
+        let (h, m, s) = (r.below(50), r.below(62), r.below(62));
+        let a = if h > 47 || m > 59 || s > 59 { refused(5) } else { given(3600 * h + 60 * m + s) };
+        line(9, &[h, m, s, a.code, a.value]);
+        let kind = 1 + r.below(3);
+        let mut f = [0u32; 7];
+        for x in f.iter_mut() {
+            *x = r.any();
+        }
+        f[if kind == 2 { 5 } else { 4 }] = if kind == 1 { 0 } else { r.below(13) };
+        let d = r.below(100_000);
+        let (words, bits) = routing::tbr::label_words(kind, f, d as f64);
+        let mut all = vec![kind];
+        all.extend(f);
+        all.extend([d, r.below(3), r.below(13)]);
+        all.extend(words);
+        all.push(f64::from_bits(bits) as u32);
+        line(10, &all);
+    }
+}

@@ -1,0 +1,71 @@
+-- The entry's questions: what a yes to all of them gives the inner call, and the outcome by the code.
+use Prim.Native.Nat.{ℕ, zero, suc, _+_, _*_, _/_, _<_, _≤_}
+use mathlib.Core.Path.{_≡_, refl, ap₂, sym, _∙_}
+use mathlib.Core.Bool.{true, _&&_}
+use mathlib.Core.Logic.{⊎-elim}
+use mathlib.Core.List.{List, [], _∷_}
+use native.Mathlib.Omega.{arith}
+use lib.ListN.{length, getD}
+use borrow.Author.Tests.{eq-eqb, le-leb, leb-true}
+use Rattle.loops.proofs.Iter.{and-left, and-right, everyIn-at}
+use Rattle.loops.proofs.Search.{split}
+use Rattle.frequency.specs.declared.FreqBoard.{FreqBoard}
+use Rattle.frequency.specs.declared.FreqAnswer.{FreqAnswer}
+use Rattle.frequency.specs.Gtfs.{windowCount, windowAt, earliestFreqBoard, Nominal}
+use Rattle.frequency.specs.Entry.{isTime, areTimes, windowInRange, windowsInRange, inRange, freqCode, boardAnswer, answerOf, freqOutcome}
+
+-- past its end a table reads 0
+past : (l : List ℕ) (k : ℕ) → length l ≤ k → getD l k 0 ≡ 0
+past [] k h = refl
+past (x ∷ l) zero h = absurd (omega arith)
+past (x ∷ l) (suc k) h = past l k (omega arith)
+
+-- what a yes says of three times
+record Three (a b c : ℕ) : Type 0 where
+  one : a ≤ 1048575
+  two : b ≤ 1048575
+  three : c ≤ 1048575
+
+are-times : (a b c : ℕ) → areTimes a b c ≡ true → Three a b c
+are-times a b c e =
+    let q = and-right (isTime a) (isTime b && isTime c) e in
+    record {
+      one = leb-true a 1048575 (and-left (isTime a) (isTime b && isTime c) e);
+      two = leb-true b 1048575 (and-left (isTime b) (isTime c) q);
+      three = leb-true c 1048575 (and-right (isTime b) (isTime c) q);
+    }
+
+module _ (ws : List ℕ) (e : windowsInRange ws ≡ true) where
+  -- word k is the start, the end or the headway of window k / 3
+  word : (k : ℕ) → k / 3 < windowCount ws → getD ws k 0 ≤ 1048575
+  word k u =
+      let r = are-times _ _ _ (everyIn-at (λ j. windowInRange (windowAt ws j)) (windowCount ws) (k / 3) e u) in
+      ⊎-elim
+      (λ (l : k < 3 * (k / 3) + 1). let z : k ≡ 3 * (k / 3) = omega arith in rw z (r .one))
+      (λ (l : 3 * (k / 3) + 1 ≤ k). ⊎-elim (λ (m : k < 3 * (k / 3) + 2). let z : k ≡ 3 * (k / 3) + 1 = omega arith in rw z (r .two)) (λ (m : 3 * (k / 3) + 2 ≤ k). let z : k ≡ 3 * (k / 3) + 2 = omega arith in rw z (r .three)) (split k (3 * (k / 3) + 2)))
+      (split k (3 * (k / 3) + 1))
+
+  all-words : (count : ℕ) → length ws ≡ 3 * count → (k : ℕ) → getD ws k 0 ≤ 1048575
+  all-words count n k = ⊎-elim (λ (u : k < length ws). word k (omega arith)) (λ (u : length ws ≤ k). omega (arith, past ws k u)) (split k (length ws))
+
+pub nominal : (count : ℕ) (ws : List ℕ) (base dep after : ℕ) → inRange ws base dep after ≡ true → length ws ≡ 3 * count → count ≤ 65536 → Nominal ws base dep after
+nominal count ws base dep after e n c =
+    let t = are-times base dep after (and-left (areTimes base dep after) (windowsInRange ws) e) in
+    record {
+      rows = omega arith;
+      words = all-words ws (and-right (areTimes base dep after) (windowsInRange ws) e) count n;
+      template = t .one;
+      departs = omega (arith, t .two);
+      ready = omega (arith, t .three);
+    }
+
+-- the windows that are looked at are those that were counted
+pub counted : (count : ℕ) (ws : List ℕ) → length ws ≡ 3 * count → windowCount ws ≡ count
+counted count ws n = omega arith
+
+-- all questions are answered yes
+pub answered : (count : ℕ) (ws : List ℕ) (base dep after : ℕ) (b : FreqBoard) {r : FreqAnswer} → r ≡ boardAnswer b → b ≡ earliestFreqBoard ws base dep after → inRange ws base dep after ≡ true → length ws ≡ 3 * count → count ≤ 65536 → r ≡ freqOutcome count ws base dep after
+answered count ws base dep after b e f i n c = e ∙ ap₂ answerOf (sym yes5) f
+  where
+    yes5 : freqCode count ws base dep after ≡ 0
+    yes5 = simp (le-leb count 65536 c, eq-eqb (length ws) (3 * count) n, i)

@@ -1,0 +1,5 @@
+pub mod Gtfs
+pub mod Found
+pub mod Entry
+pub mod Reading
+pub mod Rust

@@ -1,0 +1,222 @@
+// frequency: boarding a frequency trip (document 01, item 3; GTFS frequencies.txt), the Rust's `earliest_freq_board`.
+// Specs: Gtfs has windows, runs and the earliest boarding, found by trying the runs one by one; Entry has the entry's questions
+// and answers; Reading says in plain terms what the earliest boarding is; Rust has what the Rust computes; Found has how the
+// code hands on a run.
+// Proves: the code, which divides, finds the boarding of the definition; that is the earliest, in the first window of equals,
+// and none is found only where there is none (Reading, with the sizes of its numbers); the Rust's arithmetic with its limit of
+// 32 tries gives the same departure and shift (Rust); worked examples (Examples).
+// Assumes nothing.
+ghost use mathlib.Core.Path.{_≡_};
+ghost use Prim.Native.Nat.{_≤_, _<_};
+ghost use Rattle.frequency.specs.Gtfs.{windowCount, windowOf, windowAt, firstRun, earliestFreqBoard, Nominal};
+ghost use Rattle.frequency.specs.Found.{noRun, runOf, runAt, boardOf, Fair};
+ghost use Rattle.frequency.specs.Entry.{areTimes, windowInRange, windowsInRange, inRange, freqOutcome, noBoard};
+
+// The most windows.
+pub const WINDOW_LIMIT: u32 = 65536;
+
+// A run that is boarded: its departure at the boarding stop, its shift from the template (an i32's bits), and which run of
+// which window of the trip it is, both counted from 0.
+pub struct Boarding {
+    pub departure: u32,
+    pub time_shift_s: u32,
+    pub window: u32,
+    pub run: u32,
+}
+
+// What a search for a boarding finds.
+pub enum FreqBoard {
+    Nothing,
+    Board(Boarding),
+}
+
+// A run by its start and its number. A window that has none gives NO_RUN, which is later than every run.
+struct Run {
+    start: u32,
+    number: u32,
+}
+
+const NO_RUN: u32 = 4294967295;
+
+fn no_run() -> Run
+    ensures { λ r. ⌜ r ≡ noRun ⌝ }
+{
+    Run {
+        start: NO_RUN,
+        number: 0,
+    }
+}
+
+// The first run of a window that can be boarded, by division.
+fn first_run(start: u32, end: u32, headway: u32, base: u32, dep: u32, after: u32) -> Run
+    requires { ⌜ (start ≤ 1048575) × (end ≤ 1048575) × (headway ≤ 1048575) ⌝ }
+    requires { ⌜ (base ≤ 1048575) × (dep < 4194304) × (after < 134217728) ⌝ }
+    ensures { λ r. ⌜ r ≡ runOf (windowOf start end headway) (firstRun (windowOf start end headway) base dep after) ⌝ }
+{
+    if headway == 0 {
+        return no_run();
+    }
+    if end <= start {
+        return no_run();
+    }
+    let wanted = after + base;
+    if end + dep <= wanted {
+        return no_run();
+    }
+    if wanted <= start + dep {
+        return Run {
+            start: start,
+            number: 0,
+        };
+    }
+    let number = (wanted - (start + dep) + (headway - 1)) / headway;
+    let t = start + number * headway;
+    if t < end {
+        return Run {
+            start: t,
+            number: number,
+        };
+    }
+    no_run()
+}
+
+// The first run of window i.
+fn run_at(windows: &[u32], base: u32, dep: u32, after: u32, i: usize) -> Run
+    requires { ⌜ Nominal (now windows) base dep after ⌝ ∗ ⌜ i < windowCount (now windows) ⌝ }
+    ensures { λ r. ⌜ r ≡ runAt (now (windows .entry)) base dep after i ⌝ }
+{
+    let start = windows[3 * i];
+    let end = windows[3 * i + 1];
+    let headway = windows[3 * i + 2];
+    first_run(start, end, headway, base, dep, after)
+}
+
+// The run that starts at t, of this window and with this number, as it is boarded.
+fn board_at(t: u32, window: u32, base: u32, dep: u32, run: u32) -> FreqBoard
+    requires { ⌜ Fair base dep t ⌝ }
+    requires { ⌜ (base ≤ 1048575) × (dep < 4194304) ⌝ }
+    ensures { λ r. ⌜ r ≡ boardOf t window base dep run ⌝ }
+{
+    if NO_RUN <= t {
+        return FreqBoard::Nothing;
+    }
+    FreqBoard::Board(Boarding {
+        departure: t + dep - base,
+        time_shift_s: signed::difference(t, base),
+        window: window,
+        run: run,
+    })
+}
+
+// The earliest boarding over a trip's windows: its own part of the windows' table, three words a row (start, end, headway).
+// base: the template's first departure; dep: its departure where one boards; after: the wanted time.
+// The earliest departure is that of the earliest run, as each run leaves the stop equally long after its start.
+pub fn earliest_freq_board(windows: &[u32], base: u32, dep: u32, after: u32) -> FreqBoard
+    requires { ⌜ Nominal (now windows) base dep after ⌝ }
+    ensures { λ r. ⌜ r ≡ earliestFreqBoard (now (windows .entry)) base dep after ⌝ }
+{
+    let mut best = NO_RUN;
+    let mut window: u32 = 0;
+    let mut run: u32 = 0;
+    let mut i: usize = 0;
+    while 3 * i + 2 < windows.len() {
+        let next = run_at(windows, base, dep, after, i);
+        if next.start < best {
+            best = next.start;
+            window = i as u32;
+            run = next.number;
+        }
+        i += 1;
+    }
+    board_at(best, window, base, dep, run)
+}
+
+// What the entry answers: the code; then found 1 with the departure and the shift, or found 0 and zeros.
+#[repr(C)]
+pub struct FreqAnswer {
+    pub code: u32,
+    pub found: u32,
+    pub departure: u32,
+    pub time_shift_s: u32,
+}
+
+// No boarding: the number of the question that refused, or 0 where no run can be boarded.
+fn no_board(code: u32) -> FreqAnswer
+    ensures { λ r. ⌜ r ≡ noBoard code ⌝ }
+{
+    FreqAnswer {
+        code: code,
+        found: 0,
+        departure: 0,
+        time_shift_s: 0,
+    }
+}
+
+// Is each of the three a time in its range?
+fn are_times(a: u32, b: u32, c: u32) -> bool
+    ensures { λ r. ⌜ r ≡ areTimes a b c ⌝ }
+{
+    if door::TIME_LIMIT < a {
+        return false;
+    }
+    if door::TIME_LIMIT < b {
+        return false;
+    }
+    c <= door::TIME_LIMIT
+}
+
+// The start, the end and the headway of window i?
+fn window_in_range(windows: &[u32], i: usize) -> bool
+    requires { ⌜ i < windowCount (now windows) ⌝ }
+    ensures { λ r. ⌜ r ≡ windowInRange (windowAt (now (windows .entry)) i) ⌝ }
+{
+    are_times(windows[3 * i], windows[3 * i + 1], windows[3 * i + 2])
+}
+
+// Those of every window?
+fn windows_in_range(windows: &[u32]) -> bool
+    ensures { λ r. ⌜ r ≡ windowsInRange (now (windows .entry)) ⌝ }
+{
+    let mut i: usize = 0;
+    while 3 * i + 2 < windows.len() {
+        if !window_in_range(windows, i) {
+            return false;
+        }
+        i += 1;
+    }
+    true
+}
+
+// Question 5: is every time in its range?
+fn in_range(windows: &[u32], base: u32, dep: u32, after: u32) -> bool
+    ensures { λ r. ⌜ r ≡ inRange (now (windows .entry)) base dep after ⌝ }
+{
+    if !are_times(base, dep, after) {
+        return false;
+    }
+    windows_in_range(windows)
+}
+
+// Frequency boarding with its questions: 1 counts, 2 lengths, 5 times.
+pub fn freq_board(count: u32, windows: &[u32], base: u32, dep: u32, after: u32) -> FreqAnswer
+    ensures { λ r. ⌜ r ≡ freqOutcome count (now (windows .entry)) base dep after ⌝ }
+{
+    if WINDOW_LIMIT < count {
+        return no_board(1);
+    }
+    if windows.len() != 3 * (count as usize) {
+        return no_board(2);
+    }
+    if !in_range(windows, base, dep, after) {
+        return no_board(5);
+    }
+    let FreqBoard::Board(b) = earliest_freq_board(windows, base, dep, after) else {
+        return no_board(0);
+    };
+    FreqAnswer {
+        code: 0,
+        found: 1,
+        departure: b.departure,
+        time_shift_s: b.time_shift_s,
+    }
+}

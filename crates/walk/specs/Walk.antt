@@ -1,0 +1,35 @@
+-- Walks and rounds (document 01, item 2). Definitions only.
+use Prim.Native.Nat.{ℕ, _+_, _*_, min, max}
+use mathlib.Core.Bool.{Bool, cond, _&&_, _||_}
+use lib.Dec.{leb, eqb}
+use Rattle.door.specs.Door.{ask, answer, timeLimit}
+use Rattle.door.specs.declared.Answer.{Answer}
+
+-- pathway_mode of GTFS pathways.txt: 1 walkway, 2 stairs, 3 moving sidewalk, 4 escalator, 5 elevator, 6 fare gate,
+-- 7 exit gate. A walk edge that is no pathway has 0.
+abbrev pub stairs : ℕ
+stairs = 2
+
+abbrev pub escalator : ℕ
+escalator = 4
+
+-- the pathways that a wheelchair query takes at 100 times their duration
+abbrev pub stairsOrEscalator : ℕ → Bool
+stairsOrEscalator mode = eqb mode stairs || eqb mode escalator
+
+-- a walk's duration in a query: its own; for a wheelchair query, 100 times that on stairs and escalators
+unfoldable pub effectiveDuration : ℕ → ℕ → Bool → ℕ
+effectiveDuration duration mode wheelchair = cond (wheelchair && stairsOrEscalator mode) (duration * 100) duration
+
+-- question 5 of the walk's call: the duration is at most 1,048,575 seconds, the mode one of 0 to 7, wheelchair 0 or 1
+abbrev pub inRange : ℕ → ℕ → ℕ → Bool
+inRange duration mode wheelchair = leb duration timeLimit && leb mode 7 && leb wheelchair 1
+
+-- the answer of the walk's call: the duration in a query that is a wheelchair query exactly if `wheelchair` is 1
+abbrev pub walkDuration : ℕ → ℕ → ℕ → Answer
+walkDuration duration mode wheelchair =
+    answer (ask 5 (inRange duration mode wheelchair) 0) (effectiveDuration duration mode (eqb wheelchair 1))
+
+-- the round count for these wanted rounds and transfers
+unfoldable pub roundCount : ℕ → ℕ → ℕ
+roundCount wanted transfers = min 12 (max wanted (max (transfers + 2) 4))

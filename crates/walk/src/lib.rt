@@ -1,0 +1,80 @@
+// walk: how long a walk takes in a query, and how many rounds a query has (document 01, item 2; `effective_duration_s`
+// of pack.rs, `tbr_max_rounds` of tbr.rs).
+// Specs: the GTFS pathway modes that a wheelchair query takes at 100 times their duration; the effective duration; the
+// round count; what the exported call answers.
+// Proves: both are those of the definitions, for every input; an effective duration lies between the duration and
+// 104,857,500 seconds, a round count between 4 and 12, and it never falls when an argument grows.
+// Assumes nothing.
+ghost use mathlib.Core.Path.{_≡_};
+ghost use Prim.Native.Nat.{_≤_, max};
+ghost use Rattle.door.specs.Door.{timeLimit};
+ghost use Rattle.walk.specs.Walk.{stairsOrEscalator, effectiveDuration, inRange, walkDuration, roundCount};
+use door::Answer;
+
+// Pathway modes of GTFS.
+const STAIRS: u32 = 2;
+
+const ESCALATOR: u32 = 4;
+
+// Is this a pathway that a wheelchair query avoids?
+fn stairs_or_escalator(pathway_mode: u32) -> bool
+    ensures { λ r. ⌜ r ≡ stairsOrEscalator «pathway_mode» ⌝ }
+{
+    if pathway_mode == STAIRS {
+        return true;
+    }
+    pathway_mode == ESCALATOR
+}
+
+// Effective walk duration: stairs and escalators count 100 times in a wheelchair query.
+pub fn effective_duration_s(duration: u32, pathway_mode: u32, wheelchair: bool) -> u32
+    requires { ⌜ duration ≤ timeLimit ⌝ }
+    ensures { λ r. ⌜ r ≡ effectiveDuration duration «pathway_mode» wheelchair ⌝ }
+{
+    if door::both(wheelchair, stairs_or_escalator(pathway_mode)) {
+        return duration * 100;
+    }
+    duration
+}
+
+// Question 5 of the call below.
+fn in_range(duration: u32, pathway_mode: u32, wheelchair: u32) -> bool
+    ensures { λ r. ⌜ r ≡ inRange duration «pathway_mode» wheelchair ⌝ }
+{
+    door::both(
+        door::both(duration <= door::TIME_LIMIT, pathway_mode <= 7),
+        wheelchair <= 1,
+    )
+}
+
+// The duration of a walk in a query; 5 if a number is out of its range.
+pub fn walk_duration(duration: u32, pathway_mode: u32, wheelchair: u32) -> Answer
+    ensures { λ r. ⌜ r ≡ walkDuration duration «pathway_mode» wheelchair ⌝ }
+{
+    if !in_range(duration, pathway_mode, wheelchair) {
+        return door::refused(5);
+    }
+    door::given(effective_duration_s(duration, pathway_mode, wheelchair == 1))
+}
+
+fn larger(a: u32, b: u32) -> u32
+    ensures { λ r. ⌜ r ≡ max a b ⌝ }
+{
+    if a < b {
+        return b;
+    }
+    a
+}
+
+// The round count of a query, for any wanted rounds and transfers.
+pub fn tbr_max_rounds(wanted: u32, transfers: u32) -> u32
+    ensures { λ r. ⌜ r ≡ roundCount wanted transfers ⌝ }
+{
+    if 12 <= wanted {
+        return 12;
+    }
+    if 10 <= transfers {
+        return 12;
+    }
+    larger(larger(wanted, transfers + 2), 4)
+}

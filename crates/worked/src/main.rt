@@ -1,0 +1,96 @@
+// worked: the program behind ./run. It answers the worked examples of document 01's leaves (Timetable K) by the exported
+// calls and prints them for a person to read; the gate holds what it prints to the file `stdout`.
+// Proves: that it is safe and ends. Assumes the contracts of the kit's io and libc.
+use libc::STDOUT_FILENO;
+
+fn say(text: &[u8]) {
+    io::write_all(STDOUT_FILENO, text);
+}
+
+fn number(n: u32) {
+    io::print_decimal(STDOUT_FILENO, n as u64);
+}
+
+// A value, or the question that refused it.
+fn answer(a: door::Answer) {
+    if a.code != 0 {
+        say(b"refused by question ");
+        number(a.code);
+    } else {
+        number(a.value);
+    }
+    say(b"\n");
+}
+
+fn rounds(wanted: u32, transfers: u32) {
+    say(b"  wanted ");
+    number(wanted);
+    say(b", transfers ");
+    number(transfers);
+    say(b": ");
+    number(exports::savoiky_max_rounds(wanted, transfers));
+    say(b" rounds\n");
+}
+
+fn boarding(wanted: u32) {
+    let windows = [600u32, 1200, 300];
+    let a = exports::savoiky_freq_board(1, &windows, 600, 660, wanted);
+    say(b"  wanted ");
+    number(wanted);
+    if a.found == 0 {
+        say(b": none\n");
+        return;
+    }
+    say(b": departs ");
+    number(a.departure);
+    say(b", shift ");
+    number(a.time_shift_s);
+    say(b"\n");
+}
+
+fn walk(name: &[u8], duration: u32, mode: u32, wheelchair: u32) {
+    say(name);
+    answer(exports::savoiky_walk_duration(duration, mode, wheelchair));
+}
+
+fn cell(number_of: u32) {
+    let made = exports::savoiky_cell_bitset_new(65);
+    let set = exports::savoiky_cell_bitset_set_bit(made.set, number_of);
+    say(b"  cell ");
+    number(number_of);
+    if exports::savoiky_cell_bitset_get_bit(set, number_of) {
+        say(b" is kept\n");
+    } else {
+        say(b" is dropped\n");
+    }
+}
+
+fn clock(name: &[u8], hour: u32, minute: u32, second: u32) {
+    say(name);
+    answer(exports::savoiky_service_second(hour, minute, second));
+}
+
+fn main() {
+    say(b"Timetable K: worked examples of the leaves\n\nRounds of a query\n");
+    rounds(0, 0);
+    rounds(0, 3);
+    rounds(20, 0);
+    say(b"Frequency boarding: window 600 to 1200 every 300, template from 600, boarding at 660\n");
+    boarding(660);
+    boarding(661);
+    boarding(961);
+    say(
+        b"Arrival 200, shift 50, trip delay 10, only a departure delay of 40 given at the stop\n  arrives at ",
+    );
+    answer(exports::savoiky_effective_arrival(200, 50, 10, 1, 0));
+    say(b"Walks of 30 seconds in a wheelchair query\n");
+    walk(b"  stairs: ", 30, 2, 1);
+    walk(b"  moving sidewalk: ", 30, 3, 1);
+    walk(b"  pathway mode 8: ", 30, 8, 1);
+    say(b"A set of 65 cells\n");
+    cell(127);
+    cell(128);
+    say(b"Service seconds of clock readings\n");
+    clock(b"  25:10:00 is ", 25, 10, 0);
+    clock(b"  48:00:00 is ", 48, 0, 0);
+}
