@@ -14,7 +14,6 @@ use Rattle.loops.proofs.Iter.{and-left, and-right, everyIn-at}
 use Rattle.door.specs.Door.{ask, answer, refusal, success, timeLimit}
 use Rattle.realtime.specs.declared.DelayRow.{DelayRow}
 use Rattle.realtime.specs.declared.StopRow.{StopRow}
-use Rattle.realtime.specs.declared.StopDelay.{StopDelay}
 use Rattle.realtime.specs.declared.DelayAt.{DelayAt}
 use Rattle.realtime.specs.Rows.{unknownTrip, delayCount, stopCount, delayRowAt, stopRowAt, noDelay, delayRow, stopDelay}
 use Rattle.realtime.specs.Times.{sizeOf, margin}
@@ -49,7 +48,7 @@ chain R n t s i (suc d) u =
     let e : i + 1 + suc d ≡ i + 1 + d + 1 = omega arith in
     rw e (t i (i + 1 + d) (i + 1 + d + 1) (omega arith) (chain R n t s i d (omega arith)) (s (i + 1 + d) (omega arith)))
 
-pub pairs : (R : ℕ → ℕ → Type 0) (n : ℕ) → ((i j k : ℕ) → k < n → R i j → R j k → R i k) → ((i : ℕ) → i + 1 < n → R i (i + 1)) → (i j : ℕ) → i < j → j < n → R i j
+pairs : (R : ℕ → ℕ → Type 0) (n : ℕ) → ((i j k : ℕ) → k < n → R i j → R j k → R i k) → ((i : ℕ) → i + 1 < n → R i (i + 1)) → (i j : ℕ) → i < j → j < n → R i j
 pairs R n t s i j l u = let e : i + 1 + (j - (i + 1)) ≡ j = omega arith in rw e at (chain R n t s i (j - (i + 1)) (omega arith))
 
 -- every row but the first rises from the one before it
@@ -122,6 +121,17 @@ stop-rows n stops f b d =
     row : (j : ℕ) → j < stopCount stops → leb (stopRowAt stops j .flags) 7 && sizes j ≡ true
     row j l = everyIn-at (stopAsked 5 n stops) (stopCount stops) j b l
 
+-- question 2: the counts handed in are those of the tables
+pub delay-count : (n m : ℕ) (rows stops : List ℕ) → delayLengths n m rows stops ≡ true → delayCount rows ≡ n
+delay-count n m rows stops h =
+    let e : length rows ≡ 2 * n = eqb-true (length rows) (2 * n) (and-left (eqb (length rows) (2 * n)) (eqb (length stops) (5 * m)) h) in
+    omega arith
+
+pub stop-count : (n m : ℕ) (rows stops : List ℕ) → delayLengths n m rows stops ≡ true → stopCount stops ≡ m
+stop-count n m rows stops h =
+    let e : length stops ≡ 5 * m = eqb-true (length stops) (5 * m) (and-right (eqb (length rows) (2 * n)) (eqb (length stops) (5 * m)) h) in
+    omega arith
+
 -- every answer is yes: both tables are as the inner functions want them
 pub delays-yes : (trips n m : ℕ) (rows stops : List ℕ) → delayCounts trips n m ≡ true → delayLengths n m rows stops ≡ true → delayNumbers trips rows stops ≡ true → delayRanges rows stops ≡ true → delayOrder rows stops ≡ true → Delays trips rows stops
 delays-yes trips n m rows stops q1 q2 q4 q5 q6 =
@@ -129,8 +139,6 @@ delays-yes trips n m rows stops q1 q2 q4 q5 q6 =
     let q1' = and-right (leb trips 4096) (leb n 4096 && leb m 4096) q1 in
     let a : n ≤ 4096 = leb-true n 4096 (and-left (leb n 4096) (leb m 4096) q1') in
     let b : m ≤ 4096 = leb-true m 4096 (and-right (leb n 4096) (leb m 4096) q1') in
-    let c : length rows ≡ 2 * n = eqb-true (length rows) (2 * n) (and-left (eqb (length rows) (2 * n)) (eqb (length stops) (5 * m)) q2) in
-    let d : length stops ≡ 5 * m = eqb-true (length stops) (5 * m) (and-right (eqb (length rows) (2 * n)) (eqb (length stops) (5 * m)) q2) in
     let r4 = and-left (delaysAsked 4 trips rows) (stopsAsked 4 (delayCount rows) stops) q4 in
     let s4 = and-right (delaysAsked 4 trips rows) (stopsAsked 4 (delayCount rows) stops) q4 in
     let r5 = and-left (delaysAsked 5 trips rows) (stopsAsked 5 (delayCount rows) stops) q5 in
@@ -139,8 +147,8 @@ delays-yes trips n m rows stops q1 q2 q4 q5 q6 =
     let s6 = and-right (delaysAsked 6 trips rows) (stopsAsked 6 (delayCount rows) stops) q6 in
     record {
       few = t;
-      delayRows = delay-rows trips rows t (omega arith) r4 r5 r6;
-      stopRows = stop-rows (delayCount rows) stops (omega arith) s5 s6;
+      delayRows = delay-rows trips rows t (omega (arith, delay-count n m rows stops q2)) r4 r5 r6;
+      stopRows = stop-rows (delayCount rows) stops (omega (arith, stop-count n m rows stops q2)) s5 s6;
       trip = λ i l. trip-numbered trips (delayRowAt rows i) (everyIn-at (delayAsked 4 trips rows) (delayCount rows) i r4 l);
       row = λ j l. ltb-true (stopRowAt stops j .row) (delayCount rows) (everyIn-at (stopAsked 4 (delayCount rows) stops) (stopCount stops) j s4 l);
     }

@@ -1,19 +1,20 @@
 -- What the tables say of a stop time: in range, of one row alone, nothing without a row.
-use Prim.Native.Nat.{ℕ, _-_, _<_, _≤_}
-use mathlib.Core.Path.{_≡_, refl, _∙_, sym}
-use mathlib.Core.Bool.{true, _&&_}
+use Prim.Native.Nat.{ℕ, _<_}
+use mathlib.Core.Path.{_≡_, refl, ap, ap₂, _∙_, sym}
+use mathlib.Core.Bool.{Bool, false, _&&_}
 use mathlib.Core.Logic.{⊎-elim}
 use mathlib.Core.List.{List}
-use native.Mathlib.Nat.{eq-or-lt-of-le}
 use native.Mathlib.Omega.{arith}
 use lib.Dec.{eqb}
-use borrow.Author.Tests.{eqb-true}
+use borrow.Author.Tests.{eq-eqb, ne-eqb}
 use Rattle.loops.specs.Iter.{Hit, hit, miss}
-use Rattle.loops.proofs.Iter.{first-found, and-left, and-right}
-use Rattle.loops.proofs.Search.{split, first-isnt}
+use Rattle.loops.proofs.Search.{first-is, first-isnt}
 use Rattle.realtime.specs.Rows.{unknownTrip, delayCount, stopCount, delayRowAt, stopRowAt, delayRow, stopRow, noDelay, besideTrip, stopDelay}
 use Rattle.realtime.specs.Sane.{DelayRows, StopRows, Bounded}
 use Rattle.realtime.proofs.Search.{hit-below}
+
+same-hit : {i j : ℕ} → hit j ≡ hit i → j ≡ i
+same-hit e = cc
 
 -- In range
 pub no-delay-bounded : Bounded noDelay
@@ -33,35 +34,35 @@ bounded rows stops d s trip sequence = at (delayRow rows trip) refl
     at miss e = no-delay-bounded
     at (hit i) e = row-bounded rows stops d s i sequence (hit-below _ _ i e)
 
--- A row that is found is the only one of its trip (unknown trips may repeat), or of its delay row and sequence
-same-place : (i j : ℕ) → (i < j → ⊥) → (j < i → ⊥) → j ≡ i
-same-place i j a b = ⊎-elim (λ (l : i < j). absurd (a l)) (λ (l : j ≤ i). ⊎-elim (λ (e : j ≡ i). e) (λ (e : j < i). absurd (b e)) (eq-or-lt-of-le l)) (split i j)
+-- A known trip's row is the one that is found, and the only one; so is a stop row
+apart : (rows : List ℕ) → DelayRows rows → (trip i j : ℕ) → (trip ≡ unknownTrip → ⊥) → i < j → j < delayCount rows → delayRowAt rows i .trip ≡ trip → delayRowAt rows j .trip ≡ trip → ⊥
+apart rows d trip i j known l u x y = ⊎-elim (λ z. omega arith) (λ z. known (sym x ∙ z .0)) (d .rise i j l u)
 
-pub delay-only : (rows : List ℕ) → DelayRows rows → (trip i j : ℕ) → delayRow rows trip ≡ hit i → (trip ≡ unknownTrip → ⊥) → j < delayCount rows → delayRowAt rows j .trip ≡ trip → j ≡ i
-delay-only rows d trip i j e known u f =
-    same-place i j (λ l. apart i j l u q f) (λ l. apart j i l (hit-below _ _ i e) f q)
+pub delay-is : (rows : List ℕ) → DelayRows rows → (trip i : ℕ) → (trip ≡ unknownTrip → ⊥) → delayRowAt rows i .trip ≡ trip → i < delayCount rows → delayRow rows trip ≡ hit i
+delay-is rows d trip i known e u =
+    first-is (λ k. eqb (delayRowAt rows k .trip) trip) (delayCount rows) i (eq-eqb (delayRowAt rows i .trip) trip e)
+    (λ j l. ne-eqb (delayRowAt rows j .trip) trip (λ z. apart rows d trip j i known l u z e))
+    u
+
+pub delay-only : (rows : List ℕ) → DelayRows rows → (trip i j : ℕ) → (trip ≡ unknownTrip → ⊥) → delayRow rows trip ≡ hit i → delayRowAt rows j .trip ≡ trip → j < delayCount rows → j ≡ i
+delay-only rows d trip i j known e f u = same-hit (sym (delay-is rows d trip j known f u) ∙ e)
+
+pub stop-is : (stops : List ℕ) → StopRows stops → (row sequence j : ℕ) → stopRowAt stops j .row ≡ row → stopRowAt stops j .sequence ≡ sequence → j < stopCount stops → stopRow stops row sequence ≡ hit j
+stop-is stops s row sequence j e f u =
+    first-is (λ k. eqb (stopRowAt stops k .row) row && eqb (stopRowAt stops k .sequence) sequence) (stopCount stops) j
+    (ap₂ _&&_ (eq-eqb (stopRowAt stops j .row) row e) (eq-eqb (stopRowAt stops j .sequence) sequence f))
+    (λ k l. ⊎-elim (λ z. below k z) (λ z. beside k z) (s .rise k j l u))
+    u
   where
-    q : delayRowAt rows i .trip ≡ trip
-    q = eqb-true (delayRowAt rows i .trip) trip (first-found (λ k. eqb (delayRowAt rows k .trip) trip) 0 (delayCount rows - 0) i e)
+    below : (k : ℕ) → stopRowAt stops k .row < stopRowAt stops j .row → eqb (stopRowAt stops k .row) row && eqb (stopRowAt stops k .sequence) sequence ≡ false
+    below k l = ap (λ (b : Bool). b && eqb (stopRowAt stops k .sequence) sequence) (ne-eqb (stopRowAt stops k .row) row (λ z. omega arith))
 
-    apart : (a b : ℕ) → a < b → b < delayCount rows → delayRowAt rows a .trip ≡ trip → delayRowAt rows b .trip ≡ trip → ⊥
-    apart a b l v x y = ⊎-elim (λ z. omega arith) (λ z. known (sym x ∙ z .0)) (d .rise a b l v)
+    beside : (k : ℕ) → (stopRowAt stops k .row ≡ stopRowAt stops j .row) × (stopRowAt stops k .sequence < stopRowAt stops j .sequence)
+        → eqb (stopRowAt stops k .row) row && eqb (stopRowAt stops k .sequence) sequence ≡ false
+    beside k l = ap₂ _&&_ (eq-eqb (stopRowAt stops k .row) row (l .0 ∙ e)) (ne-eqb (stopRowAt stops k .sequence) sequence (λ z. omega arith))
 
-pub stop-only : (stops : List ℕ) → StopRows stops → (row sequence i j : ℕ) → stopRow stops row sequence ≡ hit i → j < stopCount stops → stopRowAt stops j .row ≡ row → stopRowAt stops j .sequence ≡ sequence → j ≡ i
-stop-only stops s row sequence i j e u f g =
-    same-place i j (λ l. apart i j l u p q f g) (λ l. apart j i l (hit-below _ _ i e) f g p q)
-  where
-    both : eqb (stopRowAt stops i .row) row && eqb (stopRowAt stops i .sequence) sequence ≡ true
-    both = first-found (λ k. eqb (stopRowAt stops k .row) row && eqb (stopRowAt stops k .sequence) sequence) 0 (stopCount stops - 0) i e
-
-    p : stopRowAt stops i .row ≡ row
-    p = eqb-true (stopRowAt stops i .row) row (and-left (eqb (stopRowAt stops i .row) row) (eqb (stopRowAt stops i .sequence) sequence) both)
-
-    q : stopRowAt stops i .sequence ≡ sequence
-    q = eqb-true (stopRowAt stops i .sequence) sequence (and-right (eqb (stopRowAt stops i .row) row) (eqb (stopRowAt stops i .sequence) sequence) both)
-
-    apart : (a b : ℕ) → a < b → b < stopCount stops → stopRowAt stops a .row ≡ row → stopRowAt stops a .sequence ≡ sequence → stopRowAt stops b .row ≡ row → stopRowAt stops b .sequence ≡ sequence → ⊥
-    apart a b l v x y x' y' = ⊎-elim (λ z. omega arith) (λ z. omega arith) (s .rise a b l v)
+pub stop-only : (stops : List ℕ) → StopRows stops → (row sequence i j : ℕ) → stopRow stops row sequence ≡ hit i → stopRowAt stops j .row ≡ row → stopRowAt stops j .sequence ≡ sequence → j < stopCount stops → j ≡ i
+stop-only stops s row sequence i j e f g u = same-hit (sym (stop-is stops s row sequence j f g u) ∙ e)
 
 -- no delay row at all: no trip has one
 pub no-rows : (rows : List ℕ) (trip : ℕ) → delayCount rows ≡ 0 → delayRow rows trip ≡ miss

@@ -10,9 +10,9 @@
 // stand and the margin is 0; that the margin covers every trip delay and every given stop delay, or is the cap.
 // Assumes nothing.
 ghost use mathlib.Core.Path.{_≡_};
-ghost use mathlib.Core.Bool.{_&&_, _||_, cond};
-ghost use Prim.Native.Nat.{_+_, _*_, _-_, _<_, _≤_, min, max};
-ghost use lib.ListN.{length, getD};
+ghost use mathlib.Core.Bool.{_||_, cond};
+ghost use Prim.Native.Nat.{_+_, _*_, _-_, _<_, min, max};
+ghost use lib.ListN.{length};
 ghost use lib.Dec.{leb};
 ghost use Rattle.loops.specs.Iter.{hit};
 ghost use Rattle.loops.specs.Order.{Halved};
@@ -69,6 +69,7 @@ pub struct DelayAt {
 
 // Rows
 
+// Row i of each table.
 pub fn delay_row_at(rows: &[u32], i: usize) -> DelayRow
     requires { ⌜ i < delayCount (now rows) ⌝ }
     ensures { λ r. ⌜ r ≡ delayRowAt (now (rows .entry)) i ⌝ }
@@ -101,7 +102,7 @@ fn either(a: bool, b: bool) -> bool
     if a { true } else { b }
 }
 
-// Question 4 of one row.
+// Question 4 of one delay row, and of one stop row where there are n delay rows.
 pub fn trip_numbered(trips: u32, row: DelayRow) -> bool
     ensures { λ r. ⌜ r ≡ tripNumbered trips row ⌝ }
 {
@@ -129,7 +130,7 @@ pub fn stop_in_range(row: StopRow) -> bool
     door::both(row.flags <= 7, sizes)
 }
 
-// Question 6 of two neighbours.
+// Question 6 of two neighbours, delay rows and stop rows.
 pub fn trips_rise(a: DelayRow, b: DelayRow) -> bool
     ensures { λ r. ⌜ r ≡ tripsRise a b ⌝ }
 {
@@ -170,8 +171,8 @@ fn delay_asked(question: u32, trips: u32, rows: &[u32], i: usize) -> bool
     ensures { λ r. ⌜ r ≡ delayAsked question trips (now (rows .entry)) i ⌝ }
 {
     let row = delay_row_at(rows, i);
-    let last = delay_row_at(rows, previous(i));
-    let ordered = either(i == 0, trips_rise(last, row));
+    let prior = delay_row_at(rows, previous(i));
+    let ordered = either(i == 0, trips_rise(prior, row));
     asked(
         question,
         trip_numbered(trips, row),
@@ -186,11 +187,12 @@ fn stop_asked(question: u32, n: usize, stop_rows: &[u32], j: usize) -> bool
     ensures { λ r. ⌜ r ≡ stopAsked question n (now («stop_rows» .entry)) j ⌝ }
 {
     let row = stop_row_at(stop_rows, j);
-    let last = stop_row_at(stop_rows, previous(j));
-    let ordered = either(j == 0, stops_rise(last, row));
+    let prior = stop_row_at(stop_rows, previous(j));
+    let ordered = either(j == 0, stops_rise(prior, row));
     asked(question, row_numbered(n, row), stop_in_range(row), ordered)
 }
 
+// Question 4, 5 or 6 of every row of a table.
 fn delays_asked(question: u32, trips: u32, rows: &[u32]) -> bool
     ensures { λ r. ⌜ r ≡ delaysAsked question trips (now (rows .entry)) ⌝ }
 {
@@ -219,7 +221,7 @@ fn stops_asked(question: u32, n: usize, stop_rows: &[u32]) -> bool
     true
 }
 
-// Question 4, 5 or 6 of every row.
+// Question 4, 5 or 6 of both tables.
 pub fn rows_asked(question: u32, trips: u32, rows: &[u32], stop_rows: &[u32]) -> bool
     ensures { λ r. ⌜ r ≡ rowsAsked question trips (now (rows .entry)) (now («stop_rows» .entry)) ⌝ }
 {
@@ -312,7 +314,7 @@ fn first_from(t: &[u32], width: usize, n: usize, key: u64) -> usize
     lo
 }
 
-// The delay row of a trip.
+// The delay row of a trip: the first one, by halving.
 pub fn delay_row(rows: &[u32], trip: u32) -> Found
     requires { ⌜ DelayRows (now rows) ⌝ }
     ensures { λ r. ⌜ r ≡ foundOf (delayRow (now (rows .entry)) trip) ⌝ }
@@ -328,7 +330,7 @@ pub fn delay_row(rows: &[u32], trip: u32) -> Found
     Found::Nothing
 }
 
-// The stop row of a delay row at a sequence.
+// The stop row of a delay row at a sequence, by halving.
 pub fn stop_row(stop_rows: &[u32], row: u32, sequence: u32) -> Found
     requires { ⌜ StopRows (now «stop_rows») ⌝ }
     ensures { λ r. ⌜ r ≡ foundOf (stopRow (now («stop_rows» .entry)) row sequence) ⌝ }
@@ -345,6 +347,7 @@ pub fn stop_row(stop_rows: &[u32], row: u32, sequence: u32) -> Found
     Found::Nothing
 }
 
+// What there is to say of a trip without a delay row.
 pub fn no_delay() -> StopDelay
     ensures { λ r. ⌜ r ≡ noDelay ⌝ }
 {
@@ -407,6 +410,7 @@ pub fn is_skipped(d: StopDelay) -> bool
     d.flags / 4 % 2 == 1
 }
 
+// The departure with its own delay if one is given, else the trip's, no lower than 0.
 pub fn rt_effective_dep_s(departure: u32, d: StopDelay) -> u32
     requires { ⌜ departure < 2147483648 ⌝ }
     ensures { λ r. ⌜ r ≡ effectiveDeparture departure d ⌝ }
@@ -417,6 +421,7 @@ pub fn rt_effective_dep_s(departure: u32, d: StopDelay) -> u32
     signed::moved(departure, d.trip_delay)
 }
 
+// The arrival with its own delay, else the trip's, if the stop row gives either time; else with the shift. No lower than 0.
 pub fn rt_effective_arr_s(arrival: u32, time_shift_s: u32, d: StopDelay) -> u32
     requires { ⌜ arrival < 2147483648 ⌝ }
     ensures { λ r. ⌜ r ≡ effectiveArrival arrival «time_shift_s» d ⌝ }
@@ -433,6 +438,7 @@ pub fn rt_effective_arr_s(arrival: u32, time_shift_s: u32, d: StopDelay) -> u32
 
 // Margin
 
+// The larger and the smaller of two.
 fn larger(a: u32, b: u32) -> u32
     ensures { λ r. ⌜ r ≡ max a b ⌝ }
 {
@@ -445,7 +451,7 @@ fn smaller(a: u32, b: u32) -> u32
     if a < b { a } else { b }
 }
 
-// The size of a delay if it is given, else 0.
+// The size of a delay that counts, else 0.
 fn size_if(given: bool, bits: u32) -> u32
     ensures { λ r. ⌜ r ≡ cond given (sizeOf bits) 0 ⌝ }
 {
@@ -455,7 +461,14 @@ fn size_if(given: bool, bits: u32) -> u32
     0
 }
 
-// The larger size of the given delays of a stop row.
+// What a delay row counts for the margin, its trip known or not: the size of its delay.
+pub fn trip_size(row: DelayRow) -> u32
+    ensures { λ r. ⌜ r ≡ sizeOf (row .delay) ⌝ }
+{
+    signed::size(row.delay)
+}
+
+// What a stop row counts for it: the larger size of its given delays.
 pub fn given_size(row: StopRow) -> u32
     ensures { λ r. ⌜ r ≡ givenSize row ⌝ }
 {
@@ -464,6 +477,7 @@ pub fn given_size(row: StopRow) -> u32
     larger(departure, arrival)
 }
 
+// The largest over each table.
 fn largest_trip(rows: &[u32]) -> u32
     ensures { λ r. ⌜ r ≡ largest (tripSize (now (rows .entry))) (delayCount (now (rows .entry))) ⌝ }
 {
@@ -471,8 +485,7 @@ fn largest_trip(rows: &[u32]) -> u32
     let mut most: u32 = 0;
     let mut i: usize = 0;
     while i < n {
-        let row = delay_row_at(rows, i);
-        most = larger(most, signed::size(row.delay));
+        most = larger(most, trip_size(delay_row_at(rows, i)));
         i += 1;
     }
     most
@@ -491,6 +504,7 @@ fn largest_stop(stop_rows: &[u32]) -> u32
     most
 }
 
+// The largest size among trip delays and given stop delays, at most the cap.
 pub fn rt_margin(rows: &[u32], stop_rows: &[u32], cap: u32) -> u32
     ensures { λ r. ⌜ r ≡ margin (now (rows .entry)) (now («stop_rows» .entry)) cap ⌝ }
 {
@@ -508,6 +522,7 @@ fn time_in_range(time: u32, flags: u32, trip_delay: u32, own: u32) -> bool
     door::both(codes, sizes)
 }
 
+// Question 5, then the effective departure.
 pub fn effective_departure(
     departure: u32,
     trip_delay: u32,
@@ -528,6 +543,7 @@ pub fn effective_departure(
     door::given(rt_effective_dep_s(departure, d))
 }
 
+// Question 5, then the effective arrival.
 pub fn effective_arrival(
     arrival: u32,
     time_shift_s: u32,
@@ -550,6 +566,7 @@ pub fn effective_arrival(
     door::given(rt_effective_arr_s(arrival, time_shift_s, d))
 }
 
+// Question 5, then 1 if the stop is skipped, else 0.
 pub fn skipped(flags: u32) -> door::Answer
     ensures { λ r. ⌜ r ≡ skippedOutcome flags ⌝ }
 {
@@ -568,6 +585,7 @@ pub fn skipped(flags: u32) -> door::Answer
     door::given(0)
 }
 
+// Questions 1, 2, 4, 5 (with the cap) and 6, then the margin.
 pub fn margin(
     trips: u32,
     delay_rows: u32,
@@ -608,6 +626,7 @@ fn told(code: u32, known: u32, d: StopDelay) -> DelayAt
     }
 }
 
+// Questions 1, 2, 4 (with the trip), 5 and 6, then what the tables say of the trip's stop time with this sequence.
 pub fn delay_at(
     trips: u32,
     delay_rows: u32,

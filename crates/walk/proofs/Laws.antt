@@ -2,7 +2,7 @@
 use Prim.Native.Nat.{ℕ, _+_, _*_, _≤_, min, max}
 use mathlib.Core.Path.{_≡_, refl, sym, _∙_}
 use mathlib.Core.Bool.{Bool, true, false, cond, _&&_, and-eq-true-iff}
-use native.Mathlib.Nat.{min-eq-left}
+use native.Mathlib.Nat.{min-eq-left, min-eq-right}
 use native.Mathlib.Omega.{arith}
 use lib.Dec.{leb}
 use borrow.Author.Tests.{leb-true, leb-false}
@@ -69,3 +69,18 @@ rounds-saturated w t = go (leb (t + 2) 4294967295) refl
     go false e =
         let l = leb-false (t + 2) 4294967295 e in
         full w (t + 2) (omega arith) ∙ sym (full w (min (t + 2) 4294967295) (omega arith))
+
+-- the wanted rounds count up to 12, the transfers up to 10
+pub rounds-capped : (w t : ℕ) → max (max (min w 12) (min t 10 + 2)) 4 ≡ roundCount w t
+unfolding roundCount
+rounds-capped w t = go (leb w 12) refl
+  where
+    low : w ≤ 12 → max (max w (min t 10 + 2)) 4 ≡ min 12 (max w (max (t + 2) 4))
+    low h = omega arith
+
+    high : 12 ≤ w → max (max 12 (min t 10 + 2)) 4 ≡ min 12 (max w (max (t + 2) 4))
+    high h = omega arith
+
+    go : (b : Bool) → leb w 12 ≡ b → max (max (min w 12) (min t 10 + 2)) 4 ≡ min 12 (max w (max (t + 2) 4))
+    go true e = let q = min-eq-left (leb-true w 12 e) in rw q (low (leb-true w 12 e))
+    go false e = let l : 12 ≤ w = omega (arith, leb-false w 12 e) in let q = min-eq-right l in rw q (high l)

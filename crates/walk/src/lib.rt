@@ -6,7 +6,7 @@
 // 104,857,500 seconds, a round count between 4 and 12, and it never falls when an argument grows.
 // Assumes nothing.
 ghost use mathlib.Core.Path.{_≡_};
-ghost use Prim.Native.Nat.{_≤_, max};
+ghost use Prim.Native.Nat.{_≤_, max, min};
 ghost use Rattle.door.specs.Door.{timeLimit};
 ghost use Rattle.walk.specs.Walk.{stairsOrEscalator, effectiveDuration, inRange, walkDuration, roundCount};
 use door::Answer;
@@ -60,21 +60,20 @@ pub fn walk_duration(duration: u32, pathway_mode: u32, wheelchair: u32) -> Answe
 fn larger(a: u32, b: u32) -> u32
     ensures { λ r. ⌜ r ≡ max a b ⌝ }
 {
-    if a < b {
-        return b;
-    }
-    a
+    if a < b { b } else { a }
 }
 
-// The round count of a query, for any wanted rounds and transfers.
+fn smaller(a: u32, b: u32) -> u32
+    ensures { λ r. ⌜ r ≡ min a b ⌝ }
+{
+    if a < b { a } else { b }
+}
+
+// The round count of a query, for any wanted rounds and transfers. Ten transfers already ask for all 12 rounds.
 pub fn tbr_max_rounds(wanted: u32, transfers: u32) -> u32
     ensures { λ r. ⌜ r ≡ roundCount wanted transfers ⌝ }
 {
-    if 12 <= wanted {
-        return 12;
-    }
-    if 10 <= transfers {
-        return 12;
-    }
-    larger(larger(wanted, transfers + 2), 4)
+    let rounds = smaller(wanted, 12);
+    let changes = smaller(transfers, 10) + 2;
+    larger(larger(rounds, changes), 4)
 }

@@ -1,8 +1,8 @@
 use denote.Ref.{now}
-use Rattle.realtime.specs.Door.{knownOf, told}
+use Rattle.realtime.specs.Door.{told}
 use Rattle.loops.specs.Iter.{hit, miss}
 use Rattle.realtime.proofs.Search.{found-hit, found-miss, hit-below}
-use Rattle.realtime.specs.Rows.{delayRow, stopDelay}
+use Rattle.realtime.specs.Rows.{delayRow}
 use Rattle.realtime.proofs.Door.{admitted, delay-given, delay-refused}
 use mathlib.Core.Path.{_∙_, ap, sym}
 use borrow.Author.Needs.{needs}

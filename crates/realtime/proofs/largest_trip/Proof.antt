@@ -21,8 +21,8 @@ loop-holds c = (refl, refl)
 delay-row-at-requires : tie.Need-delay-row-at-requires Inv-loop μ-loop
 delay-row-at-requires c κs = omega arith
 
-size-requires : tie.Need-size-requires Inv-loop μ-loop
-size-requires c κs = search needs
+trip-size-requires : tie.Need-trip-size-requires Inv-loop μ-loop
+trip-size-requires c κs = search needs
 
 larger-requires : tie.Need-larger-requires Inv-loop μ-loop
 larger-requires c κs = search needs
@@ -34,7 +34,7 @@ loop-less : tie.Need-loop-less Inv-loop μ-loop
 loop-less c = omega arith
 
 loop-again : tie.Need-loop-again Inv-loop μ-loop
-loop-again c = (omega arith, range-again _ _ _ (c .before .before .before .before .loop .inv .1) (simp (c .larger .ensures, c .before .size .ensures, c .before .before .delay-row-at .ensures)) (omega arith))
+loop-again c = (omega arith, range-again _ _ _ (c .before .before .before .before .loop .inv .1) (simp (c .larger .ensures, c .before .trip-size .ensures, c .before .before .delay-row-at .ensures)) (omega arith))
 
 returns : tie.Need-returns Inv-loop μ-loop
 returns c = range-left _ _ _ (c .before .loop .inv .1) (omega arith)
@@ -47,7 +47,7 @@ largest-trip-spec =
     μ-loop
     loop-holds
     delay-row-at-requires
-    size-requires
+    trip-size-requires
     larger-requires
     add-i
     loop-less

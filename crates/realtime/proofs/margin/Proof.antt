@@ -1,6 +1,5 @@
 use Rattle.door.specs.Door.{success}
 use denote.Ref.{now}
-use Rattle.realtime.specs.Times.{margin}
 use Rattle.realtime.proofs.Door.{margin-given, margin-refused}
 use mathlib.Core.Path.{_∙_, ap}
 use borrow.Author.Needs.{needs}

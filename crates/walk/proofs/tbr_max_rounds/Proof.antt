@@ -1,19 +1,16 @@
+use Rattle.walk.proofs.Laws.{rounds-capped}
 use borrow.Author.Needs.{needs}
-use native.Mathlib.Omega.{arith}
-use Rattle.walk.specs.Walk.{roundCount}
 use Rattle.walk.proofs.tbr_max_rounds.Statement.{statement}
 use Rattle.walk.proofs.tbr_max_rounds.Tie as tie
 
-returns : tie.Need-returns
-unfolding roundCount
-returns c = omega arith
+smaller-requires : tie.Need-smaller-requires
+smaller-requires c κs = search needs
 
-returns-2 : tie.Need-returns-2
-unfolding roundCount
-returns-2 c = omega arith
+smaller-requires-2 : tie.Need-smaller-requires-2
+smaller-requires-2 c κs = search needs
 
-add-larger : tie.Need-add-larger
-add-larger c = search needs
+add-changes : tie.Need-add-changes
+add-changes c = search needs
 
 larger-requires : tie.Need-larger-requires
 larger-requires c κs = search needs
@@ -21,10 +18,16 @@ larger-requires c κs = search needs
 larger-requires-2 : tie.Need-larger-requires-2
 larger-requires-2 c κs = search needs
 
-returns-3 : tie.Need-returns-3
-unfolding roundCount
-returns-3 c = omega arith
+returns : tie.Need-returns
+returns c = cc (rounds-capped (c .before .before .before .before .args .wanted) (c .before .before .before .before .args .transfers))
 
 pub tbr-max-rounds-spec : {M : Type 1} → statement M
 tbr-max-rounds-spec =
-    tie.close (tie.spec returns returns-2 add-larger larger-requires larger-requires-2 returns-3)
+    tie.close
+    (tie.spec
+    smaller-requires
+    smaller-requires-2
+    add-changes
+    larger-requires
+    larger-requires-2
+    returns)
