@@ -91,4 +91,18 @@ extern "C" {
     pub fn savoiky_label_load(
         stops: u32, stop: u32, row: u32, labels: *const u32, labels_len: usize, distances: *const f64, distances_len: usize,
     ) -> LabelAnswer;
+    pub fn savoiky_sort_stop_departures(
+        stops: u32, trips: u32, times: u32, windows: u32, edges: u32, departures: u32, tables: *const u32, tables_len: usize, runs: *const u32,
+        runs_len: usize, rows: *mut u32, rows_len: usize, marks: *mut u32, marks_len: usize, work: *mut u64, work_len: usize, other: *mut u64,
+        other_len: usize,
+    ) -> u32;
+    pub fn savoiky_compute_line_groups(
+        stops: u32, trips: u32, times: u32, windows: u32, edges: u32, tables: *const u32, tables_len: usize, lines: *mut u32, lines_len: usize,
+        runs: *mut u32, runs_len: usize, entries: *mut u32, entries_len: usize, work: *mut u64, work_len: usize, other: *mut u64, other_len: usize,
+    ) -> Answer;
+    pub fn savoiky_line_layout(
+        stops: u32, trips: u32, times: u32, windows: u32, edges: u32, lines: u32, entry_count: u32, tables: *const u32, tables_len: usize,
+        runs: *const u32, runs_len: usize, entries: *const u32, entries_len: usize, positions: *mut u32, positions_len: usize, fifo: *mut u32,
+        fifo_len: usize,
+    ) -> u32;
 }

@@ -1,0 +1,386 @@
+// Timetables as the calls take them, the same as the Rust takes them, an independent door, and the comparison of each call.
+use gtfs::pack::{build_departures, build_lines, build_transfers};
+
+// Everything that the building calls are lent, with the counts handed in beside it.
+#[derive(Clone)]
+pub struct Timetable {
+    // stops, trips, stop times, windows, walk edges
+    pub counts: [u32; 5],
+    pub tables: Vec<u32>,
+    pub departures: u32,
+    pub runs: Vec<u32>,
+    pub rows: Vec<u32>,
+    // hand-made lines: count, entries, runs, entries
+    pub lines: u32,
+    pub entry_count: u32,
+    pub line_runs: Vec<u32>,
+    pub entries: Vec<u32>,
+    // what is lent to be written, of any content
+    pub marks: Vec<u32>,
+    pub line_of: Vec<u32>,
+    pub made_runs: Vec<u32>,
+    pub made_entries: Vec<u32>,
+    pub positions: Vec<u32>,
+    pub fifo: Vec<u32>,
+    pub work: Vec<u64>,
+    pub other: Vec<u64>,
+    pub line_work: Vec<u64>,
+    pub line_other: Vec<u64>,
+}
+
+impl Timetable {
+    fn at(&self, section: usize, row: usize, field: usize) -> u32 {
+        let c = self.counts.map(|n| n as usize);
+        let base = [0, 6 * c[2], 6 * c[2] + 8 * c[1], 6 * c[2] + 8 * c[1] + 3 * c[3]];
+        self.tables[base[section] + row * [6, 8, 3, 5][section] + field]
+    }
+
+    // the timetable as the Rust has it
+    fn epoch(&self) -> StaticEpoch {
+        let mut e = StaticEpoch::default();
+        e.stops = (0..self.counts[0]).collect();
+        for i in 0..self.counts[2] as usize {
+            let f = |k| self.at(0, i, k);
+            e.stop_times.push(PackedStopTime {
+                stop_idx: f(0), arrival_s: f(1), departure_s: f(2), stop_sequence: f(3), pickup_type: f(4) as u8, drop_off_type: f(5) as u8,
+                stop_headsign_idx: 0, timepoint: 0, shape_dist_traveled: None,
+            });
+        }
+        for i in 0..self.counts[1] as usize {
+            let f = |k| self.at(1, i, k);
+            let windows = (f(4)..f(4) + f(5))
+                .map(|w| FrequencyWindow { start_s: self.at(2, w as usize, 0), end_s: self.at(2, w as usize, 1), headway_s: self.at(2, w as usize, 2) })
+                .collect();
+            e.trips.push(GlobalTrip { stop_time_start: f(0), stop_time_len: f(1), frequency_windows: windows });
+        }
+        e
+    }
+
+    fn listed(&self, e: &mut StaticEpoch) {
+        for s in 0..self.counts[0] as usize {
+            let (a, n) = (self.runs[2 * s] as usize, self.runs[2 * s + 1] as usize);
+            e.stop_departures.push((a..a + n).map(|k| (self.rows[2 * k], self.rows[2 * k + 1])).collect());
+        }
+    }
+
+    // Questions 1 to 5 of the timetable alone, each: is it answered no? (3 to 5 may be asked only where 1 and 2 are yes.)
+    fn small(&self) -> bool {
+        let c = self.counts;
+        c[0] <= 4096 && c[1] <= 4096 && c[2] <= 65536 && c[3] <= 65536 && c[4] <= 65536
+    }
+    fn sized(&self) -> bool {
+        let c = self.counts.map(|n| n as u64);
+        self.tables.len() as u64 == 6 * c[2] + 8 * c[1] + 3 * c[3] + 5 * c[4] + c[0]
+    }
+    fn runs_lie(&self) -> bool {
+        (0..self.counts[1] as usize).all(|i| {
+            let f = |k| self.at(1, i, k) as u64;
+            f(1) > 0 && f(0) + f(1) <= self.counts[2] as u64 && f(4) + f(5) <= self.counts[3] as u64
+        })
+    }
+    fn numbered(&self) -> bool {
+        let stops = self.counts[0];
+        (0..self.counts[2] as usize).all(|i| self.at(0, i, 0) < stops)
+            && (0..self.counts[4] as usize).all(|i| self.at(3, i, 0) < stops && self.at(3, i, 1) < stops)
+    }
+    fn ranged(&self) -> bool {
+        (0..self.counts[2] as usize).all(|i| self.at(0, i, 1) <= LIMIT && self.at(0, i, 2) <= LIMIT && self.at(0, i, 4) <= 3 && self.at(0, i, 5) <= 3)
+            && (0..self.counts[1] as usize).all(|i| self.at(1, i, 2) <= 6 && self.at(1, i, 3) <= 2 && self.at(1, i, 6) <= 1 && self.at(1, i, 7) <= 1)
+            && (0..self.counts[3] as usize).all(|i| (0..3).all(|k| self.at(2, i, k) <= LIMIT))
+            && (0..self.counts[4] as usize).all(|i| self.at(3, i, 2) <= LIMIT && self.at(3, i, 3) <= 7)
+    }
+
+    // the first no of a call that also asks these of its own tables
+    fn door(&self, small: bool, sized: bool, runs: impl Fn() -> bool, numbers: impl Fn() -> bool) -> u32 {
+        if !(self.small() && small) {
+            return 1;
+        }
+        if !(self.sized() && sized) {
+            return 2;
+        }
+        if !(self.runs_lie() && runs()) {
+            return 3;
+        }
+        if !(self.numbered() && numbers()) {
+            return 4;
+        }
+        if !self.ranged() {
+            return 5;
+        }
+        0
+    }
+
+    fn departures_door(&self) -> u32 {
+        let (stops, d) = (self.counts[0] as u64, self.departures as u64);
+        let sized = self.runs.len() as u64 == 2 * stops
+            && self.rows.len() as u64 == 2 * d
+            && self.marks.len() as u64 == stops
+            && self.work.len() as u64 == d
+            && self.other.len() as u64 == d;
+        let run = |s: usize| (self.runs[2 * s] as u64, self.runs[2 * s + 1] as u64);
+        self.door(
+            d <= 65536,
+            sized,
+            || (0..stops as usize).all(|s| run(s).0 + run(s).1 <= d),
+            || {
+                let known = self.rows.chunks(2).all(|c| c[0] < self.counts[1] && c[1] < self.at(1, c[0] as usize, 1));
+                known
+                    && (0..stops as usize).all(|s| {
+                        let (a, n) = run(s);
+                        (a..a + n).all(|k| {
+                            let (t, o) = (self.rows[2 * k as usize] as usize, self.rows[2 * k as usize + 1]);
+                            self.at(0, (self.at(1, t, 0) + o) as usize, 0) == s as u32
+                        })
+                    })
+            },
+        )
+    }
+
+    fn lines_door(&self) -> u32 {
+        let n = self.counts[1] as usize;
+        let sized = self.line_of.len() == n && self.made_runs.len() == 2 * n && self.made_entries.len() == n && self.line_work.len() == n && self.line_other.len() == n;
+        self.door(true, sized, || true, || true)
+    }
+
+    fn layout_door(&self) -> u32 {
+        let (l, n) = (self.lines as u64, self.entry_count as u64);
+        let sized = self.line_runs.len() as u64 == 2 * l
+            && self.entries.len() as u64 == n
+            && self.positions.len() as u64 == self.counts[1] as u64
+            && self.fifo.len() as u64 == l;
+        self.door(
+            l <= 4096 && n <= 4096,
+            sized,
+            || self.line_runs.chunks(2).all(|c| c[0] as u64 + c[1] as u64 <= n),
+            || self.entries.iter().all(|&t| t < self.counts[1]),
+        )
+    }
+
+    pub fn damage(&mut self, r: &mut Random) {
+        for _ in 0..1 + r.below(2) {
+            let any = r.any();
+            match r.below(16) {
+                0 => self.counts[r.below(5) as usize] = any,
+                1 => self.departures = any,
+                2 => self.lines = any,
+                3 => self.entry_count = any,
+                4 => self.tables.push(any),
+                5 => drop(self.tables.pop()),
+                6 => self.rows.push(any),
+                7 => drop(self.marks.pop()),
+                8 => drop(self.positions.pop()),
+                9 => self.made_runs.push(any),
+                10 => drop(self.line_work.pop()),
+                11 => poke(&mut self.runs, r, any),
+                12 => poke(&mut self.rows, r, any),
+                13 => poke(&mut self.line_runs, r, any),
+                14 => poke(&mut self.entries, r, any),
+                _ => poke(&mut self.tables, r, any),
+            }
+        }
+    }
+}
+
+fn poke(v: &mut [u32], r: &mut Random, any: u32) {
+    if !v.is_empty() {
+        v[r.below(v.len() as u32) as usize] = any;
+    }
+}
+
+fn junk(r: &mut Random, n: usize) -> Vec<u32> {
+    (0..n).map(|_| r.next() as u32).collect()
+}
+
+pub fn random_timetable(r: &mut Random) -> Timetable {
+    let stops = r.below(7);
+    let (mut times, mut trips, mut windows, mut edges) = (vec![], vec![], vec![], vec![]);
+    let wide = [8, 40, 900, LIMIT][r.below(4) as usize];
+    let mut trip_list: Vec<(u32, u32)> = vec![];
+    let mut shapes: Vec<Vec<u32>> = vec![];
+    if stops > 0 {
+        for _ in 0..1 + r.below(4) {
+            shapes.push((0..1 + r.below(5)).map(|_| r.below(stops)).collect());
+        }
+        for _ in 0..r.below(11) {
+            let first = times.len() as u32 / 6;
+            let (a, n) = if !trip_list.is_empty() && r.below(6) == 0 {
+                // shares the stop times of an earlier trip, or a part of them
+                let (f, n) = trip_list[r.below(trip_list.len() as u32) as usize];
+                let skip = r.below(n);
+                (f + skip, 1 + r.below(n - skip))
+            } else {
+                let shape = shapes[r.below(shapes.len() as u32) as usize].clone();
+                let mut t = r.below(wide);
+                for (o, &s) in shape.iter().enumerate() {
+                    let stay = r.below(4);
+                    let code = |r: &mut Random| if r.below(8) == 0 { r.below(4) } else { 0 };
+                    times.extend([s, t.min(LIMIT), (t + stay).min(LIMIT), o as u32, code(r), code(r)]);
+                    t = (t + stay + r.below(1 + wide / 6)).saturating_sub(r.below(2) * r.below(3));
+                }
+                (first, shape.len() as u32)
+            };
+            let w = windows.len() as u32 / 3;
+            for _ in 0..if r.below(8) == 0 { 1 + r.below(2) } else { 0 } {
+                windows.extend([r.below(wide), r.below(wide), r.below(9)]);
+            }
+            let n_windows = windows.len() as u32 / 3 - w;
+            trip_list.push((a, n));
+            trips.extend([a, n, r.below(7), r.below(3), w, n_windows, r.below(2), r.below(2)]);
+        }
+        for _ in 0..r.below(3) {
+            edges.extend([r.below(stops), r.below(stops), r.below(wide), r.below(8), r.next() as u32]);
+        }
+    }
+    // departures: listed, some twice, some in no run
+    let n_trips = trips.len() as u32 / 8;
+    let mut listed: Vec<Vec<(u32, u32)>> = vec![vec![]; stops as usize];
+    for (t, &(a, n)) in trip_list.iter().enumerate() {
+        for o in 0..n {
+            let s = times[6 * (a + o) as usize] as usize;
+            for _ in 0..[1, 1, 1, 0, 2][r.below(5) as usize] {
+                let k = r.below(listed[s].len() as u32 + 1) as usize;
+                listed[s].insert(k, (t as u32, o));
+            }
+        }
+    }
+    let (mut runs, mut rows) = (vec![], vec![]);
+    for l in &listed {
+        if n_trips > 0 && r.below(10) == 0 {
+            rows.extend([r.below(n_trips), 0]);
+        }
+        runs.extend([rows.len() as u32 / 2, l.len() as u32]);
+        rows.extend(l.iter().flat_map(|p| [p.0, p.1]));
+    }
+    // hand-made lines: any runs of any entries
+    let entry_count = if n_trips == 0 { 0 } else { r.below(9) };
+    let entries: Vec<u32> = (0..entry_count).map(|_| r.below(n_trips)).collect();
+    let lines = r.below(5);
+    let line_runs = (0..lines)
+        .flat_map(|_| {
+            let a = r.below(entry_count + 1);
+            [a, r.below(entry_count - a + 1)]
+        })
+        .collect();
+    let d = rows.len() / 2;
+    let counts = [stops, n_trips, times.len() as u32 / 6, windows.len() as u32 / 3, edges.len() as u32 / 5];
+    let mut tables = times;
+    tables.extend(trips);
+    tables.extend(windows);
+    tables.extend(edges);
+    tables.extend(junk(r, stops as usize));
+    let t = n_trips as usize;
+    let long = |r: &mut Random, n: usize| -> Vec<u64> { (0..n).map(|_| r.next()).collect() };
+    Timetable {
+        counts, tables, departures: d as u32, runs, rows, lines, entry_count, line_runs, entries, marks: junk(r, stops as usize), line_of: junk(r, t),
+        made_runs: junk(r, 2 * t), made_entries: junk(r, t), positions: junk(r, t), fifo: junk(r, lines as usize), work: long(r, d), other: long(r, d),
+        line_work: long(r, t), line_other: long(r, t),
+    }
+}
+
+// 0, 1, the limit and one more of each count that a table of one stop can have.
+pub fn limits() -> Vec<Timetable> {
+    let mut out = vec![];
+    for (trips, each) in [(0, 1), (1, 1), (1, 65536), (1, 65537), (4096, 1), (4097, 1), (4096, 16)] {
+        let t = trips as usize;
+        let mut tables: Vec<u32> = (0..trips * each).flat_map(|i| [0, i % 7, i % 7, i, 0, 0]).collect();
+        tables.extend((0..trips).flat_map(|i| [i * each, each, 0, 0, 0, 0, 1, 0]));
+        tables.push(9);
+        let d = (trips * each) as usize;
+        let rows: Vec<u32> = (0..trips).flat_map(|i| (0..each).flat_map(move |o| [i, o])).collect();
+        out.push(Timetable {
+            counts: [1, trips, trips * each, 0, 0], tables, departures: d as u32, runs: vec![0, d as u32], rows, lines: 1, entry_count: trips,
+            line_runs: vec![0, trips], entries: (0..trips).collect(), marks: vec![7], line_of: vec![7; t], made_runs: vec![7; 2 * t], made_entries: vec![7; t],
+            positions: vec![7; t], fifo: vec![7], work: vec![7; d], other: vec![7; d], line_work: vec![7; t], line_other: vec![7; t],
+        });
+    }
+    out
+}
+
+pub fn sorting_agrees(x: &Timetable) -> bool {
+    let mut y = x.clone();
+    let c = y.counts;
+    let code = unsafe {
+        savoiky_sort_stop_departures(
+            c[0], c[1], c[2], c[3], c[4], y.departures, y.tables.as_ptr(), y.tables.len(), y.runs.as_ptr(), y.runs.len(), y.rows.as_mut_ptr(),
+            y.rows.len(), y.marks.as_mut_ptr(), y.marks.len(), y.work.as_mut_ptr(), y.work.len(), y.other.as_mut_ptr(), y.other.len(),
+        )
+    };
+    let want = x.departures_door();
+    if code != want {
+        return false;
+    }
+    let mut z = x.clone();
+    if code == 0 {
+        let mut e = x.epoch();
+        x.listed(&mut e);
+        build_departures(&mut e);
+        for (s, l) in e.stop_departures.iter().enumerate() {
+            for (k, p) in l.iter().enumerate() {
+                let at = 2 * (x.runs[2 * s] as usize + k);
+                z.rows[at] = p.0;
+                z.rows[at + 1] = p.1;
+            }
+            z.marks[s] = e.stop_has_freq[s] as u32;
+        }
+        z.work.fill(0);
+        z.other.fill(0);
+    }
+    y.rows == z.rows && y.marks == z.marks && y.work == z.work && y.other == z.other
+}
+
+pub fn lines_agree(x: &Timetable) -> bool {
+    let mut y = x.clone();
+    let c = y.counts;
+    let a = unsafe {
+        savoiky_compute_line_groups(
+            c[0], c[1], c[2], c[3], c[4], y.tables.as_ptr(), y.tables.len(), y.line_of.as_mut_ptr(), y.line_of.len(), y.made_runs.as_mut_ptr(),
+            y.made_runs.len(), y.made_entries.as_mut_ptr(), y.made_entries.len(), y.line_work.as_mut_ptr(), y.line_work.len(), y.line_other.as_mut_ptr(),
+            y.line_other.len(),
+        )
+    };
+    let code = x.lines_door();
+    let mut z = x.clone();
+    let mut value = 0;
+    if code == 0 {
+        let mut e = x.epoch();
+        build_lines(&mut e);
+        value = e.line_trips.len() as u32;
+        z.line_of = e.line_of_trip.clone();
+        let mut n = 0;
+        for (l, trips) in e.line_trips.iter().enumerate() {
+            z.made_runs[2 * l] = n as u32;
+            z.made_runs[2 * l + 1] = trips.len() as u32;
+            z.made_entries[n..n + trips.len()].copy_from_slice(trips);
+            n += trips.len();
+        }
+        z.line_work.fill(0);
+        z.line_other.fill(0);
+    }
+    a == Answer { code, value }
+        && y.line_of == z.line_of
+        && y.made_runs == z.made_runs
+        && y.made_entries == z.made_entries
+        && y.line_work == z.line_work
+        && y.line_other == z.line_other
+}
+
+pub fn layout_agrees(x: &Timetable) -> bool {
+    let mut y = x.clone();
+    let c = y.counts;
+    let got = unsafe {
+        savoiky_line_layout(
+            c[0], c[1], c[2], c[3], c[4], y.lines, y.entry_count, y.tables.as_ptr(), y.tables.len(), y.line_runs.as_ptr(), y.line_runs.len(),
+            y.entries.as_ptr(), y.entries.len(), y.positions.as_mut_ptr(), y.positions.len(), y.fifo.as_mut_ptr(), y.fifo.len(),
+        )
+    };
+    let code = x.layout_door();
+    let mut z = x.clone();
+    if code == 0 {
+        let mut e = x.epoch();
+        e.line_trips = x.line_runs.chunks(2).map(|c| x.entries[c[0] as usize..(c[0] + c[1]) as usize].to_vec()).collect();
+        let (pos, fifo) = routing::tbr::layout(&e);
+        z.positions = pos;
+        z.fifo = fifo.iter().map(|&b| b as u32).collect();
+    }
+    got == code && y.positions == z.positions && y.fifo == z.fifo
+}
