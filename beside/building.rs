@@ -8,31 +8,40 @@ include!(concat!(env!("BESIDE"), "/timetables.rs"));
 
 const TABLES: u64 = 300_000;
 
+// What was compared: how many tables, how many differed, and how often each code was answered.
+struct Tally {
+    name: &'static str,
+    compared: u64,
+    differed: u64,
+    codes: [u64; 6],
+}
+
+fn compare(tallies: &mut [Tally; 3], x: &Timetable) {
+    for (t, (same, code)) in tallies.iter_mut().zip([sorting_agrees(x), lines_agree(x), layout_agrees(x)]) {
+        t.compared += 1;
+        t.differed += !same as u64;
+        t.codes[code.min(5) as usize] += 1;
+    }
+}
+
 fn main() {
     let mut r = Random(0xB17D);
-    let mut names = ["departure sorting", "lines", "positions and FIFO"];
-    let mut differed = [0u64; 3];
-    let mut compared = 0u64;
-    for k in 0..TABLES {
+    let mut tallies = ["departure sorting", "lines", "positions and FIFO"].map(|name| Tally { name, compared: 0, differed: 0, codes: [0; 6] });
+    for _ in 0..TABLES {
         let mut x = random_timetable(&mut r);
         if r.below(3) == 0 {
             x.damage(&mut r);
         }
-        compared += 1;
-        for (d, same) in differed.iter_mut().zip([sorting_agrees(&x), lines_agree(&x), layout_agrees(&x)]) {
-            *d += !same as u64;
-        }
+        compare(&mut tallies, &x);
     }
     for x in limits() {
-        compared += 1;
-        for (d, same) in differed.iter_mut().zip([sorting_agrees(&x), lines_agree(&x), layout_agrees(&x)]) {
-            *d += !same as u64;
-        }
+        compare(&mut tallies, &x);
     }
-    for (n, d) in names.iter().zip(differed) {
-        println!("{n}: {compared} tables compared, {d} differed");
+    for t in &tallies {
+        println!("{}: {} tables compared, {} differed", t.name, t.compared, t.differed);
     }
-    if differed.iter().any(|&d| d > 0) {
+    // a comparison that never met one of the codes shows too little
+    if tallies.iter().any(|t| t.differed > 0 || t.codes.contains(&0)) {
         std::process::exit(1);
     }
 }

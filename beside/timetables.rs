@@ -296,7 +296,7 @@ pub fn limits() -> Vec<Timetable> {
     out
 }
 
-pub fn sorting_agrees(x: &Timetable) -> bool {
+pub fn sorting_agrees(x: &Timetable) -> (bool, u32) {
     let mut y = x.clone();
     let c = y.counts;
     let code = unsafe {
@@ -307,7 +307,7 @@ pub fn sorting_agrees(x: &Timetable) -> bool {
     };
     let want = x.departures_door();
     if code != want {
-        return false;
+        return (false, code);
     }
     let mut z = x.clone();
     if code == 0 {
@@ -325,10 +325,10 @@ pub fn sorting_agrees(x: &Timetable) -> bool {
         z.work.fill(0);
         z.other.fill(0);
     }
-    y.rows == z.rows && y.marks == z.marks && y.work == z.work && y.other == z.other
+    (y.rows == z.rows && y.marks == z.marks && y.work == z.work && y.other == z.other, code)
 }
 
-pub fn lines_agree(x: &Timetable) -> bool {
+pub fn lines_agree(x: &Timetable) -> (bool, u32) {
     let mut y = x.clone();
     let c = y.counts;
     let a = unsafe {
@@ -356,15 +356,16 @@ pub fn lines_agree(x: &Timetable) -> bool {
         z.line_work.fill(0);
         z.line_other.fill(0);
     }
-    a == Answer { code, value }
+    let same = a == Answer { code, value }
         && y.line_of == z.line_of
         && y.made_runs == z.made_runs
         && y.made_entries == z.made_entries
         && y.line_work == z.line_work
-        && y.line_other == z.line_other
+        && y.line_other == z.line_other;
+    (same, code)
 }
 
-pub fn layout_agrees(x: &Timetable) -> bool {
+pub fn layout_agrees(x: &Timetable) -> (bool, u32) {
     let mut y = x.clone();
     let c = y.counts;
     let got = unsafe {
@@ -382,5 +383,5 @@ pub fn layout_agrees(x: &Timetable) -> bool {
         z.positions = pos;
         z.fifo = fifo.iter().map(|&b| b as u32).collect();
     }
-    got == code && y.positions == z.positions && y.fifo == z.fifo
+    (got == code && y.positions == z.positions && y.fifo == z.fifo, code)
 }

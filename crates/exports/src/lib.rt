@@ -11,12 +11,19 @@ ghost use Rattle.realtime.specs.Door.{departureOutcome, arrivalOutcome, skipped
 ghost use Rattle.label.specs.Calls.{outcome, storeOutcome, loadAnswer};
 ghost use Rattle.label.specs.declared.Label.the-variants.{Access, Transit, Walk};
 ghost use Rattle.clock.specs.Clock.{serviceSecond};
+ghost use Rattle.departures.specs.Call.{areas as departureAreas, outcomeOf as departureOutcomeOf, outcome as sortOutcome};
+ghost use Rattle.lines.specs.Call.{areas as lineAreas, outcome as linesOutcome};
+ghost use Rattle.line_layout.specs.Call.{areas as layoutAreas, outcomeOf as layoutOutcomeOf, outcome as layoutOutcome};
+ghost use Rattle.exports.specs.Counts.{countsOf};
+ghost use Rattle.exports.specs.Shown.{shown, shownOf};
 use cell_bitset::CellBitSet;
 use cell_bitset::CellSetAnswer;
 use door::Answer;
 use frequency::FreqAnswer;
 use label::LabelAnswer;
+use lines::Grouped;
 use realtime::DelayAt;
+use tables::Counts;
 
 // The delay margin is at most this many seconds.
 const MARGIN_CAP: u32 = 21600;
@@ -297,4 +304,111 @@ pub extern "C" fn savoiky_label_load(
     ensures { λ r. ⌜ r ≡ loadAnswer stops stop row (now (labels .entry)) (now (distances .entry)) ⌝ }
 {
     label::load(stops, stop, row, labels, distances)
+}
+
+fn counts(stops: u32, trips: u32, times: u32, windows: u32, edges: u32) -> Counts
+    ensures { λ r. ⌜ r ≡ countsOf stops trips times windows edges ⌝ }
+{
+    Counts {
+        stops: stops as usize,
+        trips: trips as usize,
+        times: times as usize,
+        windows: windows as usize,
+        edges: edges as usize,
+    }
+}
+
+// The timetable is one slice: stop times of six words (stop, arrival, departure, sequence, pickup, drop-off), trips of
+// eight (first stop time, count, mode, wheelchair, first window, window count, active, excluded), windows of three
+// (start, end, headway), walk edges of five (from, to, duration, pathway mode, pattern), a word for each stop (its cell).
+// A run is two words: its first row and its length.
+
+// Sorts each stop's listed departures (rows of trip and offset) by scheduled departure, in place and stably, and marks
+// the stops where a trip with windows is listed. Workspace: two slices of as many u64 as departures, zero afterwards.
+// Questions 1 to 5.
+#[no_mangle]
+pub extern "C" fn savoiky_sort_stop_departures(
+    stops: u32,
+    trips: u32,
+    times: u32,
+    windows: u32,
+    edges: u32,
+    departures: u32,
+    tables: &[u32],
+    runs: &[u32],
+    rows: &mut [u32],
+    marks: &mut [u32],
+    work: &mut [u64],
+    other: &mut [u64],
+) -> u32
+    ensures { λ r. ⌜ departureOutcomeOf r (departureAreas (now (rows .exit)) (now (marks .exit)) (now (work .exit)) (now (other .exit))) ≡ sortOutcome (now (tables .entry)) (countsOf stops trips times windows edges) departures (now (runs .entry)) (departureAreas (now (rows .entry)) (now (marks .entry)) (now (work .entry)) (now (other .entry))) ⌝ }
+{
+    let c = counts(stops, trips, times, windows, edges);
+    departures::sort_stop_departures(
+        tables,
+        c,
+        departures as usize,
+        runs,
+        rows,
+        marks,
+        work,
+        other,
+    )
+}
+
+// Groups the trips into lines: each trip's line, each line's run of entries (the value says how many lines; rows past
+// them keep their words), the entries. Workspace: two slices of as many u64 as trips, zero afterwards. Questions 1 to 5.
+#[no_mangle]
+pub extern "C" fn savoiky_compute_line_groups(
+    stops: u32,
+    trips: u32,
+    times: u32,
+    windows: u32,
+    edges: u32,
+    tables: &[u32],
+    lines: &mut [u32],
+    runs: &mut [u32],
+    entries: &mut [u32],
+    work: &mut [u64],
+    other: &mut [u64],
+) -> Answer
+    ensures { λ r. ⌜ shown r (lineAreas (now (lines .exit)) (now (runs .exit)) (now (entries .exit)) (now (work .exit)) (now (other .exit))) ≡ shownOf (linesOutcome (now (tables .entry)) (countsOf stops trips times windows edges) (lineAreas (now (lines .entry)) (now (runs .entry)) (now (entries .entry)) (now (work .entry)) (now (other .entry)))) ⌝ }
+{
+    let c = counts(stops, trips, times, windows, edges);
+    match lines::compute_line_groups(tables, c, lines, runs, entries, work, other) {
+        Grouped::Refused(v) => door::refused(v),
+        Grouped::Lines(n) => door::given(n),
+    }
+}
+
+// Each trip's position in its line (4,294,967,295: in none) and each line's FIFO flag, of any lines: a run of entries for
+// each line, the entries trip numbers. Questions 1 to 5.
+#[no_mangle]
+pub extern "C" fn savoiky_line_layout(
+    stops: u32,
+    trips: u32,
+    times: u32,
+    windows: u32,
+    edges: u32,
+    lines: u32,
+    entry_count: u32,
+    tables: &[u32],
+    runs: &[u32],
+    entries: &[u32],
+    positions: &mut [u32],
+    fifo: &mut [u32],
+) -> u32
+    ensures { λ r. ⌜ layoutOutcomeOf r (layoutAreas (now (positions .exit)) (now (fifo .exit))) ≡ layoutOutcome (now (tables .entry)) (countsOf stops trips times windows edges) lines «entry_count» (now (runs .entry)) (now (entries .entry)) (layoutAreas (now (positions .entry)) (now (fifo .entry))) ⌝ }
+{
+    let c = counts(stops, trips, times, windows, edges);
+    line_layout::line_layout(
+        tables,
+        c,
+        lines as usize,
+        entry_count as usize,
+        runs,
+        entries,
+        positions,
+        fifo,
+    )
 }

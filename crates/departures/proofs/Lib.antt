@@ -1,0 +1,10 @@
+pub mod Parts
+pub mod Yes
+pub mod Some
+pub mod Sorting
+pub mod Writing
+pub mod Outcome
+pub mod Apart
+pub mod Flat
+pub mod Laws
+pub mod Examples

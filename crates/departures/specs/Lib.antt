@@ -1,0 +1,4 @@
+pub mod Departures
+pub mod Listed
+pub mod Packed
+pub mod Call

@@ -1,0 +1,9 @@
+-- From a call's own outcome to what a caller sees of it.
+use mathlib.Core.Path.{_≡_, _∙_, ap}
+use Rattle.door.specs.declared.Answer.{Answer}
+use Rattle.lines.specs.declared.Grouped.{Grouped}
+use Rattle.lines.specs.Call.{Areas, Outcome, outcomeOf, answerOf}
+use Rattle.exports.specs.Shown.{shown, shownOf}
+
+pub shows : (r : Answer) (g : Grouped) (x : Areas) (o : Outcome) → r ≡ answerOf g → outcomeOf g x ≡ o → shown r x ≡ shownOf o
+shows r g x o e h = ap (λ (a : Answer). shown a x) e ∙ ap shownOf h

@@ -1,0 +1,26 @@
+use Rattle.line_layout.specs.Call.{areas, outcome}
+use denote.Ref.{now}
+use mathlib.Core.Path.{_∙_, ap, sym}
+use Rattle.tables.specs.declared.Counts.{Counts}
+use borrow.Author.Needs.{needs}
+use Rattle.exports.proofs.savoiky_line_layout.Statement.{statement}
+use Rattle.exports.proofs.savoiky_line_layout.Tie as tie
+
+counts-requires : tie.Need-counts-requires
+counts-requires c κs = search needs
+
+line-layout-requires : tie.Need-line-layout-requires
+line-layout-requires c κs = search needs
+
+same-length : tie.Need-same-length
+same-length c = search needs
+
+same-length-2 : tie.Need-same-length-2
+same-length-2 c = search needs
+
+returns : tie.Need-returns
+returns c = let a = c .before .before .before .before .before .before .before .before .before .before .before .before .before .args in c .before .before .before .before .line-layout .ensures ∙ ap (λ (k : Counts). outcome (now (a .tables)) k (a .lines) (a .entry-count) (now (a .runs)) (now (a .entries)) (areas (now (a .positions)) (now (a .fifo)))) (c .before .before .before .before .before .before .before .counts .ensures)
+
+pub savoiky-line-layout-spec : {M : Type 1} → statement M
+savoiky-line-layout-spec =
+    tie.close (tie.spec counts-requires line-layout-requires same-length same-length-2 returns)

@@ -1,0 +1,13 @@
+-- What a caller sees of a call whose answer is an enum inside: document 01's number and value, and the slices. Definitions only.
+use Rattle.door.specs.declared.Answer.{Answer}
+use Rattle.lines.specs.Call.{Areas, Outcome, answerOf}
+
+pub record Shown : Type 0 where
+  pub answer : Answer
+  pub areas : Areas
+
+abbrev pub shown : Answer → Areas → Shown
+shown a s = record { answer = a; areas = s }
+
+abbrev pub shownOf : Outcome → Shown
+shownOf o = shown (answerOf (o .answer)) (o .areas)

@@ -1,0 +1,5 @@
+pub mod Placing
+pub mod Yes
+pub mod Last
+pub mod Laws
+pub mod Examples

@@ -1,0 +1,27 @@
+use Rattle.line_layout.specs.Layout.{run}
+use mathlib.Core.Path.{ap₂}
+use borrow.Author.Needs.{needs}
+use Rattle.line_layout.proofs.line_run.Statement.{statement}
+use Rattle.line_layout.proofs.line_run.Tie as tie
+
+mul-field : tie.Need-mul-field
+mul-field c = search needs
+
+field-requires : tie.Need-field-requires
+field-requires c κs = search needs
+
+mul-field-2 : tie.Need-mul-field-2
+mul-field-2 c = search needs
+
+add-field : tie.Need-add-field
+add-field c = search needs
+
+field-requires-2 : tie.Need-field-requires-2
+field-requires-2 c κs = search needs
+
+returns : tie.Need-returns
+returns c = (ap₂ run (c .before .field .ensures .0) (c .field2 .ensures .0), (c .before .field .ensures .1, c .field2 .ensures .1))
+
+pub line-run-spec : {M : Type 1} → statement M
+line-run-spec =
+    tie.close (tie.spec mul-field field-requires mul-field-2 add-field field-requires-2 returns)

@@ -1,0 +1,4 @@
+pub mod Layout
+pub mod Listed
+pub mod Call
+pub mod Claims

@@ -1,0 +1,10 @@
+pub mod Same
+pub mod Chain
+pub mod Group
+pub mod Parts
+pub mod Lists
+pub mod Tally
+pub mod Entries
+pub mod Outcome
+pub mod Laws
+pub mod Examples

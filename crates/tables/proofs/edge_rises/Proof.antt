@@ -1,0 +1,29 @@
+use denote.Ref.{now}
+use Rattle.tables.specs.Door.{edgeRises}
+use Rattle.tables.specs.Tables.{edgeOf}
+use native.Mathlib.Omega.{arith}
+use mathlib.Core.Path.{_≡_, ap, sym}
+use Prim.Native.Nat.{_-_, suc, ℕ}
+use borrow.Author.Needs.{needs}
+use Rattle.tables.proofs.edge_rises.Statement.{statement}
+use Rattle.tables.proofs.edge_rises.Tie as tie
+
+returns : tie.Need-returns
+unfolding edgeRises
+returns c = sym (ap (λ (n : ℕ). edgeRises (now (c .before .before .args .t)) (c .before .before .args .c) n) (c .if1 .taken))
+
+sub-edge : tie.Need-sub-edge
+sub-edge c = search needs
+
+edge-requires : tie.Need-edge-requires
+edge-requires c κs = search needs
+
+edge-requires-2 : tie.Need-edge-requires-2
+edge-requires-2 c κs = search needs
+
+returns-2 : tie.Need-returns-2
+unfolding edgeRises
+returns-2 c = let e : c .before .before .before .before .args .i ≡ suc (c .before .before .before .before .args .i - 1) = omega arith in cc (ap (λ (n : ℕ). edgeRises (now (c .before .before .before .before .args .t)) (c .before .before .before .before .args .c) n) e, ap (λ (n : ℕ). edgeOf (now (c .before .before .before .before .args .t)) (c .before .before .before .before .args .c) n 0) e)
+
+pub edge-rises-spec : {M : Type 1} → statement M
+edge-rises-spec = tie.close (tie.spec returns sub-edge edge-requires edge-requires-2 returns-2)

@@ -1,0 +1,42 @@
+use Rattle.tables.specs.Door.{rangesOk}
+use borrow.Author.Needs.{needs}
+use Rattle.tables.proofs.ranges_ok.Statement.{statement}
+use Rattle.tables.proofs.ranges_ok.Tie as tie
+
+every-row-requires : tie.Need-every-row-requires
+every-row-requires c κs = search needs
+
+every-row-requires-2 : tie.Need-every-row-requires-2
+every-row-requires-2 c κs = search needs
+
+every-row-requires-3 : tie.Need-every-row-requires-3
+every-row-requires-3 c κs = search needs
+
+every-row-requires-4 : tie.Need-every-row-requires-4
+every-row-requires-4 c κs = search needs
+
+both-requires : tie.Need-both-requires
+both-requires c κs = search needs
+
+both-requires-2 : tie.Need-both-requires-2
+both-requires-2 c κs = search needs
+
+both-requires-3 : tie.Need-both-requires-3
+both-requires-3 c κs = search needs
+
+returns : tie.Need-returns
+unfolding rangesOk
+returns c = cc
+
+pub ranges-ok-spec : {M : Type 1} → statement M
+ranges-ok-spec =
+    tie.close
+    (tie.spec
+    every-row-requires
+    every-row-requires-2
+    every-row-requires-3
+    every-row-requires-4
+    both-requires
+    both-requires-2
+    both-requires-3
+    returns)

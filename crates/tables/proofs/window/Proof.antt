@@ -1,0 +1,42 @@
+use Rattle.tables.specs.Tables.{windowOf}
+use borrow.Author.Needs.{needs}
+use Rattle.tables.proofs.window.Statement.{statement}
+use Rattle.tables.proofs.window.Tie as tie
+
+mul-field : tie.Need-mul-field
+mul-field c = search needs
+
+mul-field-2 : tie.Need-mul-field-2
+mul-field-2 c = search needs
+
+add-field : tie.Need-add-field
+add-field c = search needs
+
+mul-field-3 : tie.Need-mul-field-3
+mul-field-3 c = search needs
+
+add-field-2 : tie.Need-add-field-2
+add-field-2 c = search needs
+
+add-field-3 : tie.Need-add-field-3
+add-field-3 c = search needs
+
+field-requires : tie.Need-field-requires
+field-requires c κs = search needs
+
+returns : tie.Need-returns
+unfolding windowOf
+returns c = (c .field .ensures .0, c .field .ensures .1)
+
+pub window-spec : {M : Type 1} → statement M
+window-spec =
+    tie.close
+    (tie.spec
+    mul-field
+    mul-field-2
+    add-field
+    mul-field-3
+    add-field-2
+    add-field-3
+    field-requires
+    returns)
