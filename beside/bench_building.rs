@@ -36,6 +36,8 @@ fn timetable(r: &mut Random, stops: u32, shapes: &[Vec<u32>], trips: u32, shared
     let (mut times, mut trip_words) = (vec![], vec![]);
     let mut rows_at: Vec<Vec<(u32, u32)>> = vec![vec![]; stops as usize];
     let mut first_of: Vec<Option<u32>> = vec![None; shapes.len()];
+    // a line's trips take the same time from stop to stop
+    let rides: Vec<Vec<u32>> = shapes.iter().map(|s| s.iter().map(|_| 60 + r.below(200)).collect()).collect();
     for t in 0..trips {
         let k = r.below(shapes.len() as u32) as usize;
         let shape = &shapes[k];
@@ -46,7 +48,7 @@ fn timetable(r: &mut Random, stops: u32, shapes: &[Vec<u32>], trips: u32, shared
                 let mut at = r.below(80_000);
                 for (o, &s) in shape.iter().enumerate() {
                     times.extend([s, at, at + 20, o as u32, 0, 0]);
-                    at += 60 + r.below(200);
+                    at += rides[k][o];
                 }
                 first_of[k] = Some(f);
                 f
@@ -80,7 +82,7 @@ fn timetable(r: &mut Random, stops: u32, shapes: &[Vec<u32>], trips: u32, shared
     Timetable {
         counts, tables, departures: d as u32, runs, rows, lines: 0, entry_count: 0, line_runs: vec![], entries: vec![], marks: vec![0; stops as usize],
         line_of: vec![0; t], made_runs: vec![0; 2 * t], made_entries: vec![0; t], positions: vec![0; t], fifo: vec![], work: vec![0; d], other: vec![0; d],
-        line_work: vec![0; t], line_other: vec![0; t],
+        line_work: vec![0; t], line_other: vec![0; t], line_count: 0, lines_of: vec![], area: vec![0; 4 * 65536], transfer_runs: vec![],
     }
 }
 
@@ -158,6 +160,28 @@ fn case(name: &str, mut x: Timetable) {
                 black_box(routing::tbr::layout(&e));
             })
         },
+    );
+    let events: usize = e.trips.iter().map(|t| t.stop_time_len as usize).sum();
+    if events > 1 << 20 {
+        return;
+    }
+    let (mut area, mut transfer_runs) = (vec![0u32; 4 * 65536], vec![0u32; 2 * events]);
+    row(
+        name,
+        "transfers",
+        || {
+            timed(|| {
+                let a = unsafe {
+                    savoiky_compute_trip_transfers(
+                        c[0], c[1], c[2], c[3], c[4], lines, x.departures, x.tables.as_ptr(), x.tables.len(), x.line_of.as_ptr(), x.line_of.len(),
+                        x.runs.as_ptr(), x.runs.len(), x.rows.as_ptr(), x.rows.len(), area.as_mut_ptr(), area.len(), transfer_runs.as_mut_ptr(),
+                        transfer_runs.len(),
+                    )
+                };
+                black_box(a);
+            })
+        },
+        || timed(|| build_transfers(&mut e)),
     );
 }
 

@@ -13,20 +13,20 @@ struct Tally {
     name: &'static str,
     compared: u64,
     differed: u64,
-    codes: [u64; 6],
+    codes: [u64; 8],
 }
 
-fn compare(tallies: &mut [Tally; 3], x: &Timetable) {
-    for (t, (same, code)) in tallies.iter_mut().zip([sorting_agrees(x), lines_agree(x), layout_agrees(x)]) {
+fn compare(tallies: &mut [Tally; 4], x: &Timetable) {
+    for (t, (same, code)) in tallies.iter_mut().zip([sorting_agrees(x), lines_agree(x), layout_agrees(x), transfers_agree(x)]) {
         t.compared += 1;
         t.differed += !same as u64;
-        t.codes[code.min(5) as usize] += 1;
+        t.codes[code.min(7) as usize] += 1;
     }
 }
 
 fn main() {
     let mut r = Random(0xB17D);
-    let mut tallies = ["departure sorting", "lines", "positions and FIFO"].map(|name| Tally { name, compared: 0, differed: 0, codes: [0; 6] });
+    let mut tallies = ["departure sorting", "lines", "positions and FIFO", "transfers"].map(|name| Tally { name, compared: 0, differed: 0, codes: [0; 8] });
     for _ in 0..TABLES {
         let mut x = random_timetable(&mut r);
         if r.below(3) == 0 {
@@ -41,7 +41,7 @@ fn main() {
         println!("{}: {} tables compared, {} differed", t.name, t.compared, t.differed);
     }
     // a comparison that never met one of the codes shows too little
-    if tallies.iter().any(|t| t.differed > 0 || t.codes.contains(&0)) {
+    if tallies.iter().any(|t| t.differed > 0 || t.codes[..6].contains(&0)) || tallies[3].codes[7] == 0 {
         std::process::exit(1);
     }
 }

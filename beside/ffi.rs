@@ -105,4 +105,9 @@ extern "C" {
         runs: *const u32, runs_len: usize, entries: *const u32, entries_len: usize, positions: *mut u32, positions_len: usize, fifo: *mut u32,
         fifo_len: usize,
     ) -> u32;
+    pub fn savoiky_compute_trip_transfers(
+        stops: u32, trips: u32, times: u32, windows: u32, edges: u32, line_count: u32, departures: u32, tables: *const u32, tables_len: usize,
+        lines: *const u32, lines_len: usize, runs: *const u32, runs_len: usize, rows: *const u32, rows_len: usize, area: *mut u32, area_len: usize,
+        transfer_runs: *mut u32, transfer_runs_len: usize,
+    ) -> Answer;
 }

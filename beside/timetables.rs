@@ -26,6 +26,11 @@ pub struct Timetable {
     pub other: Vec<u64>,
     pub line_work: Vec<u64>,
     pub line_other: Vec<u64>,
+    // for the transfers: how many lines, each trip's line, the area and the runs of the events
+    pub line_count: u32,
+    pub lines_of: Vec<u32>,
+    pub area: Vec<u32>,
+    pub transfer_runs: Vec<u32>,
 }
 
 impl Timetable {
@@ -122,17 +127,7 @@ impl Timetable {
             d <= 65536,
             sized,
             || (0..stops as usize).all(|s| run(s).0 + run(s).1 <= d),
-            || {
-                let known = self.rows.chunks(2).all(|c| c[0] < self.counts[1] && c[1] < self.at(1, c[0] as usize, 1));
-                known
-                    && (0..stops as usize).all(|s| {
-                        let (a, n) = run(s);
-                        (a..a + n).all(|k| {
-                            let (t, o) = (self.rows[2 * k as usize] as usize, self.rows[2 * k as usize + 1]);
-                            self.at(0, (self.at(1, t, 0) + o) as usize, 0) == s as u32
-                        })
-                    })
-            },
+            || self.listed_right(),
         )
     }
 
@@ -156,10 +151,51 @@ impl Timetable {
         )
     }
 
+    fn events(&self) -> u64 {
+        (0..self.counts[1] as usize).map(|i| self.at(1, i, 1) as u64).sum()
+    }
+
+    fn transfers_door(&self) -> u32 {
+        let (stops, d) = (self.counts[0] as u64, self.departures as u64);
+        let run = |s: usize| (self.runs[2 * s] as u64, self.runs[2 * s + 1] as u64);
+        if !(self.small() && self.line_count <= 4096 && d <= 65536) {
+            return 1;
+        }
+        if !(self.sized()
+            && self.lines_of.len() as u64 == self.counts[1] as u64
+            && self.runs.len() as u64 == 2 * stops
+            && self.rows.len() as u64 == 2 * d
+            && self.transfer_runs.len() as u64 == 2 * self.events())
+        {
+            return 2;
+        }
+        self.door(
+            true,
+            true,
+            || (0..stops as usize).all(|s| run(s).0 + run(s).1 <= d),
+            || self.lines_of.iter().all(|&l| l < self.line_count) && self.listed_right(),
+        )
+    }
+
+    fn listed_right(&self) -> bool {
+        self.rows.chunks(2).all(|c| c[0] < self.counts[1] && c[1] < self.at(1, c[0] as usize, 1))
+            && (0..self.counts[0] as usize).all(|s| {
+                let (a, n) = (self.runs[2 * s] as usize, self.runs[2 * s + 1] as usize);
+                (a..a + n).all(|k| {
+                    let (t, o) = (self.rows[2 * k] as usize, self.rows[2 * k + 1]);
+                    self.at(0, (self.at(1, t, 0) + o) as usize, 0) == s as u32
+                })
+            })
+    }
+
     pub fn damage(&mut self, r: &mut Random) {
         for _ in 0..1 + r.below(2) {
             let any = r.any();
-            match r.below(16) {
+            match r.below(20) {
+                16 => self.line_count = any,
+                17 => poke(&mut self.lines_of, r, any),
+                18 => self.transfer_runs.push(any),
+                19 => self.area.truncate(r.below(9) as usize),
                 0 => self.counts[r.below(5) as usize] = any,
                 1 => self.departures = any,
                 2 => self.lines = any,
@@ -269,31 +305,44 @@ pub fn random_timetable(r: &mut Random) -> Timetable {
     tables.extend(edges);
     tables.extend(junk(r, stops as usize));
     let t = n_trips as usize;
+    let events: u32 = trip_list.iter().map(|p| p.1).sum();
+    let line_count = r.below(5) + (n_trips > 0) as u32;
+    let lines_of = (0..t).map(|_| r.below(line_count.max(1))).collect();
+    let area = { let n = r.below(200) as usize * r.below(3) as usize; junk(r, n) };
+    let transfer_runs = junk(r, 2 * events as usize);
     let long = |r: &mut Random, n: usize| -> Vec<u64> { (0..n).map(|_| r.next()).collect() };
     Timetable {
         counts, tables, departures: d as u32, runs, rows, lines, entry_count, line_runs, entries, marks: junk(r, stops as usize), line_of: junk(r, t),
         made_runs: junk(r, 2 * t), made_entries: junk(r, t), positions: junk(r, t), fifo: junk(r, lines as usize), work: long(r, d), other: long(r, d),
-        line_work: long(r, t), line_other: long(r, t),
+        line_work: long(r, t), line_other: long(r, t), line_count, lines_of, area, transfer_runs,
     }
 }
 
-// 0, 1, the limit and one more of each count that a table of one stop can have.
+// 0, 1, the limit and one more of each count that a table of one stop can have; one line, and three, whose transfers are too many.
 pub fn limits() -> Vec<Timetable> {
     let mut out = vec![];
-    for (trips, each) in [(0, 1), (1, 1), (1, 65536), (1, 65537), (4096, 1), (4097, 1), (4096, 16)] {
-        let t = trips as usize;
-        let mut tables: Vec<u32> = (0..trips * each).flat_map(|i| [0, i % 7, i % 7, i, 0, 0]).collect();
-        tables.extend((0..trips).flat_map(|i| [i * each, each, 0, 0, 0, 0, 1, 0]));
-        tables.push(9);
-        let d = (trips * each) as usize;
-        let rows: Vec<u32> = (0..trips).flat_map(|i| (0..each).flat_map(move |o| [i, o])).collect();
-        out.push(Timetable {
-            counts: [1, trips, trips * each, 0, 0], tables, departures: d as u32, runs: vec![0, d as u32], rows, lines: 1, entry_count: trips,
-            line_runs: vec![0, trips], entries: (0..trips).collect(), marks: vec![7], line_of: vec![7; t], made_runs: vec![7; 2 * t], made_entries: vec![7; t],
-            positions: vec![7; t], fifo: vec![7], work: vec![7; d], other: vec![7; d], line_work: vec![7; t], line_other: vec![7; t],
-        });
+    for (trips, each, line_count) in [1, 3].iter().flat_map(|&l| COUNTS.map(|(t, e)| (t, e, l))) {
+        out.push(at_limit(trips, each, line_count));
     }
     out
+}
+
+const COUNTS: [(u32, u32); 7] = [(0, 1), (1, 1), (1, 65536), (1, 65537), (4096, 1), (4097, 1), (4096, 16)];
+
+fn at_limit(trips: u32, each: u32, line_count: u32) -> Timetable {
+    let t = trips as usize;
+    let mut tables: Vec<u32> = (0..trips * each).flat_map(|i| [0, i % 7, 1000 + i % 7, i, 0, 0]).collect();
+    tables.extend((0..trips).flat_map(|i| [i * each, each, 0, 0, 0, 0, 1, 0]));
+    tables.push(9);
+    let d = (trips * each) as usize;
+    let rows: Vec<u32> = (0..trips).flat_map(|i| (0..each).flat_map(move |o| [i, o])).collect();
+    Timetable {
+        counts: [1, trips, trips * each, 0, 0], tables, departures: d as u32, runs: vec![0, d as u32], rows, lines: 1, entry_count: trips,
+        line_runs: vec![0, trips], entries: (0..trips).collect(), marks: vec![7], line_of: vec![7; t], made_runs: vec![7; 2 * t], made_entries: vec![7; t],
+        positions: vec![7; t], fifo: vec![7], work: vec![7; d], other: vec![7; d], line_work: vec![7; t], line_other: vec![7; t],
+        line_count, lines_of: (0..trips).map(|i| i % line_count).collect(), area: vec![7; 4 * 300000],
+        transfer_runs: vec![7; 2 * d],
+    }
 }
 
 pub fn sorting_agrees(x: &Timetable) -> (bool, u32) {
@@ -384,4 +433,42 @@ pub fn layout_agrees(x: &Timetable) -> (bool, u32) {
         z.fifo = fifo.iter().map(|&b| b as u32).collect();
     }
     (got == code && y.positions == z.positions && y.fifo == z.fifo, code)
+}
+
+pub fn transfers_agree(x: &Timetable) -> (bool, u32) {
+    let mut y = x.clone();
+    let c = y.counts;
+    let a = unsafe {
+        savoiky_compute_trip_transfers(
+            c[0], c[1], c[2], c[3], c[4], y.line_count, y.departures, y.tables.as_ptr(), y.tables.len(), y.lines_of.as_ptr(), y.lines_of.len(),
+            y.runs.as_ptr(), y.runs.len(), y.rows.as_ptr(), y.rows.len(), y.area.as_mut_ptr(), y.area.len(), y.transfer_runs.as_mut_ptr(),
+            y.transfer_runs.len(),
+        )
+    };
+    let mut code = x.transfers_door();
+    let mut z = x.clone();
+    let mut value = 0;
+    if code == 0 {
+        let mut e = x.epoch();
+        x.listed(&mut e);
+        e.line_of_trip = x.lines_of.clone();
+        build_transfers(&mut e);
+        let total: usize = e.trip_transfers.iter().flatten().map(|l| l.len()).sum();
+        if total > 65536 || 4 * total > x.area.len() {
+            code = 7;
+        } else {
+            let (mut n, mut k) = (0usize, 0usize);
+            for l in e.trip_transfers.iter().flatten() {
+                z.transfer_runs[2 * k] = n as u32;
+                z.transfer_runs[2 * k + 1] = l.len() as u32;
+                k += 1;
+                for t in l {
+                    z.area[4 * n..4 * n + 4].copy_from_slice(&[t.target_trip, t.target_board_off, t.min_transfer_s, t.flag_pattern]);
+                    n += 1;
+                }
+            }
+            value = n as u32;
+        }
+    }
+    (a == Answer { code, value } && y.area == z.area && y.transfer_runs == z.transfer_runs, code)
 }

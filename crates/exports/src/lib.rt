@@ -14,8 +14,10 @@ ghost use Rattle.clock.specs.Clock.{serviceSecond};
 ghost use Rattle.departures.specs.Call.{areas as departureAreas, outcomeOf as departureOutcomeOf, outcome as sortOutcome};
 ghost use Rattle.lines.specs.Call.{areas as lineAreas, outcome as linesOutcome};
 ghost use Rattle.line_layout.specs.Call.{areas as layoutAreas, outcomeOf as layoutOutcomeOf, outcome as layoutOutcome};
+ghost use Rattle.transfers.specs.Transfers.{input};
+ghost use Rattle.transfers.specs.Call.{areas as transferAreas, outcome as transfersOutcome};
 ghost use Rattle.exports.specs.Counts.{countsOf};
-ghost use Rattle.exports.specs.Shown.{shown, shownOf};
+ghost use Rattle.exports.specs.Shown.{shown, shownOf, shownTransfers, shownTransfersOf};
 use cell_bitset::CellBitSet;
 use cell_bitset::CellSetAnswer;
 use door::Answer;
@@ -24,9 +26,13 @@ use label::LabelAnswer;
 use lines::Grouped;
 use realtime::DelayAt;
 use tables::Counts;
+use transfers::Built;
 
 // The delay margin is at most this many seconds.
 const MARGIN_CAP: u32 = 21600;
+
+// The transfer time of built transfers, in seconds.
+const TRANSFER_TIME: usize = 120;
 
 // Cell sets: a new one for so many cells (1: more than 512), one with room for more, a cell set, tested, and sets
 // against sets.
@@ -411,4 +417,44 @@ pub extern "C" fn savoiky_line_layout(
         positions,
         fifo,
     )
+}
+
+// Builds the transfers of every stop event (trip by trip, offset by offset): rows of four words (target trip, offset,
+// 120, 0) into the area, which keeps its words past the last one, and a run for each event; the value says how many.
+// lines: each trip's line. The listed departures may stand in any order. Questions 1 to 5 and 7. The call needs about
+// 1 MiB of stack.
+#[no_mangle]
+pub extern "C" fn savoiky_compute_trip_transfers(
+    stops: u32,
+    trips: u32,
+    times: u32,
+    windows: u32,
+    edges: u32,
+    line_count: u32,
+    departures: u32,
+    tables: &[u32],
+    lines: &[u32],
+    runs: &[u32],
+    rows: &[u32],
+    area: &mut [u32],
+    transfer_runs: &mut [u32],
+) -> Answer
+    ensures { λ r. ⌜ shownTransfers r (transferAreas (now (area .exit)) (now («transfer_runs» .exit))) ≡ shownTransfersOf (transfersOutcome (input (now (tables .entry)) (countsOf stops trips times windows edges) «line_count» (now (lines .entry)) departures (now (runs .entry)) (now (rows .entry)) 120) (transferAreas (now (area .entry)) (now («transfer_runs» .entry)))) ⌝ }
+{
+    let c = counts(stops, trips, times, windows, edges);
+    match transfers::compute_trip_transfers(
+        tables,
+        c,
+        line_count as usize,
+        lines,
+        departures as usize,
+        runs,
+        rows,
+        TRANSFER_TIME,
+        area,
+        transfer_runs,
+    ) {
+        Built::Refused(v) => door::refused(v),
+        Built::Rows(n) => door::given(n),
+    }
 }

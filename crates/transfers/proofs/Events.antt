@@ -1,0 +1,136 @@
+-- The walk over the events: one event, the events of a trip, all trips.
+
+use Rattle.tables.proofs.Yes.{sane}
+use Rattle.transfers.proofs.Asking.{first}
+use Prim.Native.Nat.{ℕ, zero, suc, _+_, _*_, _-_, _<_, _≤_, min}
+use mathlib.Core.Path.{_≡_, refl, sym, _∙_, ap, ap₂}
+use mathlib.Core.Bool.{Bool, true, false, cond}
+use mathlib.Core.List.{List, [], _∷_, _++_, flatten}
+use native.Mathlib.Omega.{arith}
+use native.Mathlib.Numerals.{add-one}
+use lib.ListN.{length, take, drop}
+use lib.Seq.{slice}
+use lib.Dec.{eqb}
+use borrow.Author.Tests.{eq-eqb, ne-eqb}
+use Rattle.loops.specs.Count.{tab, tabFrom, count}
+use Rattle.loops.proofs.Count.{length-tabFrom}
+use Rattle.sorts.proofs.Within.{part-slice}
+use Rattle.tables.specs.declared.Counts.{Counts}
+use Rattle.tables.specs.Tables.{countOf, firstOf, timeOf}
+use Rattle.tables.specs.Sane.{Sane}
+use Rattle.departures.specs.declared.StopRun.{StopRun}
+use Rattle.departures.specs.Departures.{runAt, runEnd, runFirst}
+use Rattle.departures.specs.Listed.{RunsListed}
+use Rattle.transfers.specs.Packed.{Keys, Laid, Prepared, SortedRuns, EventAt, TripAt, Walk, alightKeys, allKeys, eventKeys, laid, lay, layEvent, layEvents, noted, putRun, targets, tripKeys, walk}
+use Rattle.transfers.proofs.Laying.{events-append, events-n, lay-full, lay-n}
+
+-- getting off where nothing more is counted, and where drop-off is 1
+pub alight-full : (time : ℕ) (p : Prepared) (ti at : ℕ) (s : Laid) → 65536 < s .n → s ≡ lay time (alightKeys p ti at) s
+alight-full time p ti at s h = sym (lay-full time (alightKeys p ti at) s h)
+
+pub alight-barred : (time : ℕ) (p : Prepared) (ti at : ℕ) (s : Laid) (x : ℕ) → x ≡ timeOf (p .t) at 5 → x ≡ 1 → s ≡ lay time (alightKeys p ti at) s
+unfolding alightKeys lay
+alight-barred time p ti at s x e h =
+    sym (ap (λ (t : Bool). lay time (cond t [] (targets (slice (runFirst (p .runs) (timeOf (p .t) at 0)) (runEnd (p .runs) (timeOf (p .t) at 0)) (p .work)) ti (timeOf (p .t) at 1 + p .time))) s)
+    (eq-eqb (timeOf (p .t) at 5) 1 (sym e ∙ h)))
+
+-- getting off at a stop
+module _ (p : Prepared) (d at : ℕ) (sane : Sane (p .t) (p .c)) (l : RunsListed (p .c) (p .runs) d) (k : SortedRuns (p .c) (p .runs) (p .work) d) (u : at < p .c .times) (stop : ℕ) (e : stop ≡ timeOf (p .t) at 0) where
+  stop-below : stop < p .c .stops
+  stop-below = omega (arith, e, sane .numbers .stop at u)
+
+  pub stop-read : stop * 2 + 1 < length (p .runs)
+  stop-read = omega (arith, stop-below, l .size)
+
+  pub run-inside : (r : StopRun) → r ≡ runAt (p .runs) stop → r .first + r .length ≤ length (p .work)
+  run-inside r q = rw q (omega (arith, l .run stop stop-below, k .size))
+
+  stop-part : (r : StopRun) → r ≡ runAt (p .runs) stop → take (r .first + r .length - r .first) (drop (r .first) (p .work)) ≡ slice (runFirst (p .runs) stop) (runEnd (p .runs) stop) (p .work)
+  stop-part r q =
+      part-slice (r .first) (r .first + r .length) (p .work) (omega arith) (run-inside r q)
+      ∙ ap (λ (x : StopRun). slice (x .first) (x .first + x .length) (p .work)) q
+
+  pub run-keys : (r : StopRun) → r ≡ runAt (p .runs) stop → Keys (take (r .first + r .length - r .first) (drop (r .first) (p .work)))
+  run-keys r q = rw (stop-part r q) (k .keys stop stop-below)
+
+  pub alight-open : (time ti x arrival : ℕ) (r : StopRun) (s : Laid) → x ≡ timeOf (p .t) at 5 → (x ≡ 1 → ⊥) → arrival ≡ timeOf (p .t) at 1 → r ≡ runAt (p .runs) stop
+      → lay time (targets (take (r .first + r .length - r .first) (drop (r .first) (p .work))) ti (arrival + p .time)) s ≡ lay time (alightKeys p ti at) s
+  unfolding alightKeys
+  alight-open time ti x arrival r s f h a q =
+      ap₂ (λ (v : List ℕ) (w : ℕ). lay time (targets v ti (w + p .time)) s)
+      (stop-part r q ∙ ap (λ (i : ℕ). slice (runFirst (p .runs) i) (runEnd (p .runs) i) (p .work)) e) a
+      ∙ sym (ap (λ (t : Bool). lay time (cond t [] (targets (slice (runFirst (p .runs) (timeOf (p .t) at 0)) (runEnd (p .runs) (timeOf (p .t) at 0)) (p .work)) ti (timeOf (p .t) at 1 + p .time))) s)
+      (ne-eqb (timeOf (p .t) at 5) 1 (λ z. h (f ∙ z))))
+
+-- one event
+pub event-time : (t : List ℕ) (c : Counts) (ti off first : ℕ) → Sane t c → ti < c .trips → off < countOf t c ti → first ≡ firstOf t c ti → first + off < c .times
+event-time t c ti off first s h k e = omega (arith, s .runs .run ti h, k, e)
+
+pub lay-grown : (time : ℕ) (l : List ℕ) (n r : ℕ) (a b : List ℕ) → laid r a ≡ lay time l (laid n b) → n ≤ 65537 → (n ≤ r) × (r ≤ 65537)
+lay-grown time l n r a b e h =
+    let q : r ≡ min (n + length l) 65537 = ap (λ (s : Laid). s .n) e ∙ lay-n time l (laid n b) h in
+    (omega arith, omega arith)
+
+pub event-is : (time e : ℕ) (l : List ℕ) (n r : ℕ) (a a' v v' : List ℕ) → laid r a' ≡ lay time l (laid n a) → v' ≡ putRun v e n (r - n) → walk r a' v' ≡ layEvent time e l (walk n a v)
+unfolding layEvent
+event-is time e l n r a a' v v' p q = ap (walk r a') q ∙ ap (noted e (walk n a v)) p
+
+-- the events of a trip: as they begin, one turn, the end
+pub events-start : (time e count n : ℕ) (f : ℕ → List ℕ) (w : Walk) → count ≡ n → layEvents time e (tab f n) w ≡ layEvents time (e + 0) (tabFrom f 0 (count - 0)) w
+events-start time e count n f w h =
+    let i : e ≡ e + 0 = omega arith in
+    let m : n ≡ count - 0 = omega arith in
+    ap₂ (λ (j k : ℕ). layEvents time j (tabFrom f 0 k) w) i m
+
+pub event-at : (t : List ℕ) (c : Counts) (ti off e m n time count : ℕ) → Sane t c → TripAt c ti e m time → count ≡ countOf t c ti → off < count → n ≤ 65537 → EventAt t c ti off (e + off) n time
+event-at t c ti off e m n time count s a k h u =
+    record { trip = a .trip; offset = omega arith; event = omega (arith, a .event, a .trip, s .counts .trips, s .counts .times, s .runs .run ti (a .trip)); few = u; short = a .short }
+
+pub events-again : (time e off count : ℕ) (f : ℕ → List ℕ) {whole : Walk} (w : Walk) {w' : Walk} → whole ≡ layEvents time (e + off) (tabFrom f off (count - off)) w → w' ≡ layEvent time (e + off) (f off) w
+    → off < count → whole ≡ layEvents time (e + (off + 1)) (tabFrom f (off + 1) (count - (off + 1))) w'
+unfolding layEvents tabFrom
+events-again time e off count f {whole} w {w'} inv q h =
+    let n : count - off ≡ suc (count - (off + 1)) = omega arith in
+    let i : e + off + 1 ≡ e + (off + 1) = omega arith in
+    inv
+    ∙ ap (λ (m : ℕ). layEvents time (e + off) (tabFrom f off m) w) n
+    ∙ ap₂ (λ (j m : ℕ). layEvents time j (tabFrom f m (count - (off + 1))) (layEvent time (e + off) (f off) w)) i (sym (add-one off))
+    ∙ ap (layEvents time (e + (off + 1)) (tabFrom f (off + 1) (count - (off + 1)))) (sym q)
+
+pub events-left : (time e off count : ℕ) (f : ℕ → List ℕ) {whole w : Walk} → whole ≡ layEvents time (e + off) (tabFrom f off (count - off)) w → count ≤ off → w ≡ whole
+unfolding layEvents tabFrom
+events-left time e off count f {whole} {w} inv h =
+    let n : count - off ≡ 0 = omega arith in
+    sym (inv ∙ ap (λ (m : ℕ). layEvents time (e + off) (tabFrom f off m) w) n)
+
+-- all trips
+pub trips-again : (time e ti trips count : ℕ) (g : ℕ → List (List ℕ)) {whole : Walk} (w : Walk) {w' : Walk} → whole ≡ layEvents time e (flatten (tabFrom g ti (trips - ti))) w
+    → w' ≡ layEvents time e (g ti) w → count ≡ length (g ti) → ti < trips → whole ≡ layEvents time (e + count) (flatten (tabFrom g (ti + 1) (trips - (ti + 1)))) w'
+unfolding flatten tabFrom
+trips-again time e ti trips count g {whole} w {w'} inv q k h =
+    let n : trips - ti ≡ suc (trips - (ti + 1)) = omega arith in
+    inv
+    ∙ ap (λ (m : ℕ). layEvents time e (flatten (tabFrom g ti m)) w) n
+    ∙ events-append time e (g ti) (flatten (tabFrom g (suc ti) (trips - (ti + 1)))) w
+    ∙ ap₂ (λ (j m : ℕ). layEvents time (e + j) (flatten (tabFrom g m (trips - (ti + 1)))) (layEvents time e (g ti) w)) (sym k) (sym (add-one ti))
+    ∙ ap (layEvents time (e + count) (flatten (tabFrom g (ti + 1) (trips - (ti + 1))))) (sym q)
+
+pub trips-left : (time e ti trips : ℕ) (g : ℕ → List (List ℕ)) {whole w : Walk} → whole ≡ layEvents time e (flatten (tabFrom g ti (trips - ti))) w → trips ≤ ti → w ≡ whole
+unfolding flatten layEvents tabFrom
+trips-left time e ti trips g {whole} {w} inv h =
+    let n : trips - ti ≡ 0 = omega arith in
+    sym (inv ∙ ap (λ (m : ℕ). layEvents time e (flatten (tabFrom g ti m)) w) n)
+
+pub trip-length : (p : Prepared) (ti count : ℕ) → count ≡ countOf (p .t) (p .c) ti → count ≡ length (tripKeys p ti)
+trip-length p ti count e = e ∙ sym (length-tabFrom (eventKeys p ti) 0 (countOf (p .t) (p .c) ti))
+
+-- how many there are
+pub total-is : (time : ℕ) (ls : List (List ℕ)) (r : ℕ) (a b v v' : List ℕ) → walk r a v ≡ layEvents time 0 ls (walk 0 b v') → r ≡ min (length (flatten ls)) 65537
+total-is time ls r a b v v' e =
+    let q : r ≡ min (0 + length (flatten ls)) 65537 = ap (λ (w : Walk). w .n) e ∙ events-n time 0 ls (walk 0 b v') (omega arith) in
+    omega arith
+
+pub trips-start : (time trips : ℕ) (g : ℕ → List (List ℕ)) (w : Walk) → layEvents time 0 (flatten (tab g trips)) w ≡ layEvents time 0 (flatten (tabFrom g 0 (trips - 0))) w
+trips-start time trips g w =
+    let m : trips ≡ trips - 0 = omega arith in
+    ap (λ (k : ℕ). layEvents time 0 (flatten (tabFrom g 0 k)) w) m

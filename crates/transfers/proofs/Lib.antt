@@ -1,0 +1,12 @@
+pub mod Laying
+pub mod Lists
+pub mod Grouping
+pub mod Packing
+pub mod Asking
+pub mod Events
+pub mod Runs
+pub mod Meaning
+pub mod Written
+pub mod Firsts
+pub mod Laws
+pub mod Examples

@@ -1,0 +1,162 @@
+-- What the walk over the numbers counts and writes is what is defined.
+use Prim.Native.Nat.{ℕ, zero, suc, _+_, _*_, _-_, _<_, _≤_, min}
+use mathlib.Core.Path.{_≡_, refl, sym, _∙_, ap, ap₂}
+use mathlib.Core.Bool.{Bool, true, false, _&&_, cond}
+use mathlib.Core.List.{List, [], _∷_, _++_, flatten, map}
+use native.Mathlib.Omega.{arith}
+use native.Mathlib.Numerals.{add-one}
+use lib.ListN.{length, drop, length-append}
+use lib.Dec.{leb}
+use borrow.Author.Tests.{le-leb, leb-false, leb-true, lt-leb}
+use Rattle.loops.specs.Count.{tab, tabFrom}
+use Rattle.loops.proofs.Count.{length-tabFrom}
+use Rattle.loops.proofs.Iter.{and-left, and-right}
+use Rattle.sorts.specs.Sort.{hi, within}
+use Rattle.sorts.specs.Orders.{All, cons, nil}
+use Rattle.sorts.proofs.Orders.{sort-all}
+use Rattle.sorts.proofs.Within.{within-whole}
+use Rattle.tables.specs.declared.Counts.{Counts}
+use Rattle.tables.specs.Tables.{countOf}
+use Rattle.departures.specs.declared.DepartureRow.{DepartureRow}
+use Rattle.departures.specs.Departures.{sortStops}
+use Rattle.transfers.specs.declared.Built.the-variants.{Refused, Rows}
+use Rattle.transfers.specs.Transfers.{Input, allTransfers, eventsBefore, eventsOf, runsFrom, transfersOf, wordsOf}
+use Rattle.transfers.specs.Packed.{Laid, Prepared, SortedRuns, Walk, allKeys, laid, lay, layEvents, prepared, settledKeys, walk, walkAreas}
+use Rattle.transfers.specs.Call.{Admitted, Areas, Outcome, areaWith, areas, outcomeOf, roomOk, settled, written}
+use Rattle.transfers.proofs.Lists.{all-flatten, flatten-map, length-map, within-is}
+use Rattle.transfers.proofs.Laying.{events-laid, events-runs, keyWords, lay-area}
+use Rattle.transfers.proofs.Packing.{pack-offset, pack-trip}
+use Rattle.transfers.proofs.Runs.{RowFits, numbersOf, packOf, sorted-runs}
+use Rattle.transfers.proofs.Meaning.{all-keys, preparedOf, transfers-fit}
+
+-- the words and the runs of numbers
+words-are : (x : Input) (l : List DepartureRow) → All (RowFits x) l → keyWords (x .time) (map (packOf x) l) ≡ wordsOf (x .time) l
+unfolding keyWords wordsOf
+words-are x [] nil = refl
+words-are x (r ∷ l) (cons k a) =
+    ap₂ _∷_ (pack-trip (x .t) (x .c) (x .lines) r (k .fits))
+    (ap₂ _∷_ (pack-offset (x .t) (x .c) (x .lines) r (k .fits)) (ap (λ (m : List ℕ). x .time ∷ 0 ∷ m) (words-are x l a)))
+
+runs-are : {A B : Type 0} (f : A → B) (n : ℕ) (l : List (List A)) → runsFrom n (map (map f) l) ≡ runsFrom n l
+unfolding runsFrom
+runs-are f n [] = refl
+runs-are f n (x ∷ l) =
+    ap₂ (λ (m : ℕ) (r : List ℕ). n ∷ m ∷ r) (length-map f x) (ap (λ (m : ℕ). runsFrom (n + m) (map (map f) l)) (length-map f x) ∙ runs-are f (n + length x) l)
+
+-- how many events there are
+events-counted : {A : Type 0} (t : List ℕ) (c : Counts) (f : ℕ → ℕ → A) (i n : ℕ) → length (flatten (tabFrom (λ k. tab (f k) (countOf t c k)) i n)) + eventsBefore t c i ≡ eventsBefore t c (i + n)
+unfolding flatten tabFrom eventsBefore
+events-counted t c f i zero =
+    let e : i ≡ i + 0 = omega arith in
+    let q = ap (eventsBefore t c) e in
+    omega arith
+events-counted t c f i (suc n) =
+    let e : suc i + n ≡ i + suc n = omega arith in
+    let q = ap (eventsBefore t c) e in
+    omega (arith, events-counted t c f (suc i) n, length-append (tab (f i) (countOf t c i)) (flatten (tabFrom (λ k. tab (f k) (countOf t c k)) (suc i) n)), length-tabFrom (f i) 0 (countOf t c i), q)
+
+pub events-length : (x : Input) → length (eventsOf x) ≡ eventsBefore (x .t) (x .c) (x .c .trips)
+unfolding eventsOf eventsBefore
+events-length x =
+    let e : 0 + x .c .trips ≡ x .c .trips = omega arith in
+    let q = ap (eventsBefore (x .t) (x .c)) e in
+    omega (arith, events-counted (x .t) (x .c) (transfersOf x) 0 (x .c .trips), q)
+
+-- question 7, asked of the count that stops at 65,537
+room-capped : (n area : ℕ) → roomOk (min n 65537) area ≡ roomOk n area
+unfolding roomOk
+room-capped n area = go (leb n 65536) refl
+  where
+    go : (t : Bool) → leb n 65536 ≡ t → leb (min n 65537) 65536 && leb (min n 65537 * 4) area ≡ leb n 65536 && leb (n * 4) area
+    go true e = let u = leb-true n 65536 e in let q : min n 65537 ≡ n = omega arith in rw q
+    go false e =
+        let u = leb-false n 65536 e in
+        ap (λ (t : Bool). t && leb (min n 65537 * 4) area) (lt-leb (min n 65537) 65536 (omega arith))
+        ∙ sym (ap (λ (t : Bool). t && leb (n * 4) area) e)
+
+pub record Room (n area : ℕ) : Type 0 where
+  pub few : n ≤ 65536
+  pub space : n * 4 ≤ area
+
+pub room-yes : (n area : ℕ) → roomOk n area ≡ true → Room n area
+unfolding roomOk
+room-yes n area h = record { few = leb-true n 65536 (and-left (leb n 65536) (leb (n * 4) area) h); space = leb-true (n * 4) area (and-right (leb n 65536) (leb (n * 4) area) h) }
+
+-- THE OUTCOME of an admitted call
+module _ (x : Input) (s : Areas) (a : Admitted x (length (s .transferRuns))) where
+  keys : allKeys (preparedOf x) ≡ map (map (packOf x)) (eventsOf x)
+  keys = all-keys x (length (s .transferRuns)) a
+
+  rows : flatten (allKeys (preparedOf x)) ≡ map (packOf x) (allTransfers x)
+  rows = ap flatten keys ∙ flatten-map (packOf x) (eventsOf x)
+
+  counted : length (flatten (allKeys (preparedOf x))) ≡ length (allTransfers x)
+  counted = ap length rows ∙ length-map (packOf x) (allTransfers x)
+
+  events : length (allKeys (preparedOf x)) * 2 ≡ length (s .transferRuns)
+  events = omega (arith, ap length keys ∙ length-map (map (packOf x)) (eventsOf x), events-length x, a .events)
+
+  area-is : length (allTransfers x) ≤ 65536 → length (allTransfers x) * 4 ≤ length (s .area) → layEvents (x .time) 0 (allKeys (preparedOf x)) (walk 0 (s .area) (s .transferRuns)) .area ≡ areaWith x (s .area)
+  unfolding areaWith
+  area-is few room =
+      let e : (0 + length (flatten (allKeys (preparedOf x)))) * 4 ≡ length (allTransfers x) * 4 = omega (arith, counted) in
+      ap (λ (w : Laid). w .area)
+      (events-laid (x .time) 0 (allKeys (preparedOf x)) (walk 0 (s .area) (s .transferRuns))
+      ∙ lay-area (x .time) (flatten (allKeys (preparedOf x))) 0 (s .area) (omega (arith, counted)) (omega (arith, counted)))
+      ∙ within-is (0 * 4) ((0 + length (flatten (allKeys (preparedOf x)))) * 4) (keyWords (x .time) (flatten (allKeys (preparedOf x)))) (s .area)
+      ∙ ap₂ (λ (l : List ℕ) (m : ℕ). l ++ drop m (s .area))
+      (ap (keyWords (x .time)) rows ∙ words-are x (allTransfers x) (transfers-fit x (length (s .transferRuns)) a)) e
+
+  runs-is : length (allTransfers x) ≤ 65536 → layEvents (x .time) 0 (allKeys (preparedOf x)) (walk 0 (s .area) (s .transferRuns)) .evs ≡ runsFrom 0 (eventsOf x)
+  runs-is few =
+      events-runs (x .time) 0 (allKeys (preparedOf x)) (walk 0 (s .area) (s .transferRuns)) (omega (arith, counted)) (omega (arith, events))
+      ∙ within-whole ((0 + length (allKeys (preparedOf x))) * 2) (runsFrom 0 (allKeys (preparedOf x))) (s .transferRuns) (omega (arith, events))
+      ∙ ap (runsFrom 0) keys ∙ runs-are (packOf x) 0 (eventsOf x)
+
+  pub settled-is : settledKeys (preparedOf x) s ≡ settled x s
+  unfolding settledKeys settled
+  settled-is = go (roomOk (length (allTransfers x)) (length (s .area))) refl
+    where
+      asked : roomOk (min (length (flatten (allKeys (preparedOf x)))) 65537) (length (s .area)) ≡ roomOk (length (allTransfers x)) (length (s .area))
+      asked = ap (λ (n : ℕ). roomOk (min n 65537) (length (s .area))) counted ∙ room-capped (length (allTransfers x)) (length (s .area))
+
+      keyed : Bool → Outcome
+      keyed b =
+          cond b
+          (outcomeOf (Rows (min (length (flatten (allKeys (preparedOf x)))) 65537)) (walkAreas (layEvents (x .time) 0 (allKeys (preparedOf x)) (walk 0 (s .area) (s .transferRuns)))))
+          (outcomeOf (Refused 7) s)
+
+      defined : Bool → Outcome
+      defined b = cond b (outcomeOf (Rows (length (allTransfers x))) (written x s)) (outcomeOf (Refused 7) s)
+
+      go : (b : Bool) → roomOk (length (allTransfers x)) (length (s .area)) ≡ b → settledKeys (preparedOf x) s ≡ settled x s
+      go true e =
+          let r = room-yes (length (allTransfers x)) (length (s .area)) e in
+          let n : min (length (flatten (allKeys (preparedOf x)))) 65537 ≡ length (allTransfers x) = omega (arith, counted, r .few) in
+          ap keyed (asked ∙ e)
+          ∙ ap₂ outcomeOf (ap Rows n) (ap₂ areas (area-is (r .few) (r .space)) (runs-is (r .few)))
+          ∙ sym (ap defined e)
+      go false e = ap keyed (asked ∙ e) ∙ sym (ap defined e)
+
+-- one step of the call: refused by 7, or written
+pub settle-no : (p : Prepared) (s : Areas) (n : ℕ) (b : Bool) → n ≡ min (length (flatten (allKeys p))) 65537 → b ≡ roomOk n (length (s .area)) → b ≡ false → outcomeOf (Refused 7) s ≡ settledKeys p s
+unfolding settledKeys
+settle-no p s n b e f g =
+    let z : roomOk (min (length (flatten (allKeys p))) 65537) (length (s .area)) ≡ false = ap (λ (m : ℕ). roomOk m (length (s .area))) (sym e) ∙ sym f ∙ g in
+    simp z
+
+pub settle-yes : (p : Prepared) (s : Areas) (n m : ℕ) (b : Bool) (a' v' : List ℕ) → n ≡ min (length (flatten (allKeys p))) 65537 → b ≡ roomOk n (length (s .area)) → b ≡ true
+    → walk m a' v' ≡ layEvents (p .time) 0 (allKeys p) (walk 0 (s .area) (s .transferRuns)) → outcomeOf (Rows n) (areas a' v') ≡ settledKeys p s
+unfolding settledKeys
+settle-yes p s n m b a' v' e f g h =
+    let z : roomOk (min (length (flatten (allKeys p))) 65537) (length (s .area)) ≡ true = ap (λ (m : ℕ). roomOk m (length (s .area))) (sym e) ∙ sym f ∙ g in
+    ap₂ (λ (k : ℕ) (w : Walk). outcomeOf (Rows k) (walkAreas w)) e h ∙ simp z
+
+-- the same, of the numbers as the code leaves them
+pub sorted-with : (x : Input) (n : ℕ) → Admitted x n → (u w : List ℕ) → u ≡ numbersOf x → w ≡ sortStops hi (x .runs) (x .c .stops) u → SortedRuns (x .c) (x .runs) w (x .d)
+sorted-with x n a u w p q = rw (q ∙ ap (sortStops hi (x .runs) (x .c .stops)) p) (sorted-runs x n a)
+
+pub settled-with : (x : Input) (s : Areas) → Admitted x (length (s .transferRuns)) → (u w : List ℕ) → u ≡ numbersOf x → w ≡ sortStops hi (x .runs) (x .c .stops) u
+    → settledKeys (prepared (x .t) (x .c) (x .runs) w (x .time)) s ≡ settled x s
+settled-with x s a u w p q =
+    ap (λ (v : List ℕ). settledKeys (prepared (x .t) (x .c) (x .runs) v (x .time)) s) (q ∙ ap (sortStops hi (x .runs) (x .c .stops)) p) ∙ settled-is x s a

@@ -1,0 +1,46 @@
+use Rattle.transfers.specs.Call.{sizesOk}
+use borrow.Author.Needs.{needs}
+use Rattle.transfers.proofs.sizes_ok.Statement.{statement}
+use Rattle.transfers.proofs.sizes_ok.Tie as tie
+use Rattle.transfers.proofs.sizes_ok.Reads as reads
+use Rattle.transfers.proofs.sizes_ok.Lts as lts
+use Rattle.door.proofs.both.Reads as both-reads
+use Rattle.transfers.proofs.event_count.Reads as event-count-reads
+
+event-count-requires : tie.Need-event-count-requires
+event-count-requires c κs = search needs
+
+mul-both : tie.Need-mul-both
+mul-both c = search needs
+
+both-requires : tie.Need-both-requires
+both-requires c κs = search needs
+
+mul-both-2 : tie.Need-mul-both-2
+mul-both-2 c = search needs
+
+mul-both-3 : tie.Need-mul-both-3
+mul-both-3 c = search needs
+
+both-requires-2 : tie.Need-both-requires-2
+both-requires-2 c κs = search needs
+
+both-requires-3 : tie.Need-both-requires-3
+both-requires-3 c κs = search needs
+
+returns : tie.Need-returns
+unfolding sizesOk
+returns c = cc (c .before .before .before .before .before .event-count .ensures .0)
+
+pub sizes-ok-spec : {M : Type 1} → statement M
+sizes-ok-spec =
+    tie.close
+    (tie.spec
+    event-count-requires
+    mul-both
+    both-requires
+    mul-both-2
+    mul-both-3
+    both-requires-2
+    both-requires-3
+    returns)

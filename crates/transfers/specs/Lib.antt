@@ -1,0 +1,3 @@
+pub mod Transfers
+pub mod Call
+pub mod Packed

@@ -1,0 +1,519 @@
+// transfers: the transfers of every stop event (document 01, item 8; the Rust's compute_trip_transfers).
+// Specs: the transfers of an event, over lists (Transfers); the call, its questions in order and what it answers and
+// writes (Call); how the code holds a departure in one number and writes row by row (Packed, inner).
+// Proves: the call's outcome is the defined one on every input. In proofs/Laws: what each transfer is.
+// Assumes nothing.
+ghost use mathlib.Core.Path.{_≡_};
+ghost use mathlib.Core.Bool.{_&&_};
+ghost use mathlib.Core.List.{flatten};
+ghost use Prim.Native.Nat.{_+_, _*_, _-_, _≤_, _<_, min};
+ghost use lib.ListN.{length, getD};
+ghost use lib.Dec.{leb};
+ghost use Rattle.loops.specs.Count.{tab};
+ghost use Rattle.loops.specs.Order.{Halved};
+ghost use Rattle.sorts.specs.Sort.{hi};
+ghost use Rattle.tables.specs.Door.{slicesOk};
+ghost use Rattle.tables.specs.Sane.{CountsOk, SlicesOk, Sane};
+ghost use Rattle.departures.specs.Listed.{RunsListed, RowKnown, RowsKnown};
+ghost use Rattle.transfers.specs.Transfers.{input, eventsBefore};
+ghost use Rattle.transfers.specs.Packed.{packLine, packedAt, Keys, LineEnd, Group, laid, lay, layRow, putRow, walk, putRun, layEvent, layEvents, toGroup, targets, prepared, alightKeys, eventKeys, tripKeys, allKeys, SortedRuns, EventAt, TripAt, settledKeys};
+ghost use Rattle.transfers.specs.Call.{areas, linesOk, sizesOk, verdict, roomOk, settled, outcome, outcomeOf, Admitted, LinesBelow};
+use departures::DepartureRow;
+use tables::Counts;
+
+// What the call answers: the number of the question that was answered no, or how many transfers were written.
+pub enum Built {
+    Refused(u32),
+    Rows(u32),
+}
+
+// The first number whose upper half is not below this key, by halving; the length where there is none.
+fn first_from(part: &[u64], key: u64) -> usize
+    requires { ⌜ Keys (now part) ⌝ }
+    ensures { λ r. ⌜ Halved (λ i. leb key (hi (getD (now (part .entry)) i 0))) (length (now (part .entry))) r r ⌝ }
+{
+    let mut lo: usize = 0;
+    let mut hi = part.len();
+    while lo < hi {
+        let mid = lo + (hi - lo) / 2;
+        if part[mid] / 4294967296 < key {
+            lo = mid + 1;
+            continue;
+        }
+        hi = mid;
+    }
+    lo
+}
+
+// How many of the departures, from the first on, are of the first one's line.
+fn line_end(rest: &[u64]) -> usize
+    requires { ⌜ Keys (now rest) ⌝ ∗ ⌜ 0 < length (now rest) ⌝ }
+    ensures { λ r. ⌜ LineEnd (now (rest .entry)) r ⌝ }
+{
+    let line = rest[0] / 4503599627370496;
+    first_from(rest, (line + 1) * 1048576)
+}
+
+// A transfer is written at row n, where the area has that row.
+fn put_row(area: &mut [u32], time: usize, n: usize, x: u64)
+    requires { ⌜ time ≤ 3600 ⌝ ∗ ⌜ n ≤ 65536 ⌝ }
+    ensures { λ _. ⌜ now (area .exit) ≡ putRow time (now (area .entry)) n x ⌝ }
+{
+    let at = n * 4;
+    if area.len() < at + 4 {
+        return;
+    }
+    area[at] = (x % 4294967296 / 65536) as u32;
+    area[at + 1] = (x % 65536) as u32;
+    area[at + 2] = time as u32;
+    area[at + 3] = 0;
+}
+
+// One transfer more. Past 65,536 none is counted or written.
+fn lay_row(area: &mut [u32], time: usize, n: usize, x: u64) -> usize
+    requires { ⌜ time ≤ 3600 ⌝ }
+    ensures { λ r. ⌜ laid r (now (area .exit)) ≡ layRow time x (laid n (now (area .entry))) ⌝ }
+{
+    if 65536 < n {
+        return n;
+    }
+    put_row(area, time, n, x);
+    n + 1
+}
+
+// The transfer to one line: its first departure not before w, unless that is the same trip.
+fn to_line(group: &[u64], area: &mut [u32], time: usize, ti: usize, w: usize, n: usize) -> usize
+    requires { ⌜ Group (now group) ⌝ ∗ ⌜ time ≤ 3600 ⌝ ∗ ⌜ w < 4294967296 ⌝ }
+    ensures { λ r. ⌜ laid r (now (area .exit)) ≡ lay time (toGroup (now (group .entry)) ti w) (laid n (now (area .entry))) ⌝ }
+{
+    let line = group[0] / 4503599627370496;
+    let p = first_from(group, line * 1048576 + w as u64);
+    if group.len() <= p {
+        return n;
+    }
+    let x = group[p];
+    if (x % 4294967296 / 65536) as usize == ti {
+        return n;
+    }
+    lay_row(area, time, n, x)
+}
+
+// The transfers to every line of a stop's sorted departures, lines rising.
+fn to_lines(run: &[u64], area: &mut [u32], time: usize, ti: usize, w: usize, n: usize) -> usize
+    requires { ⌜ Keys (now run) ⌝ ∗ ⌜ time ≤ 3600 ⌝ ∗ ⌜ w < 4294967296 ⌝ }
+    ensures { λ r. ⌜ laid r (now (area .exit)) ≡ lay time (targets (now (run .entry)) ti w) (laid n (now (area .entry))) ⌝ }
+{
+    let mut m = n;
+    let mut k: usize = 0;
+    while k < run.len() {
+        let q = k + line_end(&run[k..]);
+        m = to_line(&run[k..q], area, time, ti, w, m);
+        k = q;
+    }
+    m
+}
+
+// Getting off at a stop time: where drop-off is not 1, the transfers to every line at its stop.
+fn alight(
+    t: &[u32],
+    c: Counts,
+    runs: &[u32],
+    d: usize,
+    work: &[u64],
+    area: &mut [u32],
+    time: usize,
+    ti: usize,
+    at: usize,
+    n: usize,
+) -> usize
+    requires { ⌜ Sane (now t) c ⌝ ∗ ⌜ RunsListed c (now runs) d ⌝ ∗ ⌜ SortedRuns c (now runs) (now work) d ⌝ ∗ ⌜ at < c .times ⌝ ∗ ⌜ time ≤ 3600 ⌝ }
+    ensures { λ r. ⌜ laid r (now (area .exit)) ≡ lay time (alightKeys (prepared (now (t .entry)) c (now (runs .entry)) (now (work .entry)) time) ti at) (laid n (now (area .entry))) ⌝ }
+{
+    if 65536 < n {
+        return n;
+    }
+    if tables::time(t, c, at, 5) == 1 {
+        return n;
+    }
+    let w = tables::time(t, c, at, 1) + time;
+    let r = departures::stop_run(runs, tables::time(t, c, at, 0));
+    let first = r.first;
+    let end = first + r.length;
+    to_lines(&work[first..end], area, time, ti, w, n)
+}
+
+// The run of event e, where there is space for it: n transfers stand before it, r after it.
+fn put_run(evs: &mut [u32], e: usize, n: usize, r: usize)
+    requires { ⌜ e < 268435456 ⌝ ∗ ⌜ n ≤ r ⌝ ∗ ⌜ r ≤ 65537 ⌝ }
+    ensures { λ _. ⌜ now (evs .exit) ≡ putRun (now (evs .entry)) e n (r - n) ⌝ }
+{
+    let at = e * 2;
+    if evs.len() < at + 2 {
+        return;
+    }
+    evs[at] = n as u32;
+    evs[at + 1] = (r - n) as u32;
+}
+
+// One stop event of a trip, number e of all events.
+fn event(
+    t: &[u32],
+    c: Counts,
+    runs: &[u32],
+    d: usize,
+    work: &[u64],
+    area: &mut [u32],
+    evs: &mut [u32],
+    time: usize,
+    ti: usize,
+    off: usize,
+    e: usize,
+    n: usize,
+) -> usize
+    requires { ⌜ Sane (now t) c ⌝ ∗ ⌜ RunsListed c (now runs) d ⌝ ∗ ⌜ SortedRuns c (now runs) (now work) d ⌝ ∗ ⌜ EventAt (now t) c ti off e n time ⌝ }
+    ensures { λ r. ⌜ walk r (now (area .exit)) (now (evs .exit)) ≡ layEvent time e (eventKeys (prepared (now (t .entry)) c (now (runs .entry)) (now (work .entry)) time) ti off) (walk n (now (area .entry)) (now (evs .entry))) ⌝ ∗ ⌜ r ≤ 65537 ⌝ }
+{
+    let at = tables::trip(t, c, ti, 0) + off;
+    let r = alight(t, c, runs, d, work, area, time, ti, at, n);
+    put_run(evs, e, n, r);
+    r
+}
+
+// The stop events of a trip, number e and on of all events.
+fn trip_events(
+    t: &[u32],
+    c: Counts,
+    runs: &[u32],
+    d: usize,
+    work: &[u64],
+    area: &mut [u32],
+    evs: &mut [u32],
+    time: usize,
+    ti: usize,
+    e: usize,
+    n: usize,
+) -> usize
+    requires { ⌜ Sane (now t) c ⌝ ∗ ⌜ RunsListed c (now runs) d ⌝ ∗ ⌜ SortedRuns c (now runs) (now work) d ⌝ ∗ ⌜ TripAt c ti e n time ⌝ }
+    ensures { λ r. ⌜ walk r (now (area .exit)) (now (evs .exit)) ≡ layEvents time e (tripKeys (prepared (now (t .entry)) c (now (runs .entry)) (now (work .entry)) time) ti) (walk n (now (area .entry)) (now (evs .entry))) ⌝ ∗ ⌜ r ≤ 65537 ⌝ }
+{
+    let count = tables::trip(t, c, ti, 1);
+    let mut m = n;
+    let mut off: usize = 0;
+    while off < count {
+        m = event(t, c, runs, d, work, area, evs, time, ti, off, e + off, m);
+        off += 1;
+    }
+    m
+}
+
+// All stop events. How many transfers there are, counted no further than 65,537.
+fn all_events(
+    t: &[u32],
+    c: Counts,
+    runs: &[u32],
+    d: usize,
+    work: &[u64],
+    area: &mut [u32],
+    evs: &mut [u32],
+    time: usize,
+) -> usize
+    requires { ⌜ Sane (now t) c ⌝ ∗ ⌜ RunsListed c (now runs) d ⌝ ∗ ⌜ SortedRuns c (now runs) (now work) d ⌝ ∗ ⌜ time ≤ 3600 ⌝ }
+    ensures { λ r. ⌜ walk r (now (area .exit)) (now (evs .exit)) ≡ layEvents time 0 (allKeys (prepared (now (t .entry)) c (now (runs .entry)) (now (work .entry)) time)) (walk 0 (now (area .entry)) (now (evs .entry))) ⌝ ∗ ⌜ r ≤ 65537 ⌝ }
+{
+    let trips = c.trips;
+    let mut n: usize = 0;
+    let mut e: usize = 0;
+    let mut ti: usize = 0;
+    while ti < trips {
+        n = trip_events(t, c, runs, d, work, area, evs, time, ti, e, n);
+        e += tables::trip(t, c, ti, 1);
+        ti += 1;
+    }
+    n
+}
+
+// How many transfers there are, counted no further than 65,537: the same walk with space for none.
+fn total(t: &[u32], c: Counts, runs: &[u32], d: usize, work: &[u64], time: usize) -> usize
+    requires { ⌜ Sane (now t) c ⌝ ∗ ⌜ RunsListed c (now runs) d ⌝ ∗ ⌜ SortedRuns c (now runs) (now work) d ⌝ ∗ ⌜ time ≤ 3600 ⌝ }
+    ensures { λ r. ⌜ r ≡ min (length (flatten (allKeys (prepared (now (t .entry)) c (now (runs .entry)) (now (work .entry)) time)))) 65537 ⌝ }
+{
+    let mut a = [0u32; 1];
+    let mut v = [0u32; 1];
+    all_events(t, c, runs, d, work, &mut a, &mut v, time)
+}
+
+// Question 7.
+fn room_ok(n: usize, area: usize) -> bool
+    requires { ⌜ n ≤ 65537 ⌝ }
+    ensures { λ r. ⌜ r ≡ roomOk n area ⌝ }
+{
+    door::both(n <= 65536, n * 4 <= area)
+}
+
+// The transfers, or 7, from the sorted departures: first counted, then written.
+fn settle(
+    t: &[u32],
+    c: Counts,
+    runs: &[u32],
+    d: usize,
+    work: &[u64],
+    area: &mut [u32],
+    evs: &mut [u32],
+    time: usize,
+) -> Built
+    requires { ⌜ Sane (now t) c ⌝ ∗ ⌜ RunsListed c (now runs) d ⌝ ∗ ⌜ SortedRuns c (now runs) (now work) d ⌝ ∗ ⌜ time ≤ 3600 ⌝ }
+    ensures { λ r. ⌜ outcomeOf r (areas (now (area .exit)) (now (evs .exit))) ≡ settledKeys (prepared (now (t .entry)) c (now (runs .entry)) (now (work .entry)) time) (areas (now (area .entry)) (now (evs .entry))) ⌝ }
+{
+    let n = total(t, c, runs, d, work, time);
+    if !room_ok(n, area.len()) {
+        return Built::Refused(7);
+    }
+    all_events(t, c, runs, d, work, area, evs, time);
+    Built::Rows(n as u32)
+}
+
+// A row as one number: its line and its departure above, its trip and offset below.
+fn pack_line(t: &[u32], c: Counts, lines: &[u32], r: DepartureRow) -> u64
+    requires { ⌜ Sane (now t) c ⌝ ∗ ⌜ RowKnown (now t) c r ⌝ ∗ ⌜ length (now lines) ≡ c .trips ⌝ ∗ ⌜ getD (now lines) (r .trip) 0 < 4096 ⌝ }
+    ensures { λ x. ⌜ x ≡ packLine (now (t .entry)) c (now (lines .entry)) r ⌝ }
+{
+    let line = tables::field(lines, r.trip);
+    let at = tables::trip(t, c, r.trip, 0) + r.offset;
+    let departure = tables::time(t, c, at, 2);
+    ((line * 1048576 + departure) * 4294967296 + r.trip * 65536 + r.offset) as u64
+}
+
+fn pack_lines(
+    t: &[u32],
+    c: Counts,
+    lines: &[u32],
+    rows: &[u32],
+    d: usize,
+    n: usize,
+    work: &mut [u64],
+)
+    requires { ⌜ Sane (now t) c ⌝ ∗ ⌜ RowsKnown (now t) c (now rows) d ⌝ ∗ ⌜ LinesBelow (now lines) (c .trips) n ⌝ ∗ ⌜ length (now work) ≡ d ⌝ }
+    ensures { λ _. ⌜ now (work .exit) ≡ tab (packedAt (now (t .entry)) c (now (lines .entry)) (now (rows .entry))) d ⌝ }
+{
+    let mut k: usize = 0;
+    while k < work.len() {
+        work[k] = pack_line(t, c, lines, departures::departure_row(rows, k));
+        k += 1;
+    }
+}
+
+// How many stop events the trips have.
+fn event_count(t: &[u32], c: Counts) -> usize
+    requires { ⌜ CountsOk c ⌝ ∗ ⌜ SlicesOk (now t) c ⌝ }
+    ensures { λ r. ⌜ r ≡ eventsBefore (now (t .entry)) c (c .trips) ⌝ ∗ ⌜ r ≤ 17592186044416 ⌝ }
+{
+    let n = c.trips;
+    let mut e: usize = 0;
+    let mut i: usize = 0;
+    while i < n {
+        e += tables::trip(t, c, i, 1);
+        i += 1;
+    }
+    e
+}
+
+// Question 2: is each slice as long as the counts say?
+fn sizes_ok(
+    t: &[u32],
+    c: Counts,
+    d: usize,
+    lines: usize,
+    runs: usize,
+    rows: usize,
+    evs: usize,
+) -> bool
+    requires { ⌜ CountsOk c ⌝ ∗ ⌜ SlicesOk (now t) c ⌝ ∗ ⌜ d ≤ 65536 ⌝ }
+    ensures { λ r. ⌜ r ≡ sizesOk (now (t .entry)) c d lines runs rows evs ⌝ }
+{
+    let events = event_count(t, c);
+    door::both(
+        door::both(lines == c.trips, runs == c.stops * 2),
+        door::both(rows == d * 2, evs == events * 2),
+    )
+}
+
+// First the timetable's own slice, whose counts the others are measured by.
+fn lent_ok(
+    t: &[u32],
+    c: Counts,
+    d: usize,
+    lines: usize,
+    runs: usize,
+    rows: usize,
+    evs: usize,
+) -> bool
+    requires { ⌜ CountsOk c ⌝ ∗ ⌜ d ≤ 65536 ⌝ }
+    ensures { λ r. ⌜ r ≡ (slicesOk (now (t .entry)) c && sizesOk (now (t .entry)) c d lines runs rows evs) ⌝ }
+{
+    if !tables::slices_ok(t, c) {
+        return false;
+    }
+    sizes_ok(t, c, d, lines, runs, rows, evs)
+}
+
+// Question 4: is each trip's line below the count?
+fn lines_ok(lines: &[u32], line_count: usize) -> bool
+    ensures { λ r. ⌜ r ≡ linesOk (now (lines .entry)) (length (now (lines .entry))) «line_count» ⌝ }
+{
+    let mut i: usize = 0;
+    while i < lines.len() {
+        if line_count <= tables::field(lines, i) {
+            return false;
+        }
+        i += 1;
+    }
+    true
+}
+
+// The questions 1 to 5: the number of the first that is answered no, or 0.
+fn questions(
+    t: &[u32],
+    c: Counts,
+    line_count: usize,
+    lines: &[u32],
+    d: usize,
+    runs: &[u32],
+    rows: &[u32],
+    time: usize,
+    evs: usize,
+) -> u32
+    ensures { λ r. ⌜ r ≡ verdict (input (now (t .entry)) c «line_count» (now (lines .entry)) d (now (runs .entry)) (now (rows .entry)) time) evs ⌝ }
+{
+    if !door::both(
+        tables::counts_ok(c),
+        door::both(line_count <= 4096, d <= 65536),
+    ) {
+        return 1;
+    }
+    if !lent_ok(t, c, d, lines.len(), runs.len(), rows.len(), evs) {
+        return 2;
+    }
+    if !door::both(tables::runs_ok(t, c), departures::stop_runs_ok(runs, c, d)) {
+        return 3;
+    }
+    if !door::both(
+        tables::numbers_ok(t, c),
+        door::both(
+            lines_ok(lines, line_count),
+            departures::listed_ok(t, c, runs, rows, d),
+        ),
+    ) {
+        return 4;
+    }
+    if !door::both(tables::ranges_ok(t, c), time <= 3600) {
+        return 5;
+    }
+    0
+}
+
+// What an admitted call writes. The sort works in `work` and `other`, of d numbers each.
+fn build_in(
+    t: &[u32],
+    c: Counts,
+    line_count: usize,
+    lines: &[u32],
+    d: usize,
+    runs: &[u32],
+    rows: &[u32],
+    time: usize,
+    area: &mut [u32],
+    evs: &mut [u32],
+    work: &mut [u64],
+    other: &mut [u64],
+) -> Built
+    requires { ⌜ Admitted (input (now t) c «line_count» (now lines) d (now runs) (now rows) time) (length (now evs)) ⌝ ∗ ⌜ length (now work) ≡ d ⌝ ∗ ⌜ length (now other) ≡ d ⌝ }
+    ensures { λ r. ⌜ outcomeOf r (areas (now (area .exit)) (now (evs .exit))) ≡ settled (input (now (t .entry)) c «line_count» (now (lines .entry)) d (now (runs .entry)) (now (rows .entry)) time) (areas (now (area .entry)) (now (evs .entry))) ⌝ }
+{
+    pack_lines(t, c, lines, rows, d, line_count, work);
+    departures::sort_stops(c, runs, d, work, other);
+    settle(t, c, runs, d, work, area, evs, time)
+}
+
+// The same in the first d numbers of two longer slices.
+fn build(
+    t: &[u32],
+    c: Counts,
+    line_count: usize,
+    lines: &[u32],
+    d: usize,
+    runs: &[u32],
+    rows: &[u32],
+    time: usize,
+    area: &mut [u32],
+    evs: &mut [u32],
+    work: &mut [u64],
+    other: &mut [u64],
+) -> Built
+    requires { ⌜ Admitted (input (now t) c «line_count» (now lines) d (now runs) (now rows) time) (length (now evs)) ⌝ ∗ ⌜ d ≤ length (now work) ⌝ ∗ ⌜ d ≤ length (now other) ⌝ }
+    ensures { λ r. ⌜ outcomeOf r (areas (now (area .exit)) (now (evs .exit))) ≡ settled (input (now (t .entry)) c «line_count» (now (lines .entry)) d (now (runs .entry)) (now (rows .entry)) time) (areas (now (area .entry)) (now (evs .entry))) ⌝ }
+{
+    build_in(
+        t,
+        c,
+        line_count,
+        lines,
+        d,
+        runs,
+        rows,
+        time,
+        area,
+        evs,
+        &mut work[..d],
+        &mut other[..d],
+    )
+}
+
+// The transfers of every stop event. `lines` is each trip's line, below `line_count`; `runs` and `rows` are the d listed
+// departures, in any order; `transfer_time` is in seconds (120 in the Rust). `area` takes rows of four words (target trip,
+// offset, time, pattern 0) and keeps its words past the last one; `transfer_runs` takes a pair (first, count) for each stop
+// time of each trip, trip by trip. A refusal leaves both as they came.
+pub fn compute_trip_transfers(
+    t: &[u32],
+    c: Counts,
+    line_count: usize,
+    lines: &[u32],
+    d: usize,
+    runs: &[u32],
+    rows: &[u32],
+    transfer_time: usize,
+    area: &mut [u32],
+    transfer_runs: &mut [u32],
+) -> Built
+    ensures { λ r. ⌜ outcomeOf r (areas (now (area .exit)) (now («transfer_runs» .exit))) ≡ outcome (input (now (t .entry)) c «line_count» (now (lines .entry)) d (now (runs .entry)) (now (rows .entry)) «transfer_time») (areas (now (area .entry)) (now («transfer_runs» .entry))) ⌝ }
+{
+    let v = questions(
+        t,
+        c,
+        line_count,
+        lines,
+        d,
+        runs,
+        rows,
+        transfer_time,
+        transfer_runs.len(),
+    );
+    if v != 0 {
+        return Built::Refused(v);
+    }
+    let mut work = [0u64; 65536];
+    let mut other = [0u64; 65536];
+    build(
+        t,
+        c,
+        line_count,
+        lines,
+        d,
+        runs,
+        rows,
+        transfer_time,
+        area,
+        transfer_runs,
+        &mut work,
+        &mut other,
+    )
+}
