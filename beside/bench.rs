@@ -79,11 +79,6 @@ fn rust_dep(a: Option<&RtTripAdjust>, st: &PackedStopTime) -> u32 {
 fn rust_arr(a: Option<&RtTripAdjust>, st: &PackedStopTime, s: i32) -> u32 {
     routing::effective_arr(a, st, s)
 }
-#[inline(never)]
-fn rust_label(kind: u32, a: [u32; 7], d: f64) -> ([u32; 8], u64) {
-    routing::tbr::label_words(kind, a, d)
-}
-
 fn main() {
     let mut r = Random(7);
     let n = 20_000;
@@ -165,7 +160,7 @@ fn main() {
     row("clock reading (no Rust)", &clock, |x| unsafe { savoiky_service_second(x.0, x.1, x.2) }.value as u64, |x| (x.0 * 3600 + x.1 * 60 + x.2) as u64);
     let labels: Vec<_> = (0..n).map(|_| (r.below(3), r.below(13), [r.below(99), 2, 3, 4, 5, 6, 7], r.below(9) as f64)).collect();
     let (mut words, mut dist) = (vec![0u32; 312], vec![0f64; 39]);
-    let mut table: Vec<Vec<Option<[u64; 6]>>> = vec![vec![None; 13]; 3];
+    let mut table = routing::tbr::LabelTable::new(3);
     row(
         "label stored and read",
         &labels,
@@ -175,6 +170,6 @@ fn main() {
             );
             savoiky_label_load(3, x.0, x.1, words.as_ptr(), 312, dist.as_ptr(), 39).row.words[1] as u64
         },
-        |x| rust_label(2, x.2, x.3).0[1] as u64,
+        |x| table.store_and_read(x.0 as usize, x.1 as usize, x.2) as u64,
     );
 }

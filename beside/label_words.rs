@@ -24,3 +24,29 @@ pub fn label_words(kind: u32, a: [u32; 7], distance: f64) -> ([u32; 8], u64) {
         }
     }
 }
+
+// A label table as the Rust has it, for timing a store and a read.
+pub struct LabelTable(Vec<Vec<Option<TbrReach>>>);
+
+impl LabelTable {
+    pub fn new(stops: usize) -> Self {
+        LabelTable(vec![vec![None; 13]; stops])
+    }
+    #[inline(never)]
+    pub fn store_transit(&mut self, stop: usize, row: usize, a: [u32; 7]) {
+        self.0[stop][row] = Some(TbrReach::Transit {
+            arrival_s: a[0], trip_idx: a[1], board_stop: a[2], board_off: a[3], alight_off: a[4], prev_round: a[5] as u16, time_shift_s: a[6] as i32,
+        });
+    }
+    #[inline(never)]
+    pub fn read(&self, stop: usize, row: usize) -> Option<TbrReach> {
+        self.0[stop][row].clone()
+    }
+    pub fn store_and_read(&mut self, stop: usize, row: usize, a: [u32; 7]) -> u32 {
+        self.store_transit(stop, row, a);
+        match std::hint::black_box(self.read(stop, row)) {
+            Some(TbrReach::Transit { arrival_s, .. }) => arrival_s,
+            _ => 0,
+        }
+    }
+}

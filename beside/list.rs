@@ -7,22 +7,16 @@
 //   7 margin: trips, rows, stop rows, length, words, length, words; then code, value
 //   8 one stop time: the tables as in 7, trip, sequence, time, shift; then skipped, departure, arrival
 //   9 clock: hour, minute, second; then code, value
+//   11 building, of 3 stops, 5 trips of 3 stop times, 15 stop times, 1 window, 1 walk edge, 10 departures, 3 lines of 6 entries: the five
+//      counts, departures, line count, lines, entries; timetable (141), runs (6), rows (20), each trip's line (5), line runs (6),
+//      entries (6); then sorting: code, rows (20), marks (3); lines: code, count, lines (5), runs (10), entries (5); layout: code,
+//      positions (5), FIFO (3); transfers: code, count, area (96), runs (30). What is lent to be written holds 7 in every word.
 //   10 label: kind, seven fields, distance (a whole number), stop, row of three stops; then the record's eight words and its distance
 #![allow(dead_code, unused)]
 include!(concat!(env!("ORACLE"), "/oracle.rs"));
-#[derive(Clone, Copy, PartialEq, Debug)]
-pub struct Answer {
-    pub code: u32,
-    pub value: u32,
-}
-#[derive(Clone, Copy, PartialEq, Debug)]
-pub struct FreqAnswer {
-    pub code: u32,
-    pub found: u32,
-    pub departure: u32,
-    pub time_shift_s: u32,
-}
+include!(concat!(env!("BESIDE"), "/ffi.rs"));
 include!(concat!(env!("BESIDE"), "/cases.rs"));
+include!(concat!(env!("BESIDE"), "/timetables.rs"));
 
 const EACH: u32 = 240;
 
@@ -99,6 +93,79 @@ fn delays(r: &mut Random) {
     line(8, &w);
 }
 
+// A timetable of the fixed shape, damaged in one word or count now and then.
+fn fixed_timetable(r: &mut Random) -> Timetable {
+    let mut tables = vec![];
+    let shapes: Vec<[u32; 3]> = (0..2).map(|_| [r.below(3), r.below(3), r.below(3)]).collect();
+    let mut t = 0;
+    for trip in 0..5 {
+        let shape = shapes[r.below(2) as usize];
+        t = r.below(400);
+        for (o, s) in shape.iter().enumerate() {
+            let drop_off = if r.below(8) == 0 { r.below(4) } else { 0 };
+            tables.extend([*s, t, t + r.below(60), o as u32, 0, drop_off]);
+            t += 30 + r.below(200);
+        }
+    }
+    let times = tables.clone();
+    let firsts: Vec<u32> = (0..5).map(|i| if r.below(6) == 0 { 3 * r.below(5) } else { 3 * i }).collect();
+    for &f in &firsts {
+        let with = (r.below(8) == 0) as u32;
+        tables.extend([f, 3, r.below(7), r.below(3), 0, with, 1, 0]);
+    }
+    tables.extend([100, 500, 50, 0, 1, 30, 2, 9, 0, 0, 0]);
+    let mut listed: Vec<Vec<[u32; 2]>> = vec![vec![]; 3];
+    for k in 0..10u32 {
+        let (trip, o) = (k / 2, k % 2);
+        listed[times[6 * (firsts[trip as usize] + o) as usize] as usize].push([trip, o]);
+    }
+    let (mut runs, mut rows) = (vec![], vec![]);
+    for l in listed.iter_mut() {
+        l.reverse();
+        runs.extend([rows.len() as u32 / 2, l.len() as u32]);
+        rows.extend(l.iter().flatten());
+    }
+    let line_runs = (0..3).flat_map(|_| { let a = r.below(7); [a, r.below(7 - a)] }).collect();
+    let mut x = Timetable {
+        counts: [3, 5, 15, 1, 1], tables, departures: 10, runs, rows, lines: 3, entry_count: 6, line_runs, entries: (0..6).map(|_| r.below(5)).collect(),
+        marks: vec![7; 3], line_of: vec![7; 5], made_runs: vec![7; 10], made_entries: vec![7; 5], positions: vec![7; 5], fifo: vec![7; 3],
+        work: vec![7; 10], other: vec![7; 10], line_work: vec![7; 5], line_other: vec![7; 5], line_count: 3, lines_of: (0..5).map(|_| r.below(3)).collect(),
+        area: vec![7; 96], transfer_runs: vec![7; 30],
+    };
+    let any = r.any();
+    match r.below(12) {
+        0 => x.counts[r.below(5) as usize] = any,
+        1 => poke(&mut x.runs, r, any),
+        2 => poke(&mut x.rows, r, any),
+        3 => poke(&mut x.tables, r, any),
+        4 => poke(&mut x.lines_of, r, any),
+        _ => {}
+    }
+    x
+}
+
+fn building(r: &mut Random) {
+    let x = fixed_timetable(r);
+    let mut w = x.counts.to_vec();
+    w.extend([x.departures, x.line_count, x.lines, x.entry_count]);
+    for part in [&x.tables, &x.runs, &x.rows, &x.lines_of, &x.line_runs, &x.entries] {
+        w.extend(part);
+    }
+    let (code, z) = sorting_outcome(&x);
+    w.push(code);
+    w.extend(z.rows.iter().chain(&z.marks));
+    let (a, z) = lines_outcome(&x);
+    w.extend([a.code, a.value]);
+    w.extend(z.line_of.iter().chain(&z.made_runs).chain(&z.made_entries));
+    let (code, z) = layout_outcome(&x);
+    w.push(code);
+    w.extend(z.positions.iter().chain(&z.fifo));
+    let (a, z) = transfers_outcome(&x);
+    w.extend([a.code, a.value]);
+    w.extend(z.area.iter().chain(&z.transfer_runs));
+    line(11, &w);
+}
+
 fn main() {
     let mut r = Random(2026);
     for _ in 0..EACH {
@@ -137,5 +204,8 @@ fn main() {
         all.extend(words);
         all.push(f64::from_bits(bits) as u32);
         line(10, &all);
+    }
+    for _ in 0..160 {
+        building(&mut r);
     }
 }

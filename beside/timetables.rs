@@ -354,10 +354,13 @@ pub fn sorting_agrees(x: &Timetable) -> (bool, u32) {
             y.rows.len(), y.marks.as_mut_ptr(), y.marks.len(), y.work.as_mut_ptr(), y.work.len(), y.other.as_mut_ptr(), y.other.len(),
         )
     };
-    let want = x.departures_door();
-    if code != want {
-        return (false, code);
-    }
+    let (want, z) = sorting_outcome(x);
+    (code == want && y.rows == z.rows && y.marks == z.marks && y.work == z.work && y.other == z.other, want)
+}
+
+// What the call must answer, and everything lent as it must be then.
+pub fn sorting_outcome(x: &Timetable) -> (u32, Timetable) {
+    let code = x.departures_door();
     let mut z = x.clone();
     if code == 0 {
         let mut e = x.epoch();
@@ -374,7 +377,7 @@ pub fn sorting_agrees(x: &Timetable) -> (bool, u32) {
         z.work.fill(0);
         z.other.fill(0);
     }
-    (y.rows == z.rows && y.marks == z.marks && y.work == z.work && y.other == z.other, code)
+    (code, z)
 }
 
 pub fn lines_agree(x: &Timetable) -> (bool, u32) {
@@ -387,6 +390,17 @@ pub fn lines_agree(x: &Timetable) -> (bool, u32) {
             y.line_other.len(),
         )
     };
+    let (want, z) = lines_outcome(x);
+    let same = a == want
+        && y.line_of == z.line_of
+        && y.made_runs == z.made_runs
+        && y.made_entries == z.made_entries
+        && y.line_work == z.line_work
+        && y.line_other == z.line_other;
+    (same, want.code)
+}
+
+pub fn lines_outcome(x: &Timetable) -> (Answer, Timetable) {
     let code = x.lines_door();
     let mut z = x.clone();
     let mut value = 0;
@@ -405,13 +419,7 @@ pub fn lines_agree(x: &Timetable) -> (bool, u32) {
         z.line_work.fill(0);
         z.line_other.fill(0);
     }
-    let same = a == Answer { code, value }
-        && y.line_of == z.line_of
-        && y.made_runs == z.made_runs
-        && y.made_entries == z.made_entries
-        && y.line_work == z.line_work
-        && y.line_other == z.line_other;
-    (same, code)
+    (Answer { code, value }, z)
 }
 
 pub fn layout_agrees(x: &Timetable) -> (bool, u32) {
@@ -423,6 +431,11 @@ pub fn layout_agrees(x: &Timetable) -> (bool, u32) {
             y.entries.as_ptr(), y.entries.len(), y.positions.as_mut_ptr(), y.positions.len(), y.fifo.as_mut_ptr(), y.fifo.len(),
         )
     };
+    let (code, z) = layout_outcome(x);
+    (got == code && y.positions == z.positions && y.fifo == z.fifo, code)
+}
+
+pub fn layout_outcome(x: &Timetable) -> (u32, Timetable) {
     let code = x.layout_door();
     let mut z = x.clone();
     if code == 0 {
@@ -432,7 +445,7 @@ pub fn layout_agrees(x: &Timetable) -> (bool, u32) {
         z.positions = pos;
         z.fifo = fifo.iter().map(|&b| b as u32).collect();
     }
-    (got == code && y.positions == z.positions && y.fifo == z.fifo, code)
+    (code, z)
 }
 
 pub fn transfers_agree(x: &Timetable) -> (bool, u32) {
@@ -445,6 +458,11 @@ pub fn transfers_agree(x: &Timetable) -> (bool, u32) {
             y.transfer_runs.len(),
         )
     };
+    let (want, z) = transfers_outcome(x);
+    (a == want && y.area == z.area && y.transfer_runs == z.transfer_runs, want.code)
+}
+
+pub fn transfers_outcome(x: &Timetable) -> (Answer, Timetable) {
     let mut code = x.transfers_door();
     let mut z = x.clone();
     let mut value = 0;
@@ -470,5 +488,5 @@ pub fn transfers_agree(x: &Timetable) -> (bool, u32) {
             value = n as u32;
         }
     }
-    (a == Answer { code, value } && y.area == z.area && y.transfer_runs == z.transfer_runs, code)
+    (Answer { code, value }, z)
 }

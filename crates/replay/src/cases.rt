@@ -1,10 +1,11 @@
 // The cases: is each answer the one on the line?
 ghost use Prim.Native.Nat.{_<_};
+use crate::building;
 use cell_bitset::CellBitSet;
 use door::Answer;
 
 // Word i, 0 past the end.
-fn at(w: &[u32], i: usize) -> u32 {
+pub fn at(w: &[u32], i: usize) -> u32 {
     if i < w.len() {
         return w[i];
     }
@@ -19,7 +20,7 @@ fn length_at(w: &[u32], i: usize) -> usize
     (n % 512) as usize
 }
 
-fn both(a: bool, b: bool) -> bool {
+pub fn both(a: bool, b: bool) -> bool {
     door::both(a, b)
 }
 
@@ -270,6 +271,9 @@ pub fn right(w: &[u32]) -> bool {
     }
     if kind == 10 {
         return label(w);
+    }
+    if kind == 11 {
+        return building::built(w);
     }
     numbers(kind, w)
 }

@@ -3,6 +3,7 @@
 // the port alone, and beside/list.rs says what each line holds. The program prints only how many lines it replayed and
 // how many differed.
 // Proves: that it is safe and ends. Assumes the contracts of the kit's io and libc.
+mod building;
 mod cases;
 mod lines;
 
@@ -59,7 +60,7 @@ fn all_lines(text: &[u8], words: &mut [u32]) -> Tally {
 }
 
 fn main() {
-    let mut space = [0u8; 262144];
+    let mut space = [0u8; 524288];
     let mut words = [0u32; 512];
     let n = io::read_full(STDIN_FILENO, &mut space);
     let t = all_lines(&space[..n], &mut words);

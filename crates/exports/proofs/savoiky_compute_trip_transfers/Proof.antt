@@ -7,12 +7,6 @@ use Rattle.tables.specs.declared.Counts.{Counts}
 use borrow.Author.Needs.{needs}
 use Rattle.exports.proofs.savoiky_compute_trip_transfers.Statement.{statement}
 use Rattle.exports.proofs.savoiky_compute_trip_transfers.Tie as tie
-use Rattle.exports.proofs.savoiky_compute_trip_transfers.Reads as reads
-use Rattle.exports.proofs.savoiky_compute_trip_transfers.Lts as lts
-use Rattle.door.proofs.given.Reads as given-reads
-use Rattle.door.proofs.refused.Reads as refused-reads
-use Rattle.exports.proofs.counts.Reads as counts-reads
-use Rattle.transfers.proofs.compute_trip_transfers.Reads as compute-trip-transfers-reads
 
 counts-requires : tie.Need-counts-requires
 counts-requires c κs = search needs
