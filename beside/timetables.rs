@@ -324,6 +324,36 @@ pub fn limits() -> Vec<Timetable> {
     for (trips, each, line_count) in [1, 3].iter().flat_map(|&l| COUNTS.map(|(t, e)| (t, e, l))) {
         out.push(at_limit(trips, each, line_count));
     }
+    // stops, windows, walk edges; lines and entries handed to the layout; line count handed to the transfers
+    for n in [0, 1, 4096, 4097] {
+        let mut x = at_limit(1, 1, 1);
+        x.counts[0] = n;
+        x.tables.resize(6 + 8 + n as usize, 0);
+        x.runs = if n == 0 { vec![] } else { (0..n).flat_map(|s| [0, (s == 0) as u32]).collect() };
+        x.marks = vec![7; n as usize];
+        out.push(x);
+        let mut x = at_limit(1, 1, 1);
+        x.entry_count = n;
+        x.entries = vec![0; n as usize];
+        x.line_runs = vec![0, n];
+        out.push(x);
+        let mut x = at_limit(1, 1, 1);
+        x.lines = n;
+        x.line_runs = vec![0; 2 * n as usize];
+        x.fifo = vec![7; n as usize];
+        x.line_count = n;
+        out.push(x);
+    }
+    for n in [0, 1, 65536, 65537u32] {
+        for (section, words) in [(3, vec![1, 9, 2]), (4, vec![0, 0, 5, 2, 1])] {
+            let mut x = at_limit(1, 1, 1);
+            x.counts[section] = n;
+            let cell = x.tables.pop().unwrap();
+            x.tables.extend((0..n).flat_map(|_| words.clone()));
+            x.tables.push(cell);
+            out.push(x);
+        }
+    }
     out
 }
 
