@@ -1,6 +1,7 @@
 // tables: the caller's timetable in one lent slice of numbers, its counts by value, getters, and the questions that every
 // call asks of it (document 01, questions 1 to 6).
-// Specs: where each number stands (Tables), each question as a test of the lists, row by row (Door), what a yes gives (Sane).
+// Specs: where each number stands (Tables), the timetable free of memory (Timetable), each question as a test of the lists,
+// row by row (Door), what a yes gives (Sane).
 // Proves: each test answers exactly its definition; a timetable that passes has the facts that inner functions need.
 // Assumes nothing.
 ghost use mathlib.Core.Path.{_≡_};
