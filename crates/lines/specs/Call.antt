@@ -8,6 +8,7 @@ use Rattle.loops.specs.Count.{tab}
 use Rattle.door.specs.declared.Answer.{Answer}
 use Rattle.door.specs.Door.{ask, refusal, success}
 use Rattle.tables.specs.declared.Counts.{Counts}
+use Rattle.tables.specs.Timetable.{timetable}
 use Rattle.tables.specs.Door.{countsOk, slicesOk, runsOk, numbersOk, rangesOk}
 use Rattle.lines.specs.Lines.{lineOf, linesOf, entriesOf, runsOf}
 use Rattle.lines.specs.declared.Lengths.{Lengths}
@@ -40,7 +41,8 @@ verdict t c z =
 
 -- what is made; the workspace is left zero
 unfoldable pub made : List ℕ → Counts → Areas → Areas
-made t c s = areas (tab (lineOf t c) (c .trips)) (runsOf t c (s .runs)) (entriesOf t c) (replicate (c .trips) 0) (replicate (c .trips) 0)
+made t c s =
+    areas (tab (lineOf (timetable t c)) (c .trips)) (runsOf (timetable t c) (s .runs)) (entriesOf (timetable t c)) (replicate (c .trips) 0) (replicate (c .trips) 0)
 
 -- the answer, and the lent slices as they are left
 pub record Outcome : Type 0 where
@@ -52,7 +54,7 @@ outcomeOf g s = record { answer = g; areas = s }
 
 -- how many lines there are, and what is made; a refusal leaves every slice as it came
 abbrev pub settle : ℕ → List ℕ → Counts → Areas → Outcome
-settle zero t c s = outcomeOf (Lines (linesOf t c)) (made t c s)
+settle zero t c s = outcomeOf (Lines (linesOf (timetable t c))) (made t c s)
 settle (suc n) t c s = outcomeOf (Refused (suc n)) s
 
 abbrev pub outcome : List ℕ → Counts → Areas → Outcome

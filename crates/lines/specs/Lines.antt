@@ -9,76 +9,75 @@ use Rattle.loops.specs.Iter.{everyIn, firstIn, foundOr}
 use Rattle.loops.specs.Count.{count, tab, upto}
 use Rattle.sorts.specs.Sort.{sortBy}
 use Rattle.sorts.specs.Orders.{keep}
-use Rattle.tables.specs.declared.Counts.{Counts}
-use Rattle.tables.specs.Tables.{countOf, stopOf, departureOf}
+use Rattle.tables.specs.Timetable.{Timetable, timeAt}
 
 -- the stops of trip i, in order
-abbrev pub stopsOf : List ℕ → Counts → ℕ → List ℕ
-stopsOf t c i = tab (stopOf t c i) (countOf t c i)
+abbrev pub stopsOf : Timetable → ℕ → List ℕ
+stopsOf T i = tab (λ k. timeAt T i k .stop) (T .trip i .count)
 
 -- have trips a and b as many stops, and the same one at each offset? (Laws: are their lists of stops equal?)
-unfoldable pub same : List ℕ → Counts → ℕ → ℕ → Bool
-same t c a b = eqb (countOf t c a) (countOf t c b) && everyIn (λ k. eqb (stopOf t c a k) (stopOf t c b k)) 0 (countOf t c a)
+unfoldable pub same : Timetable → ℕ → ℕ → Bool
+same T a b = eqb (T .trip a .count) (T .trip b .count) && everyIn (λ k. eqb (timeAt T a k .stop) (timeAt T b k .stop)) 0 (T .trip a .count)
 
 -- the first trip of trip i's line
-unfoldable pub leadOf : List ℕ → Counts → ℕ → ℕ
-leadOf t c i = foundOr (firstIn (λ a. same t c a i) 0 i) i
+unfoldable pub leadOf : Timetable → ℕ → ℕ
+leadOf T i = foundOr (firstIn (λ a. same T a i) 0 i) i
 
 -- is trip i the first of its line?
-unfoldable pub isLead : List ℕ → Counts → ℕ → Bool
-isLead t c i = eqb (leadOf t c i) i
+unfoldable pub isLead : Timetable → ℕ → Bool
+isLead T i = eqb (leadOf T i) i
 
 -- trip i's line: as many lines as have their first trip before this one's
-unfoldable pub lineOf : List ℕ → Counts → ℕ → ℕ
-lineOf t c i = count (isLead t c) (leadOf t c i)
+unfoldable pub lineOf : Timetable → ℕ → ℕ
+lineOf T i = count (isLead T) (leadOf T i)
 
 -- how many lines there are
-abbrev pub linesOf : List ℕ → Counts → ℕ
-linesOf t c = count (isLead t c) (c .trips)
+abbrev pub linesOf : Timetable → ℕ
+linesOf T = count (isLead T) (T .trips)
 
 -- has trip i line l? Has it a line before l?
-abbrev pub lineIs : List ℕ → Counts → ℕ → ℕ → Bool
-lineIs t c l i = eqb (lineOf t c i) l
+abbrev pub lineIs : Timetable → ℕ → ℕ → Bool
+lineIs T l i = eqb (lineOf T i) l
 
-abbrev pub lineBelow : List ℕ → Counts → ℕ → ℕ → Bool
-lineBelow t c l i = ltb (lineOf t c i) l
+abbrev pub lineBelow : Timetable → ℕ → ℕ → Bool
+lineBelow T l i = ltb (lineOf T i) l
 
 -- the first trip of line l
-unfoldable pub firstTrip : List ℕ → Counts → ℕ → ℕ
-firstTrip t c l = foundOr (firstIn (lineIs t c l) 0 (c .trips)) (c .trips)
+unfoldable pub firstTrip : Timetable → ℕ → ℕ
+firstTrip T l = foundOr (firstIn (lineIs T l) 0 (T .trips)) (T .trips)
 
 -- the first departure of a trip
-abbrev pub firstDeparture : List ℕ → Counts → ℕ → ℕ
-firstDeparture t c i = departureOf t c i 0
+abbrev pub firstDeparture : Timetable → ℕ → ℕ
+firstDeparture T i = timeAt T i 0 .departure
 
 -- the trips of line l: in the order of their numbers, sorted stably by first departure
-unfoldable pub lineTrips : List ℕ → Counts → ℕ → List ℕ
-lineTrips t c l = sortBy (firstDeparture t c) (keep (lineIs t c l) (upto (c .trips)))
+unfoldable pub lineTrips : Timetable → ℕ → List ℕ
+lineTrips T l = sortBy (firstDeparture T) (keep (lineIs T l) (upto (T .trips)))
 
 -- the entries: the trips line by line
-unfoldable pub entriesOf : List ℕ → Counts → List ℕ
-entriesOf t c = flatMap (lineTrips t c) (upto (linesOf t c))
+unfoldable pub entriesOf : Timetable → List ℕ
+entriesOf T = flatMap (lineTrips T) (upto (linesOf T))
 
 -- the trip that stands at p
-abbrev pub entryAt : List ℕ → Counts → ℕ → ℕ
-entryAt t c p = getD (entriesOf t c) p 0
+abbrev pub entryAt : Timetable → ℕ → ℕ
+entryAt T p = getD (entriesOf T) p 0
 
 -- how many trips line l has, and its first entry: as many trips stand before it as have an earlier line
-unfoldable pub lineCount : List ℕ → Counts → ℕ → ℕ
-lineCount t c l = count (lineIs t c l) (c .trips)
+unfoldable pub lineCount : Timetable → ℕ → ℕ
+lineCount T l = count (lineIs T l) (T .trips)
 
-unfoldable pub lineFirst : List ℕ → Counts → ℕ → ℕ
-lineFirst t c l = count (lineBelow t c l) (c .trips)
+unfoldable pub lineFirst : Timetable → ℕ → ℕ
+lineFirst T l = count (lineBelow T l) (T .trips)
 
 -- place p is in line l's run
-pub record InRun (t : List ℕ) (c : Counts) (l p : ℕ) : Type 0 where
-  pub from : lineFirst t c l ≤ p
-  pub before : p < lineFirst t c l + lineCount t c l
+pub record InRun (T : Timetable) (l p : ℕ) : Type 0 where
+  pub from : lineFirst T l ≤ p
+  pub before : p < lineFirst T l + lineCount T l
 
 -- line l's run as a row of two words
-abbrev pub lineRun : List ℕ → Counts → ℕ → List ℕ
-lineRun t c l = lineFirst t c l ∷ lineCount t c l ∷ []
+abbrev pub lineRun : Timetable → ℕ → List ℕ
+lineRun T l = lineFirst T l ∷ lineCount T l ∷ []
 
 -- the runs, written over the first rows of what was lent; rows past the lines keep their words
-unfoldable pub runsOf : List ℕ → Counts → List ℕ → List ℕ
-runsOf t c old = flatMap (lineRun t c) (upto (linesOf t c)) ++ drop (linesOf t c * 2) old
+unfoldable pub runsOf : Timetable → List ℕ → List ℕ
+runsOf T old = flatMap (lineRun T) (upto (linesOf T)) ++ drop (linesOf T * 2) old
