@@ -1,15 +1,23 @@
--- Built lines (document 01, items 6 and 7): the line table as `compute_line_groups` writes it. Definitions only.
-use Prim.Native.Nat.{ℕ, _-_}
+-- Built lines (document 01, items 6 and 7): a line table as `compute_line_groups` writes it. Definitions only.
+use Prim.Native.Nat.{ℕ, _<_}
+use mathlib.Core.Path.{_≡_}
 use mathlib.Core.List.{List}
+use lib.ListN.{length, getD}
 use lib.Dec.{eqb}
 use Rattle.loops.specs.Iter.{firstIn, foundOr}
-use Rattle.tables.specs.declared.Counts.{Counts}
-use Rattle.lines.specs.Lines.{entryAt, lineFirst, lineOf}
+use Rattle.tables.specs.Timetable.{Timetable}
+use Rattle.lines.specs.Lines.{lineOf, linesOf, lineTrips}
+use Rattle.line_layout.specs.Layout.{LineTrips}
 
--- where trip a stands among the entries
-unfoldable pub entryOf : List ℕ → Counts → ℕ → ℕ
-entryOf t c a = foundOr (firstIn (λ p. eqb (entryAt t c p) a) 0 (c .trips)) (c .trips)
+-- each line lists its trips, in their order
+pub record AsBuilt (T : Timetable) (line : ℕ → LineTrips) : Type 0 where
+  pub count : (l : ℕ) → l < linesOf T → line l .count ≡ length (lineTrips T l)
+  pub trip : (l p : ℕ) → l < linesOf T → p < line l .count → line l .trip p ≡ getD (lineTrips T l) p 0
 
--- its place in its line
-unfoldable pub placeOf : List ℕ → Counts → ℕ → ℕ
-placeOf t c a = entryOf t c a - lineFirst t c (lineOf t c a)
+-- where a first stands in a list
+unfoldable pub placeIn : List ℕ → ℕ → ℕ
+placeIn l a = foundOr (firstIn (λ p. eqb (getD l p 0) a) 0 (length l)) (length l)
+
+-- trip a's place in its line
+abbrev pub placeOf : Timetable → ℕ → ℕ
+placeOf T a = placeIn (lineTrips T (lineOf T a)) a

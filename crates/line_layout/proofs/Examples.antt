@@ -9,7 +9,7 @@ use Rattle.loops.specs.Count.{tabFrom}
 use Rattle.tables.specs.declared.Counts.{Counts}
 use Rattle.tables.specs.Tables.{timeOf, tripOf, windowOf, edgeOf}
 use Rattle.tables.specs.Door.{countsOk, slicesOk, tripRuns, stopTimeNumbers, edgeNumbers, stopTimeRanges, tripRanges, windowRanges, edgeRanges, runsOk, numbersOk, rangesOk}
-use Rattle.line_layout.specs.Layout.{inOrder, neighbours, fifoRun, lastIn, positionIn, unlisted}
+use Rattle.line_layout.specs.Layout.{inOrder, neighbours, fifoLine, lastIn, positionIn, unlisted}
 use Rattle.line_layout.specs.Listed.{runIn, lineRunsOk, entriesOk}
 use Rattle.line_layout.specs.Call.{areas, sizesOk, verdict, outcome}
 
@@ -28,8 +28,8 @@ unfoldable pub trip : ℕ → ℕ → ℕ → List ℕ
 trip first count windows = first ∷ count ∷ 0 ∷ 0 ∷ 0 ∷ windows ∷ 1 ∷ 0 ∷ []
 
 -- T0, T1 with a first and a last stop time, T2 with how many windows; a window; the stops' cells
-unfoldable pub timetable : List ℕ → List ℕ → ℕ → List ℕ
-timetable first last windows =
+unfoldable pub table : List ℕ → List ℕ → ℕ → List ℕ
+table first last windows =
     (time 0 100 100 0 0 ++ time 1 200 210 0 0 ++ time 2 400 400 0 0)
     ++ (first ++ time 1 260 270 0 0 ++ last)
     ++ (time 1 320 320 0 0 ++ time 2 380 380 0 0)
@@ -41,7 +41,7 @@ unfoldable pub counts : Counts
 counts = record { stops = 3; trips = 3; times = 8; windows = 1; edges = 0 }
 
 unfoldable pub timetableK : List ℕ
-timetableK = timetable (time 0 160 160 0 0) (time 2 460 460 0 0) 0
+timetableK = table (time 0 160 160 0 0) (time 2 460 460 0 0) 0
 
 -- a case: timetable, how many lines and entries, runs, entries, positions and flags as they came; the answer, positions and flags at exit
 pub record Case : Type 0 where
@@ -92,17 +92,17 @@ unfoldable pub cases : List Case
 cases =
     -- K: both lines are FIFO; T1 ending 399/399 breaks the first
     laid timetableK 2 runsK 3 entriesK (0 ∷ 1 ∷ 0 ∷ []) (1 ∷ 1 ∷ [])
-    ∷ laid (timetable (time 0 160 160 0 0) (time 2 399 399 0 0) 0) 2 runsK 3 entriesK (0 ∷ 1 ∷ 0 ∷ []) (0 ∷ 1 ∷ [])
+    ∷ laid (table (time 0 160 160 0 0) (time 2 399 399 0 0) 0) 2 runsK 3 entriesK (0 ∷ 1 ∷ 0 ∷ []) (0 ∷ 1 ∷ [])
     -- arrival alone falls, departure alone falls, neither falls
-    ∷ laid (timetable (time 0 160 160 0 0) (time 2 399 400 0 0) 0) 2 runsK 3 entriesK (0 ∷ 1 ∷ 0 ∷ []) (0 ∷ 1 ∷ [])
-    ∷ laid (timetable (time 0 160 160 0 0) (time 2 400 399 0 0) 0) 2 runsK 3 entriesK (0 ∷ 1 ∷ 0 ∷ []) (0 ∷ 1 ∷ [])
-    ∷ laid (timetable (time 0 100 100 0 0) (time 2 400 400 0 0) 0) 2 runsK 3 entriesK (0 ∷ 1 ∷ 0 ∷ []) (1 ∷ 1 ∷ [])
+    ∷ laid (table (time 0 160 160 0 0) (time 2 399 400 0 0) 0) 2 runsK 3 entriesK (0 ∷ 1 ∷ 0 ∷ []) (0 ∷ 1 ∷ [])
+    ∷ laid (table (time 0 160 160 0 0) (time 2 400 399 0 0) 0) 2 runsK 3 entriesK (0 ∷ 1 ∷ 0 ∷ []) (0 ∷ 1 ∷ [])
+    ∷ laid (table (time 0 100 100 0 0) (time 2 400 400 0 0) 0) 2 runsK 3 entriesK (0 ∷ 1 ∷ 0 ∷ []) (1 ∷ 1 ∷ [])
     -- pickup, then drop-off, 0 against 2; another stop is not looked at
-    ∷ laid (timetable (time 0 160 160 2 0) (time 2 460 460 0 0) 0) 2 runsK 3 entriesK (0 ∷ 1 ∷ 0 ∷ []) (0 ∷ 1 ∷ [])
-    ∷ laid (timetable (time 0 160 160 0 0) (time 2 460 460 0 2) 0) 2 runsK 3 entriesK (0 ∷ 1 ∷ 0 ∷ []) (0 ∷ 1 ∷ [])
-    ∷ laid (timetable (time 2 160 160 0 0) (time 2 460 460 0 0) 0) 2 runsK 3 entriesK (0 ∷ 1 ∷ 0 ∷ []) (1 ∷ 1 ∷ [])
+    ∷ laid (table (time 0 160 160 2 0) (time 2 460 460 0 0) 0) 2 runsK 3 entriesK (0 ∷ 1 ∷ 0 ∷ []) (0 ∷ 1 ∷ [])
+    ∷ laid (table (time 0 160 160 0 0) (time 2 460 460 0 2) 0) 2 runsK 3 entriesK (0 ∷ 1 ∷ 0 ∷ []) (0 ∷ 1 ∷ [])
+    ∷ laid (table (time 2 160 160 0 0) (time 2 460 460 0 0) 0) 2 runsK 3 entriesK (0 ∷ 1 ∷ 0 ∷ []) (1 ∷ 1 ∷ [])
     -- one trip with windows; a line without trips, before and after the others
-    ∷ laid (timetable (time 0 160 160 0 0) (time 2 460 460 0 0) 1) 2 runsK 3 entriesK (0 ∷ 1 ∷ 0 ∷ []) (1 ∷ 0 ∷ [])
+    ∷ laid (table (time 0 160 160 0 0) (time 2 460 460 0 0) 1) 2 runsK 3 entriesK (0 ∷ 1 ∷ 0 ∷ []) (1 ∷ 0 ∷ [])
     ∷ laid timetableK 3 (3 ∷ 0 ∷ 0 ∷ 2 ∷ 2 ∷ 1 ∷ []) 3 entriesK (0 ∷ 1 ∷ 0 ∷ []) (1 ∷ 1 ∷ 1 ∷ [])
     ∷ laid timetableK 1 (0 ∷ 0 ∷ []) 0 [] (unlisted ∷ unlisted ∷ unlisted ∷ []) (1 ∷ [])
     -- different stop counts, and T1 in no list; T1 before T0
@@ -112,7 +112,7 @@ cases =
     ∷ laid timetableK 1 (0 ∷ 3 ∷ []) 3 (0 ∷ 1 ∷ 0 ∷ []) (2 ∷ 1 ∷ unlisted ∷ []) (0 ∷ [])
     ∷ laid timetableK 2 runsK 3 (0 ∷ 1 ∷ 1 ∷ []) (0 ∷ 0 ∷ unlisted ∷ []) (1 ∷ 1 ∷ [])
     ∷ laid timetableK 2 (1 ∷ 2 ∷ 0 ∷ 2 ∷ []) 3 (2 ∷ 2 ∷ 2 ∷ []) (unlisted ∷ unlisted ∷ 1 ∷ []) (1 ∷ 1 ∷ [])
-    ∷ laid (timetable (time 0 160 160 0 0) (time 2 460 460 0 0) 1) 1 (0 ∷ 2 ∷ []) 2 (2 ∷ 2 ∷ []) (unlisted ∷ unlisted ∷ 1 ∷ []) (0 ∷ [])
+    ∷ laid (table (time 0 160 160 0 0) (time 2 460 460 0 0) 1) 1 (0 ∷ 2 ∷ []) 2 (2 ∷ 2 ∷ []) (unlisted ∷ unlisted ∷ 1 ∷ []) (0 ∷ [])
     -- refused: 1 too many lines, too many entries
     ∷ refusal timetableK 4097 runsK 3 entriesK nines sevens 1
     ∷ refusal timetableK 2 runsK 4097 entriesK nines sevens 1
@@ -128,11 +128,11 @@ cases =
     ∷ refusal timetableK 2 (0 ∷ 2 ∷ 2 ∷ 2 ∷ []) 3 (0 ∷ 1 ∷ 3 ∷ []) nines sevens 3
     -- 4 a trip that is none, and before 5; 5 a time out of its range
     ∷ refusal timetableK 2 runsK 3 (0 ∷ 1 ∷ 3 ∷ []) nines sevens 4
-    ∷ refusal (timetable (time 0 160 160 0 0) (time 2 1048576 460 0 0) 0) 2 runsK 3 (0 ∷ 3 ∷ 2 ∷ []) nines sevens 4
-    ∷ refusal (timetable (time 0 160 160 0 0) (time 2 1048576 460 0 0) 0) 2 runsK 3 entriesK nines sevens 5
+    ∷ refusal (table (time 0 160 160 0 0) (time 2 1048576 460 0 0) 0) 2 runsK 3 (0 ∷ 3 ∷ 2 ∷ []) nines sevens 4
+    ∷ refusal (table (time 0 160 160 0 0) (time 2 1048576 460 0 0) 0) 2 runsK 3 entriesK nines sevens 5
     ∷ []
 
 -- every case is right
 pub worked : all cases ≡ true
-unfolding all cases right laid refusal timetableK timetable time trip counts runsK entriesK nines sevens same every tabFrom timeOf tripOf windowOf edgeOf countsOk slicesOk tripRuns stopTimeNumbers edgeNumbers stopTimeRanges tripRanges windowRanges edgeRanges runsOk numbersOk rangesOk inOrder neighbours fifoRun lastIn positionIn runIn lineRunsOk entriesOk sizesOk verdict
+unfolding all cases right laid refusal timetableK table time trip counts runsK entriesK nines sevens same every tabFrom timeOf tripOf windowOf edgeOf countsOk slicesOk tripRuns stopTimeNumbers edgeNumbers stopTimeRanges tripRanges windowRanges edgeRanges runsOk numbersOk rangesOk inOrder neighbours fifoLine lastIn positionIn runIn lineRunsOk entriesOk sizesOk verdict
 worked = refl

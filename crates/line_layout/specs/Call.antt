@@ -9,6 +9,7 @@ use Rattle.door.specs.Door.{ask}
 use Rattle.tables.specs.declared.Counts.{Counts}
 use Rattle.tables.specs.Door.{countsOk, slicesOk, runsOk, numbersOk, rangesOk}
 use Rattle.tables.specs.Sane.{Sane}
+use Rattle.tables.specs.Timetable.{timetable}
 use Rattle.line_layout.specs.Layout.{positionsOf, fifosOf}
 use Rattle.line_layout.specs.Listed.{lineRunsOk, entriesOk, LinesListed}
 
@@ -39,7 +40,7 @@ verdict t c lines n runs entries sizes =
 
 -- WHAT IS WRITTEN: every trip's position, every line's FIFO flag
 abbrev pub made : List ℕ → Counts → ℕ → List ℕ → List ℕ → Areas
-made t c lines runs entries = areas (positionsOf c lines runs entries) (fifosOf t c lines runs entries)
+made t c lines runs entries = areas (positionsOf c lines runs entries) (fifosOf (timetable t c) lines runs entries)
 
 -- THE OUTCOME: the answer and the slices at exit. A refusal leaves both slices as they came.
 pub record Outcome : Type 0 where

@@ -7,14 +7,15 @@
 // in its line, its position is its place there.
 // Assumes nothing.
 ghost use mathlib.Core.Path.{_≡_};
-ghost use Prim.Native.Nat.{_+_, _*_, _≤_, _<_};
+ghost use Prim.Native.Nat.{_+_, _*_, _-_, _≤_, _<_};
 ghost use lib.Dec.{eqb};
 ghost use lib.ListN.{length, getD, set};
 ghost use Rattle.loops.specs.Count.{tab, one};
 ghost use Rattle.loops.specs.Iter.{everyIn};
-ghost use Rattle.tables.specs.Tables.{windowsOf};
-ghost use Rattle.tables.specs.Sane.{CountsOk, Sane};
-ghost use Rattle.line_layout.specs.Layout.{runAt, tripAt, inOrder, inOrderAt, neighbours, neighboursAt, fifoRun, fifoOf, unlisted, placed, positionsOf, fifosOf};
+ghost use Rattle.tables.specs.Tables.{windowsOf, stopTimeAt};
+ghost use Rattle.tables.specs.Timetable.{timetable};
+ghost use Rattle.tables.specs.Sane.{Sane};
+ghost use Rattle.line_layout.specs.Layout.{runAt, tripsIn, inOrder, neighbours, fifoLine, fifoOf, unlisted, placed, positionsOf, fifosOf};
 ghost use Rattle.line_layout.specs.Listed.{runIn, lineRunsOk, entriesOk, EntriesListed, LinesListed};
 ghost use Rattle.line_layout.specs.Call.{areas, sizesOk, verdict, made, outcome, outcomeOf, Admitted};
 use tables::Counts;
@@ -89,8 +90,8 @@ fn clear_positions(positions: &mut [u32])
 
 // The trip at place p of a run has that position, until it is listed again.
 fn place_at(entries: &[u32], first: usize, positions: &mut [u32], p: usize)
-    requires { ⌜ first + p < length (now entries) ⌝ ∗ ⌜ tripAt (now entries) first p < length (now positions) ⌝ ∗ ⌜ p ≤ 4096 ⌝ }
-    ensures { λ _. ⌜ now (positions .exit) ≡ set (now (positions .entry)) (tripAt (now (entries .entry)) first p) p ⌝ }
+    requires { ⌜ first + p < length (now entries) ⌝ ∗ ⌜ getD (now entries) (first + p) 0 < length (now positions) ⌝ ∗ ⌜ p ≤ 4096 ⌝ }
+    ensures { λ _. ⌜ now (positions .exit) ≡ set (now (positions .entry)) (getD (now (entries .entry)) (first + p) 0) p ⌝ }
 {
     let trip = tables::field(entries, first + p);
     positions[trip] = p as u32;
@@ -99,7 +100,7 @@ fn place_at(entries: &[u32], first: usize, positions: &mut [u32], p: usize)
 // The trips of a run.
 fn place_run(c: Counts, entries: &[u32], positions: &mut [u32], r: LineRun)
     requires { ⌜ EntriesListed c (now entries) ⌝ ∗ ⌜ length (now positions) ≡ c .trips ⌝ ∗ ⌜ r .first + r .count ≤ length (now entries) ⌝ }
-    ensures { λ _. ⌜ now (positions .exit) ≡ tab (placed (now (entries .entry)) r (now (positions .entry))) (c .trips) ⌝ }
+    ensures { λ _. ⌜ now (positions .exit) ≡ tab (placed (tripsIn (now (entries .entry)) r) (now (positions .entry))) (c .trips) ⌝ }
 {
     let first = r.first;
     let n = r.count;
@@ -143,7 +144,7 @@ fn in_order(p: StopTimeRow, q: StopTimeRow) -> bool
 // Of n stop times from x on, against those from y on.
 fn times_in_order(t: &[u32], c: Counts, x: usize, y: usize, n: usize) -> bool
     requires { ⌜ Sane (now t) c ⌝ ∗ ⌜ x + n ≤ c .times ⌝ ∗ ⌜ y + n ≤ c .times ⌝ }
-    ensures { λ r. ⌜ r ≡ everyIn (inOrderAt (now (t .entry)) x y) 0 n ⌝ }
+    ensures { λ r. ⌜ r ≡ everyIn (λ k. inOrder (stopTimeAt (now (t .entry)) (x + k)) (stopTimeAt (now (t .entry)) (y + k))) 0 n ⌝ }
 {
     let mut k: usize = 0;
     while k < n {
@@ -168,7 +169,7 @@ fn no_windows(t: &[u32], c: Counts, a: usize) -> bool
 // May trip b stand after trip a in a FIFO line?
 fn neighbours_ok(t: &[u32], c: Counts, a: usize, b: usize) -> bool
     requires { ⌜ Sane (now t) c ⌝ ∗ ⌜ a < c .trips ⌝ ∗ ⌜ b < c .trips ⌝ }
-    ensures { λ r. ⌜ r ≡ neighbours (now (t .entry)) c a b ⌝ }
+    ensures { λ r. ⌜ r ≡ neighbours (timetable (now (t .entry)) c) a b ⌝ }
 {
     if !door::both(no_windows(t, c, a), no_windows(t, c, b)) {
         return false;
@@ -185,7 +186,7 @@ fn neighbours_ok(t: &[u32], c: Counts, a: usize, b: usize) -> bool
 // Of all neighbours of a run.
 fn run_in_order(t: &[u32], c: Counts, entries: &[u32], first: usize, n: usize) -> bool
     requires { ⌜ Sane (now t) c ⌝ ∗ ⌜ EntriesListed c (now entries) ⌝ ∗ ⌜ first + n ≤ length (now entries) ⌝ }
-    ensures { λ r. ⌜ r ≡ everyIn (neighboursAt (now (t .entry)) c (now (entries .entry)) first) 1 n ⌝ }
+    ensures { λ r. ⌜ r ≡ everyIn (λ p. neighbours (timetable (now (t .entry)) c) (getD (now (entries .entry)) (first + (p - 1)) 0) (getD (now (entries .entry)) (first + p) 0)) 1 n ⌝ }
 {
     let mut p: usize = 1;
     while p < n {
@@ -202,7 +203,7 @@ fn run_in_order(t: &[u32], c: Counts, entries: &[u32], first: usize, n: usize) -
 // Is a run FIFO?
 fn run_fifo(t: &[u32], c: Counts, entries: &[u32], r: LineRun) -> bool
     requires { ⌜ Sane (now t) c ⌝ ∗ ⌜ EntriesListed c (now entries) ⌝ ∗ ⌜ r .first + r .count ≤ length (now entries) ⌝ }
-    ensures { λ b. ⌜ b ≡ fifoRun (now (t .entry)) c (now (entries .entry)) r ⌝ }
+    ensures { λ b. ⌜ b ≡ fifoLine (timetable (now (t .entry)) c) (tripsIn (now (entries .entry)) r) ⌝ }
 {
     let first = r.first;
     let n = r.count;
@@ -224,7 +225,7 @@ fn flag(b: bool) -> u32
 // A line's FIFO flag.
 fn fifo_at(t: &[u32], c: Counts, lines: usize, runs: &[u32], entries: &[u32], l: usize) -> u32
     requires { ⌜ Sane (now t) c ⌝ ∗ ⌜ LinesListed c lines (now runs) (now entries) ⌝ ∗ ⌜ l < lines ⌝ }
-    ensures { λ r. ⌜ r ≡ fifoOf (now (t .entry)) c (now (runs .entry)) (now (entries .entry)) l ⌝ }
+    ensures { λ r. ⌜ r ≡ fifoOf (timetable (now (t .entry)) c) (now (runs .entry)) (now (entries .entry)) l ⌝ }
 {
     flag(run_fifo(t, c, entries, line_run(runs, l)))
 }
@@ -239,7 +240,7 @@ pub fn line_fifo(
     fifo: &mut [u32],
 )
     requires { ⌜ Sane (now t) c ⌝ ∗ ⌜ LinesListed c lines (now runs) (now entries) ⌝ ∗ ⌜ length (now fifo) ≡ lines ⌝ }
-    ensures { λ _. ⌜ now (fifo .exit) ≡ fifosOf (now (t .entry)) c lines (now (runs .entry)) (now (entries .entry)) ⌝ }
+    ensures { λ _. ⌜ now (fifo .exit) ≡ fifosOf (timetable (now (t .entry)) c) lines (now (runs .entry)) (now (entries .entry)) ⌝ }
 {
     let mut l: usize = 0;
     while l < fifo.len() {

@@ -1,5 +1,5 @@
 use Rattle.line_layout.specs.declared.LineRun.{LineRun}
-use Rattle.line_layout.specs.Layout.{placed, positionIn, unlisted}
+use Rattle.line_layout.specs.Layout.{lineAt, placed, positionIn, tripsIn, unlisted}
 use denote.Ref.{now}
 use Rattle.line_layout.proofs.Placing.{length-tab, positions-again, positions-none}
 use lib.ListN.{length}
@@ -11,13 +11,13 @@ use Rattle.line_layout.proofs.place_lines.Statement.{statement}
 use Rattle.line_layout.proofs.place_lines.Tie as tie
 
 abbrev Inv-loop : tie.InvT-loop
-Inv-loop c lines runs entries positions₀ l₀ positions l = (l ≤ lines) × (positions ≡ tab (positionIn runs entries l) (c .trips))
+Inv-loop c lines runs entries positions₀ l₀ positions l = (l ≤ lines) × (positions ≡ tab (positionIn (lineAt runs entries) l) (c .trips))
 
 abbrev μ-loop : tie.MeasureT-loop
 μ-loop c lines runs entries positions₀ l₀ positions l = lines - l
 
 loop-holds : tie.Need-loop-holds Inv-loop μ-loop
-loop-holds c = (omega arith, positions-none _ _ _ (c .before .before .before .pre .1))
+loop-holds c = (omega arith, positions-none _ _ (c .before .before .before .pre .1))
 
 line-run-requires : tie.Need-line-run-requires Inv-loop μ-loop
 line-run-requires c κs = omega (arith, c .before .before .before .before .before .before .pre .0 .size)
@@ -32,13 +32,13 @@ loop-less : tie.Need-loop-less Inv-loop μ-loop
 loop-less c = omega arith
 
 loop-again : tie.Need-loop-again Inv-loop μ-loop
-loop-again c = let s = c .before .before .before .before .before .before .before .before .before .before in (omega arith, positions-again _ _ _ _ (c .before .before .before .before .before .before .loop .inv .1) (c .before .before .place-run .ensures ∙ ap (λ (r : LineRun). tab (placed (now (s .args .entries)) r (c .before .before .before .before .before .before .loop .positions)) (s .args .c .trips)) (c .before .before .before .line-run .ensures .0)))
+loop-again c = let s = c .before .before .before .before .before .before .before .before .before .before in (omega arith, positions-again _ _ _ (c .before .before .before .before .before .before .loop .inv .1) (c .before .before .place-run .ensures ∙ ap (λ (r : LineRun). tab (placed (tripsIn (now (s .args .entries)) r) (c .before .before .before .before .before .before .loop .positions)) (s .args .c .trips)) (c .before .before .before .line-run .ensures .0)))
 
 same-length : tie.Need-same-length Inv-loop μ-loop
 same-length c = let s = c .before .before .before .before .before in let e : length (c .before .loop .positions) ≡ s .args .c .trips = ap length (c .before .loop .inv .1) ∙ length-tab _ _ in omega (arith, ap length (s .pre .1), length-tab (λ a. unlisted) (s .args .c .trips))
 
 returns : tie.Need-returns Inv-loop μ-loop
-returns c = let s = c .before .before .before .before .before in c .before .loop .inv .1 ∙ ap (λ (k : ℕ). tab (positionIn (now (s .args .runs)) (now (s .args .entries)) k) (s .args .c .trips)) (omega arith)
+returns c = let s = c .before .before .before .before .before in c .before .loop .inv .1 ∙ ap (λ (k : ℕ). tab (positionIn (lineAt (now (s .args .runs)) (now (s .args .entries))) k) (s .args .c .trips)) (omega arith)
 
 pub place-lines-spec : {M : Type 1} → statement M
 place-lines-spec =

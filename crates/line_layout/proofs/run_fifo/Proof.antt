@@ -1,6 +1,6 @@
 use borrow.Author.Needs.{needs}
 use borrow.Author.Tests.{ne-eqb}
-use Rattle.line_layout.specs.Layout.{fifoRun}
+use Rattle.line_layout.specs.Layout.{fifoLine}
 use Rattle.loops.specs.Iter.{every}
 use native.Mathlib.Omega.{arith}
 use mathlib.Core.Path.{_∙_}
@@ -9,7 +9,7 @@ use Rattle.line_layout.proofs.run_fifo.Statement.{statement}
 use Rattle.line_layout.proofs.run_fifo.Tie as tie
 
 returns : tie.Need-returns
-unfolding fifoRun every
+unfolding fifoLine every
 returns c = simp (c .if1 .taken)
 
 field-requires : tie.Need-field-requires
@@ -19,14 +19,14 @@ no-windows-requires : tie.Need-no-windows-requires
 no-windows-requires c κs = let s = c .before .before .before .before .before in (search needs, omega (arith, c .field .ensures .0, s .pre .1 .0 .trip (s .args .r .first) (omega arith)))
 
 returns-2 : tie.Need-returns-2
-unfolding fifoRun
+unfolding fifoLine
 returns-2 c = c .no-windows .ensures ∙ simp (c .before .field .ensures .0, c .before .before .if2 .taken, add-zero)
 
 run-in-order-requires : tie.Need-run-in-order-requires
 run-in-order-requires c κs = search needs
 
 returns-3 : tie.Need-returns-3
-unfolding fifoRun
+unfolding fifoLine
 returns-3 c = c .run-in-order .ensures ∙ simp (ne-eqb _ _ (c .before .if2 .left))
 
 pub run-fifo-spec : {M : Type 1} → statement M

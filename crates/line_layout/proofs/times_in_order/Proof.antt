@@ -1,16 +1,20 @@
 use borrow.Author.Tests.{not-false, not-true}
 use borrow.Author.Needs.{needs}
-use Rattle.line_layout.specs.Layout.{inOrder, inOrderAt}
+use Rattle.line_layout.specs.Layout.{inOrder}
 use Rattle.loops.specs.Iter.{everyIn}
 use Rattle.loops.proofs.Iter.{every-again, every-left, every-no}
 use native.Mathlib.Omega.{arith}
+use mathlib.Core.Bool.{Bool}
 use mathlib.Core.Path.{_∙_, _≡_, ap₂, refl, sym}
-use Prim.Native.Nat.{_-_}
+use Prim.Native.Nat.{_+_, _-_, ℕ}
+use Rattle.tables.specs.Tables.{stopTimeAt}
 use Rattle.line_layout.proofs.times_in_order.Statement.{statement}
 use Rattle.line_layout.proofs.times_in_order.Tie as tie
 
 abbrev Inv-loop : tie.InvT-loop
-Inv-loop t c x y n k₀ k = everyIn (inOrderAt t x y) 0 n ≡ everyIn (inOrderAt t x y) k n
+Inv-loop t c x y n k₀ k =
+    let f : ℕ → Bool = λ j. inOrder (stopTimeAt t (x + j)) (stopTimeAt t (y + j)) in
+    everyIn f 0 n ≡ everyIn f k n
 
 abbrev μ-loop : tie.MeasureT-loop
 μ-loop t c x y n k₀ k = n - k
