@@ -14,8 +14,7 @@ ghost use Rattle.clock.specs.Clock.{serviceSecond};
 ghost use Rattle.departures.specs.Call.{areas as departureAreas, outcomeOf as departureOutcomeOf, outcome as sortOutcome};
 ghost use Rattle.lines.specs.Call.{areas as lineAreas, outcome as linesOutcome};
 ghost use Rattle.line_layout.specs.Call.{areas as layoutAreas, outcomeOf as layoutOutcomeOf, outcome as layoutOutcome};
-ghost use Rattle.transfers.specs.Transfers.{input};
-ghost use Rattle.transfers.specs.Call.{areas as transferAreas, outcome as transfersOutcome};
+ghost use Rattle.transfers.specs.Call.{areas as transferAreas, lent, outcome as transfersOutcome};
 ghost use Rattle.exports.specs.Counts.{countsOf};
 ghost use Rattle.exports.specs.Shown.{shown, shownOf, shownTransfers, shownTransfersOf};
 use cell_bitset::CellBitSet;
@@ -439,7 +438,7 @@ pub extern "C" fn savoiky_compute_trip_transfers(
     area: &mut [u32],
     transfer_runs: &mut [u32],
 ) -> Answer
-    ensures { λ r. ⌜ shownTransfers r (transferAreas (now (area .exit)) (now («transfer_runs» .exit))) ≡ shownTransfersOf (transfersOutcome (input (now (tables .entry)) (countsOf stops trips times windows edges) «line_count» (now (lines .entry)) departures (now (runs .entry)) (now (rows .entry)) 120) (transferAreas (now (area .entry)) (now («transfer_runs» .entry)))) ⌝ }
+    ensures { λ r. ⌜ shownTransfers r (transferAreas (now (area .exit)) (now («transfer_runs» .exit))) ≡ shownTransfersOf (transfersOutcome (lent (now (tables .entry)) (countsOf stops trips times windows edges) «line_count» (now (lines .entry)) departures (now (runs .entry)) (now (rows .entry)) 120) (transferAreas (now (area .entry)) (now («transfer_runs» .entry)))) ⌝ }
 {
     let c = counts(stops, trips, times, windows, edges);
     match transfers::compute_trip_transfers(

@@ -13,8 +13,8 @@ use Rattle.tables.specs.declared.Counts.{Counts}
 use Rattle.tables.specs.Tables.{edgeOf, timeOf, tripOf, windowOf}
 use Rattle.tables.specs.Door.{countsOk, edgeNumbers, edgeRanges, numbersOk, rangesOk, runsOk, slicesOk, stopTimeNumbers, stopTimeRanges, tripRanges, tripRuns, windowRanges}
 use Rattle.departures.specs.Listed.{atStopsOk, listedOk, rowAtStop, rowNumbers, rowsOk, runIn, stopRowsOk, stopRunsOk}
-use Rattle.transfers.specs.Transfers.{Input, departuresOfLine, eventsBefore, eventsOf, firstNotBefore, input, runsFrom, transferTo, transfersOf, wordsOf}
-use Rattle.transfers.specs.Call.{answerOf, areaWith, areas, linesOk, outcome, question1, question2, question3, question4, question5, roomOk, settled, sizesOk, verdict}
+use Rattle.transfers.specs.Transfers.{departuresOfLine, eventsBefore, eventsOf, firstNotBefore, runsFrom, transferTo, transfersOf, wordsOf}
+use Rattle.transfers.specs.Call.{Lent, answerOf, areaWith, areas, lent, linesOk, outcome, question1, question2, question3, question4, question5, roomOk, settled, sizesOk, verdict}
 
 -- two lists of numbers are the same
 same : List ℕ → List ℕ → Bool
@@ -25,7 +25,7 @@ same (x ∷ xs) (y ∷ ys) = eqb x y && same xs ys
 
 -- what is handed in, and the answer and the slices that must come out
 pub record Case : Type 0 where
-  pub given : Input
+  pub given : Lent
   pub area : List ℕ
   pub transferRuns : List ℕ
   pub code : ℕ
@@ -56,8 +56,8 @@ countsK : Counts
 countsK = record { stops = 3; trips = 3; times = 8; windows = 0; edges = 0 }
 
 -- lines 0, 0, 1; the departures of stop 0 (T1, T0), of stop 1 (T2, T1, T0), of stop 2 none
-K : ℕ → ℕ → ℕ → Input
-K second dropOff time = input (tableK second dropOff) countsK 2 (0 ∷ 0 ∷ 1 ∷ []) 5 (0 ∷ 2 ∷ 2 ∷ 3 ∷ 5 ∷ 0 ∷ []) (1 ∷ 0 ∷ 0 ∷ 0 ∷ 2 ∷ 0 ∷ 1 ∷ 1 ∷ 0 ∷ 1 ∷ []) time
+K : ℕ → ℕ → ℕ → Lent
+K second dropOff time = lent (tableK second dropOff) countsK 2 (0 ∷ 0 ∷ 1 ∷ []) 5 (0 ∷ 2 ∷ 2 ∷ 3 ∷ 5 ∷ 0 ∷ []) (1 ∷ 0 ∷ 0 ∷ 0 ∷ 2 ∷ 0 ∷ 1 ∷ 1 ∷ 0 ∷ 1 ∷ []) time
 
 -- sixteen words, all 9; and no transfer in eight events, the first transfer in the second event
 nines : List ℕ
@@ -80,12 +80,12 @@ tableL =
     ∷ 0 ∷ 2 ∷ 0 ∷ 0 ∷ 0 ∷ 0 ∷ 1 ∷ 0 ∷ 2 ∷ 2 ∷ 0 ∷ 0 ∷ 0 ∷ 0 ∷ 1 ∷ 0 ∷ 4 ∷ 2 ∷ 0 ∷ 0 ∷ 0 ∷ 0 ∷ 1 ∷ 0
     ∷ 0 ∷ 0 ∷ []
 
-L : Input
-L = input tableL (record { stops = 2; trips = 3; times = 6; windows = 0; edges = 0 }) 2 (1 ∷ 1 ∷ 0 ∷ []) 3 (0 ∷ 0 ∷ 0 ∷ 3 ∷ []) (2 ∷ 1 ∷ 1 ∷ 1 ∷ 0 ∷ 1 ∷ []) 120
+L : Lent
+L = lent tableL (record { stops = 2; trips = 3; times = 6; windows = 0; edges = 0 }) 2 (1 ∷ 1 ∷ 0 ∷ []) 3 (0 ∷ 0 ∷ 0 ∷ 3 ∷ []) (2 ∷ 1 ∷ 1 ∷ 1 ∷ 0 ∷ 1 ∷ []) 120
 
 -- the same with one line: T1 and T2 depart at 240, T2 listed first; from 231 on it is T2, also for T0 were it not T0's own
-oneLine : Input
-oneLine = input tableL (record { stops = 2; trips = 3; times = 6; windows = 0; edges = 0 }) 1 (0 ∷ 0 ∷ 0 ∷ []) 3 (0 ∷ 0 ∷ 0 ∷ 3 ∷ []) (2 ∷ 1 ∷ 1 ∷ 1 ∷ 0 ∷ 1 ∷ []) 121
+oneLine : Lent
+oneLine = lent tableL (record { stops = 2; trips = 3; times = 6; windows = 0; edges = 0 }) 1 (0 ∷ 0 ∷ 0 ∷ []) 3 (0 ∷ 0 ∷ 0 ∷ 3 ∷ []) (2 ∷ 1 ∷ 1 ∷ 1 ∷ 0 ∷ 1 ∷ []) 121
 
 twelve : List ℕ
 twelve = 9 ∷ 9 ∷ 9 ∷ 9 ∷ 9 ∷ 9 ∷ 9 ∷ 9 ∷ 9 ∷ 9 ∷ 9 ∷ 9 ∷ []

@@ -8,7 +8,8 @@ use native.Mathlib.Omega.{arith}
 use native.Mathlib.Numerals.{add-one}
 use lib.ListN.{length, getD}
 use Rattle.tables.specs.declared.Counts.{Counts}
-use Rattle.tables.specs.Tables.{countOf, firstOf, timeOf}
+use Rattle.tables.specs.Tables.{firstOf, timeOf}
+use Rattle.tables.specs.Timetable.{Timetable, timetable}
 use Rattle.tables.specs.Sane.{Sane}
 use Rattle.departures.specs.declared.DepartureRow.{DepartureRow}
 use Rattle.departures.specs.Departures.{rowDeparture}
@@ -22,7 +23,7 @@ use Rattle.transfers.specs.Packed.{packLine, lineX, depX}
 pub record Fits (t : List ℕ) (c : Counts) (r : DepartureRow) : Type 0 where
   pub trip : r .trip < 4096
   pub offset : r .offset < 65536
-  pub departure : rowDeparture t c r ≤ 1048575
+  pub departure : rowDeparture (timetable t c) r ≤ 1048575
 
 pub row-fits : (t : List ℕ) (c : Counts) (r : DepartureRow) → Sane t c → RowKnown t c r → Fits t c r
 row-fits t c r s k =
@@ -33,19 +34,19 @@ row-fits t c r s k =
     }
 
 -- its departure as the code reads it
-pub departure-is : (t : List ℕ) (c : Counts) (r : DepartureRow) (first x : ℕ) → first ≡ firstOf t c (r .trip) → x ≡ timeOf t (first + r .offset) 2 → x ≡ rowDeparture t c r
+pub departure-is : (t : List ℕ) (c : Counts) (r : DepartureRow) (first x : ℕ) → first ≡ firstOf t c (r .trip) → x ≡ timeOf t (first + r .offset) 2 → x ≡ rowDeparture (timetable t c) r
 departure-is t c r first x e f = f ∙ ap (λ (n : ℕ). timeOf t (n + r .offset) 2) e
 
 -- what the code adds up
-pub pack-is : (t : List ℕ) (c : Counts) (lines : List ℕ) (r : DepartureRow) (line dep : ℕ) → line ≡ getD lines (r .trip) 0 → dep ≡ rowDeparture t c r → Fits t c r
+pub pack-is : (t : List ℕ) (c : Counts) (lines : List ℕ) (r : DepartureRow) (line dep : ℕ) → line ≡ getD lines (r .trip) 0 → dep ≡ rowDeparture (timetable t c) r → Fits t c r
     → (line * 1048576 + dep) * 4294967296 + r .trip * 65536 + r .offset ≡ packLine t c lines r
 unfolding packLine
 pack-is t c lines r line dep e f h = omega (arith, h .trip, h .offset)
 
 -- how many stop events
-pub events-step : (t : List ℕ) (c : Counts) (i : ℕ) → eventsBefore t c (i + 1) ≡ eventsBefore t c i + countOf t c i
+pub events-step : (T : Timetable) (i : ℕ) → eventsBefore T (i + 1) ≡ eventsBefore T i + T .trip i .count
 unfolding eventsBefore
-events-step t c i = rw add-one
+events-step T i = rw add-one
 
 pub all-of-them : (n i m : ℕ) → n ≡ m → i ≤ n → n ≤ i → i ≡ m
 all-of-them n i m e u v = omega arith
@@ -56,7 +57,7 @@ module _ (t : List ℕ) (c : Counts) (lines : List ℕ) (r : DepartureRow) (h : 
   unfolding lineX packLine
   pack-line = omega (arith, h .departure)
 
-  pub pack-departure : depX (packLine t c lines r) ≡ rowDeparture t c r
+  pub pack-departure : depX (packLine t c lines r) ≡ rowDeparture (timetable t c) r
   unfolding depX packLine
   pack-departure = omega (arith, h .departure)
 

@@ -19,27 +19,26 @@ use Rattle.departures.proofs.Flat.{listed-slice}
 use Rattle.departures.proofs.Laws.{stops-apart}
 use Rattle.departures.proofs.Parts.{part-row, stop-known}
 use Rattle.departures.proofs.Sorting.{all-tab}
-use Rattle.transfers.specs.Transfers.{Input, lineOf}
 use Rattle.transfers.specs.Packed.{Keys, SortedRuns, lineX, packLine, packedAt}
-use Rattle.transfers.specs.Call.{Admitted}
+use Rattle.transfers.specs.Call.{Admitted, Lent, inputOf}
 use Rattle.transfers.proofs.Lists.{all-imp, all-map, map-slice, rising-at}
 use Rattle.transfers.proofs.Packing.{Fits, pack-line, row-fits}
 
-abbrev pub packOf : Input → DepartureRow → ℕ
+abbrev pub packOf : Lent → DepartureRow → ℕ
 packOf x = packLine (x .t) (x .c) (x .lines)
 
-abbrev pub numbersOf : Input → List ℕ
+abbrev pub numbersOf : Lent → List ℕ
 numbersOf x = tab (packedAt (x .t) (x .c) (x .lines) (x .rows)) (x .d)
 
-abbrev pub workOf : Input → List ℕ
+abbrev pub workOf : Lent → List ℕ
 workOf x = sortStops hi (x .runs) (x .c .stops) (numbersOf x)
 
 -- what is known of a listed row
-pub record RowFits (x : Input) (r : DepartureRow) : Type 0 where
+pub record RowFits (x : Lent) (r : DepartureRow) : Type 0 where
   pub fits : Fits (x .t) (x .c) r
-  pub line : lineOf x (r .trip) < x .lineCount
+  pub line : inputOf x .lineOf (r .trip) < x .lineCount
 
-module _ (x : Input) (n : ℕ) (a : Admitted x n) where
+module _ (x : Lent) (n : ℕ) (a : Admitted x n) where
   size : length (numbersOf x) ≡ x .d
   size = length-tabFrom (packedAt (x .t) (x .c) (x .lines) (x .rows)) 0 (x .d)
 

@@ -15,22 +15,21 @@ use Rattle.sorts.specs.Sort.{hi, within}
 use Rattle.sorts.specs.Orders.{All, cons, nil}
 use Rattle.sorts.proofs.Orders.{sort-all}
 use Rattle.sorts.proofs.Within.{within-whole}
-use Rattle.tables.specs.declared.Counts.{Counts}
-use Rattle.tables.specs.Tables.{countOf}
+use Rattle.tables.specs.Timetable.{Timetable}
 use Rattle.departures.specs.declared.DepartureRow.{DepartureRow}
 use Rattle.departures.specs.Departures.{sortStops}
 use Rattle.transfers.specs.declared.Built.the-variants.{Refused, Rows}
-use Rattle.transfers.specs.Transfers.{Input, allTransfers, eventsBefore, eventsOf, runsFrom, transfersOf, wordsOf}
+use Rattle.transfers.specs.Transfers.{Input, allTransfers, builtTransfers, eventsBefore, eventsOf, runsFrom, transferOf, wordsOf}
 use Rattle.transfers.specs.Packed.{Laid, Prepared, SortedRuns, Walk, allKeys, laid, lay, layEvents, prepared, settledKeys, walk, walkAreas}
-use Rattle.transfers.specs.Call.{Admitted, Areas, Outcome, areaWith, areas, outcomeOf, roomOk, settled, written}
+use Rattle.transfers.specs.Call.{Admitted, Areas, Lent, Outcome, areaWith, areas, inputOf, outcomeOf, roomOk, settled, written}
 use Rattle.transfers.proofs.Lists.{all-flatten, flatten-map, length-map, within-is}
 use Rattle.transfers.proofs.Laying.{events-laid, events-runs, keyWords, lay-area}
 use Rattle.transfers.proofs.Packing.{pack-offset, pack-trip}
 use Rattle.transfers.proofs.Runs.{RowFits, numbersOf, packOf, sorted-runs}
-use Rattle.transfers.proofs.Meaning.{all-keys, preparedOf, transfers-fit}
+use Rattle.transfers.proofs.Meaning.{all-keys, events-are, preparedOf, rowEvents, all-are, transfers-fit}
 
 -- the words and the runs of numbers
-words-are : (x : Input) (l : List DepartureRow) → All (RowFits x) l → keyWords (x .time) (map (packOf x) l) ≡ wordsOf (x .time) l
+words-are : (x : Lent) (l : List DepartureRow) → All (RowFits x) l → keyWords (x .time) (map (packOf x) l) ≡ wordsOf (map (transferOf (x .time)) l)
 unfolding keyWords wordsOf
 words-are x [] nil = refl
 words-are x (r ∷ l) (cons k a) =
@@ -44,23 +43,23 @@ runs-are f n (x ∷ l) =
     ap₂ (λ (m : ℕ) (r : List ℕ). n ∷ m ∷ r) (length-map f x) (ap (λ (m : ℕ). runsFrom (n + m) (map (map f) l)) (length-map f x) ∙ runs-are f (n + length x) l)
 
 -- how many events there are
-events-counted : {A : Type 0} (t : List ℕ) (c : Counts) (f : ℕ → ℕ → A) (i n : ℕ) → length (flatten (tabFrom (λ k. tab (f k) (countOf t c k)) i n)) + eventsBefore t c i ≡ eventsBefore t c (i + n)
+events-counted : {A : Type 0} (T : Timetable) (f : ℕ → ℕ → A) (i n : ℕ) → length (flatten (tabFrom (λ k. tab (f k) (T .trip k .count)) i n)) + eventsBefore T i ≡ eventsBefore T (i + n)
 unfolding flatten tabFrom eventsBefore
-events-counted t c f i zero =
+events-counted T f i zero =
     let e : i ≡ i + 0 = omega arith in
-    let q = ap (eventsBefore t c) e in
+    let q = ap (eventsBefore T) e in
     omega arith
-events-counted t c f i (suc n) =
+events-counted T f i (suc n) =
     let e : suc i + n ≡ i + suc n = omega arith in
-    let q = ap (eventsBefore t c) e in
-    omega (arith, events-counted t c f (suc i) n, length-append (tab (f i) (countOf t c i)) (flatten (tabFrom (λ k. tab (f k) (countOf t c k)) (suc i) n)), length-tabFrom (f i) 0 (countOf t c i), q)
+    let q = ap (eventsBefore T) e in
+    omega (arith, events-counted T f (suc i) n, length-append (tab (f i) (T .trip i .count)) (flatten (tabFrom (λ k. tab (f k) (T .trip k .count)) (suc i) n)), length-tabFrom (f i) 0 (T .trip i .count), q)
 
-pub events-length : (x : Input) → length (eventsOf x) ≡ eventsBefore (x .t) (x .c) (x .c .trips)
+pub events-length : (y : Input) → length (eventsOf y) ≡ eventsBefore (y .timetable) (y .timetable .trips)
 unfolding eventsOf eventsBefore
-events-length x =
-    let e : 0 + x .c .trips ≡ x .c .trips = omega arith in
-    let q = ap (eventsBefore (x .t) (x .c)) e in
-    omega (arith, events-counted (x .t) (x .c) (transfersOf x) 0 (x .c .trips), q)
+events-length y =
+    let e : 0 + y .timetable .trips ≡ y .timetable .trips = omega arith in
+    let q = ap (eventsBefore (y .timetable)) e in
+    omega (arith, events-counted (y .timetable) (builtTransfers y) 0 (y .timetable .trips), q)
 
 -- question 7, asked of the count that stops at 65,537
 room-capped : (n area : ℕ) → roomOk (min n 65537) area ≡ roomOk n area
@@ -83,42 +82,45 @@ unfolding roomOk
 room-yes n area h = record { few = leb-true n 65536 (and-left (leb n 65536) (leb (n * 4) area) h); space = leb-true (n * 4) area (and-right (leb n 65536) (leb (n * 4) area) h) }
 
 -- THE OUTCOME of an admitted call
-module _ (x : Input) (s : Areas) (a : Admitted x (length (s .transferRuns))) where
-  keys : allKeys (preparedOf x) ≡ map (map (packOf x)) (eventsOf x)
+module _ (x : Lent) (s : Areas) (a : Admitted x (length (s .transferRuns))) where
+  keys : allKeys (preparedOf x) ≡ map (map (packOf x)) (rowEvents (inputOf x))
   keys = all-keys x (length (s .transferRuns)) a
 
-  rows : flatten (allKeys (preparedOf x)) ≡ map (packOf x) (allTransfers x)
-  rows = ap flatten keys ∙ flatten-map (packOf x) (eventsOf x)
+  rows : flatten (allKeys (preparedOf x)) ≡ map (packOf x) (flatten (rowEvents (inputOf x)))
+  rows = ap flatten keys ∙ flatten-map (packOf x) (rowEvents (inputOf x))
 
-  counted : length (flatten (allKeys (preparedOf x))) ≡ length (allTransfers x)
-  counted = ap length rows ∙ length-map (packOf x) (allTransfers x)
+  counted : length (flatten (allKeys (preparedOf x))) ≡ length (allTransfers (inputOf x))
+  counted =
+      ap length rows ∙ length-map (packOf x) (flatten (rowEvents (inputOf x)))
+      ∙ sym (ap length (all-are (inputOf x)) ∙ length-map (transferOf (x .time)) (flatten (rowEvents (inputOf x))))
 
   events : length (allKeys (preparedOf x)) * 2 ≡ length (s .transferRuns)
-  events = omega (arith, ap length keys ∙ length-map (map (packOf x)) (eventsOf x), events-length x, a .events)
+  events =
+      omega (arith, ap length keys ∙ length-map (map (packOf x)) (rowEvents (inputOf x)), ap length (events-are (inputOf x)) ∙ length-map (map (transferOf (x .time))) (rowEvents (inputOf x)), events-length (inputOf x), a .events)
 
-  area-is : length (allTransfers x) ≤ 65536 → length (allTransfers x) * 4 ≤ length (s .area) → layEvents (x .time) 0 (allKeys (preparedOf x)) (walk 0 (s .area) (s .transferRuns)) .area ≡ areaWith x (s .area)
+  area-is : length (allTransfers (inputOf x)) ≤ 65536 → length (allTransfers (inputOf x)) * 4 ≤ length (s .area) → layEvents (x .time) 0 (allKeys (preparedOf x)) (walk 0 (s .area) (s .transferRuns)) .area ≡ areaWith (inputOf x) (s .area)
   unfolding areaWith
   area-is few room =
-      let e : (0 + length (flatten (allKeys (preparedOf x)))) * 4 ≡ length (allTransfers x) * 4 = omega (arith, counted) in
+      let e : (0 + length (flatten (allKeys (preparedOf x)))) * 4 ≡ length (allTransfers (inputOf x)) * 4 = omega (arith, counted) in
       ap (λ (w : Laid). w .area)
       (events-laid (x .time) 0 (allKeys (preparedOf x)) (walk 0 (s .area) (s .transferRuns))
       ∙ lay-area (x .time) (flatten (allKeys (preparedOf x))) 0 (s .area) (omega (arith, counted)) (omega (arith, counted)))
       ∙ within-is (0 * 4) ((0 + length (flatten (allKeys (preparedOf x)))) * 4) (keyWords (x .time) (flatten (allKeys (preparedOf x)))) (s .area)
       ∙ ap₂ (λ (l : List ℕ) (m : ℕ). l ++ drop m (s .area))
-      (ap (keyWords (x .time)) rows ∙ words-are x (allTransfers x) (transfers-fit x (length (s .transferRuns)) a)) e
+      (ap (keyWords (x .time)) rows ∙ words-are x (flatten (rowEvents (inputOf x))) (transfers-fit x (length (s .transferRuns)) a) ∙ ap wordsOf (sym (all-are (inputOf x)))) e
 
-  runs-is : length (allTransfers x) ≤ 65536 → layEvents (x .time) 0 (allKeys (preparedOf x)) (walk 0 (s .area) (s .transferRuns)) .evs ≡ runsFrom 0 (eventsOf x)
+  runs-is : length (allTransfers (inputOf x)) ≤ 65536 → layEvents (x .time) 0 (allKeys (preparedOf x)) (walk 0 (s .area) (s .transferRuns)) .evs ≡ runsFrom 0 (eventsOf (inputOf x))
   runs-is few =
       events-runs (x .time) 0 (allKeys (preparedOf x)) (walk 0 (s .area) (s .transferRuns)) (omega (arith, counted)) (omega (arith, events))
       ∙ within-whole ((0 + length (allKeys (preparedOf x))) * 2) (runsFrom 0 (allKeys (preparedOf x))) (s .transferRuns) (omega (arith, events))
-      ∙ ap (runsFrom 0) keys ∙ runs-are (packOf x) 0 (eventsOf x)
+      ∙ ap (runsFrom 0) keys ∙ runs-are (packOf x) 0 (rowEvents (inputOf x)) ∙ sym (ap (runsFrom 0) (events-are (inputOf x)) ∙ runs-are (transferOf (x .time)) 0 (rowEvents (inputOf x)))
 
-  pub settled-is : settledKeys (preparedOf x) s ≡ settled x s
+  pub settled-is : settledKeys (preparedOf x) s ≡ settled (inputOf x) s
   unfolding settledKeys settled
-  settled-is = go (roomOk (length (allTransfers x)) (length (s .area))) refl
+  settled-is = go (roomOk (length (allTransfers (inputOf x))) (length (s .area))) refl
     where
-      asked : roomOk (min (length (flatten (allKeys (preparedOf x)))) 65537) (length (s .area)) ≡ roomOk (length (allTransfers x)) (length (s .area))
-      asked = ap (λ (n : ℕ). roomOk (min n 65537) (length (s .area))) counted ∙ room-capped (length (allTransfers x)) (length (s .area))
+      asked : roomOk (min (length (flatten (allKeys (preparedOf x)))) 65537) (length (s .area)) ≡ roomOk (length (allTransfers (inputOf x))) (length (s .area))
+      asked = ap (λ (n : ℕ). roomOk (min n 65537) (length (s .area))) counted ∙ room-capped (length (allTransfers (inputOf x))) (length (s .area))
 
       keyed : Bool → Outcome
       keyed b =
@@ -127,12 +129,12 @@ module _ (x : Input) (s : Areas) (a : Admitted x (length (s .transferRuns))) whe
           (outcomeOf (Refused 7) s)
 
       defined : Bool → Outcome
-      defined b = cond b (outcomeOf (Rows (length (allTransfers x))) (written x s)) (outcomeOf (Refused 7) s)
+      defined b = cond b (outcomeOf (Rows (length (allTransfers (inputOf x)))) (written (inputOf x) s)) (outcomeOf (Refused 7) s)
 
-      go : (b : Bool) → roomOk (length (allTransfers x)) (length (s .area)) ≡ b → settledKeys (preparedOf x) s ≡ settled x s
+      go : (b : Bool) → roomOk (length (allTransfers (inputOf x))) (length (s .area)) ≡ b → settledKeys (preparedOf x) s ≡ settled (inputOf x) s
       go true e =
-          let r = room-yes (length (allTransfers x)) (length (s .area)) e in
-          let n : min (length (flatten (allKeys (preparedOf x)))) 65537 ≡ length (allTransfers x) = omega (arith, counted, r .few) in
+          let r = room-yes (length (allTransfers (inputOf x))) (length (s .area)) e in
+          let n : min (length (flatten (allKeys (preparedOf x)))) 65537 ≡ length (allTransfers (inputOf x)) = omega (arith, counted, r .few) in
           ap keyed (asked ∙ e)
           ∙ ap₂ outcomeOf (ap Rows n) (ap₂ areas (area-is (r .few) (r .space)) (runs-is (r .few)))
           ∙ sym (ap defined e)
@@ -153,10 +155,10 @@ settle-yes p s n m b a' v' e f g h =
     ap₂ (λ (k : ℕ) (w : Walk). outcomeOf (Rows k) (walkAreas w)) e h ∙ simp z
 
 -- the same, of the numbers as the code leaves them
-pub sorted-with : (x : Input) (n : ℕ) → Admitted x n → (u w : List ℕ) → u ≡ numbersOf x → w ≡ sortStops hi (x .runs) (x .c .stops) u → SortedRuns (x .c) (x .runs) w (x .d)
+pub sorted-with : (x : Lent) (n : ℕ) → Admitted x n → (u w : List ℕ) → u ≡ numbersOf x → w ≡ sortStops hi (x .runs) (x .c .stops) u → SortedRuns (x .c) (x .runs) w (x .d)
 sorted-with x n a u w p q = rw (q ∙ ap (sortStops hi (x .runs) (x .c .stops)) p) (sorted-runs x n a)
 
-pub settled-with : (x : Input) (s : Areas) → Admitted x (length (s .transferRuns)) → (u w : List ℕ) → u ≡ numbersOf x → w ≡ sortStops hi (x .runs) (x .c .stops) u
-    → settledKeys (prepared (x .t) (x .c) (x .runs) w (x .time)) s ≡ settled x s
+pub settled-with : (x : Lent) (s : Areas) → Admitted x (length (s .transferRuns)) → (u w : List ℕ) → u ≡ numbersOf x → w ≡ sortStops hi (x .runs) (x .c .stops) u
+    → settledKeys (prepared (x .t) (x .c) (x .runs) w (x .time)) s ≡ settled (inputOf x) s
 settled-with x s a u w p q =
     ap (λ (v : List ℕ). settledKeys (prepared (x .t) (x .c) (x .runs) v (x .time)) s) (q ∙ ap (sortStops hi (x .runs) (x .c .stops)) p) ∙ settled-is x s a

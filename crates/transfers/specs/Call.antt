@@ -9,12 +9,34 @@ use Rattle.loops.specs.Iter.{everyIn}
 use Rattle.door.specs.declared.Answer.{Answer}
 use Rattle.door.specs.Door.{ask, refusal, success}
 use Rattle.tables.specs.declared.Counts.{Counts}
+use Rattle.tables.specs.Timetable.{timetable}
 use Rattle.tables.specs.Door.{countsOk, slicesOk, runsOk, numbersOk, rangesOk}
 use Rattle.tables.specs.Sane.{Sane}
+use Rattle.departures.specs.Departures.{listedAt}
 use Rattle.departures.specs.Listed.{stopRunsOk, listedOk, RowsListed}
 use Rattle.transfers.specs.declared.Built.{Built}
 use Rattle.transfers.specs.declared.Built.the-variants.{Refused, Rows}
-use Rattle.transfers.specs.Transfers.{Input, lineOf, allTransfers, eventsOf, eventsBefore, wordsOf, runsFrom}
+use Rattle.transfers.specs.Transfers.{Input, allTransfers, eventsOf, eventsBefore, wordsOf, runsFrom}
+
+-- what is lent: the timetable and its counts, each trip's line and how many lines there are, the listed departures
+-- (a run for each stop, d rows), and the transfer time in seconds
+pub record Lent : Type 0 where
+  pub t : List ℕ
+  pub c : Counts
+  pub lineCount : ℕ
+  pub lines : List ℕ
+  pub d : ℕ
+  pub runs : List ℕ
+  pub rows : List ℕ
+  pub time : ℕ
+
+abbrev pub lent : List ℕ → Counts → ℕ → List ℕ → ℕ → List ℕ → List ℕ → ℕ → Lent
+lent t c n lines d runs rows time = record { t = t; c = c; lineCount = n; lines = lines; d = d; runs = runs; rows = rows; time = time }
+
+-- what it says
+abbrev pub inputOf : Lent → Input
+inputOf x =
+    record { timetable = timetable (x .t) (x .c); lines = x .lineCount; lineOf = λ i. getD (x .lines) i 0; listed = listedAt (x .runs) (x .rows); time = x .time }
 
 -- the answer as document 01 numbers it: the question answered no, or 0 and how many transfers were written
 abbrev pub answerOf : Built → Answer
@@ -32,35 +54,35 @@ areas a b = record { area = a; transferRuns = b }
 -- 2: is every lent slice exactly as long as the counts say? (The area may have any length.)
 unfoldable pub sizesOk : List ℕ → Counts → ℕ → ℕ → ℕ → ℕ → ℕ → Bool
 sizesOk t c d lines runs rows transferRuns =
-    (eqb lines (c .trips) && eqb runs (c .stops * 2)) && (eqb rows (d * 2) && eqb transferRuns (eventsBefore t c (c .trips) * 2))
+    (eqb lines (c .trips) && eqb runs (c .stops * 2)) && (eqb rows (d * 2) && eqb transferRuns (eventsBefore (timetable t c) (c .trips) * 2))
 
 -- 4: is each trip's line below the count?
 unfoldable pub linesOk : List ℕ → ℕ → ℕ → Bool
 linesOk lines trips lineCount = everyIn (λ i. ltb (getD lines i 0) lineCount) 0 trips
 
 -- THE QUESTIONS. 1: are all counts within the limits?
-unfoldable pub question1 : Input → Bool
+unfoldable pub question1 : Lent → Bool
 question1 x = countsOk (x .c) && (leb (x .lineCount) 4096 && leb (x .d) 65536)
 
 -- 2: the timetable's own slice, and the others
-unfoldable pub question2 : Input → ℕ → Bool
+unfoldable pub question2 : Lent → ℕ → Bool
 question2 x transferRuns =
     slicesOk (x .t) (x .c) && sizesOk (x .t) (x .c) (x .d) (length (x .lines)) (length (x .runs)) (length (x .rows)) transferRuns
 
 -- 3: has every trip a stop time, and do all runs lie in their tables?
-unfoldable pub question3 : Input → Bool
+unfoldable pub question3 : Lent → Bool
 question3 x = runsOk (x .t) (x .c) && stopRunsOk (x .runs) (x .c) (x .d)
 
 -- 4: is every stop, trip and line number below its count, and each departure's stop time its trip's and at its stop?
-unfoldable pub question4 : Input → Bool
+unfoldable pub question4 : Lent → Bool
 question4 x = numbersOk (x .t) (x .c) && (linesOk (x .lines) (x .c .trips) (x .lineCount) && listedOk (x .t) (x .c) (x .runs) (x .rows) (x .d))
 
 -- 5: is every time and code in its range? The transfer time is at most 3,600.
-unfoldable pub question5 : Input → Bool
+unfoldable pub question5 : Lent → Bool
 question5 x = rangesOk (x .t) (x .c) && leb (x .time) 3600
 
 -- the number of the first that is answered no, or 0
-unfoldable pub verdict : Input → ℕ → ℕ
+unfoldable pub verdict : Lent → ℕ → ℕ
 verdict x transferRuns = ask 1 (question1 x) (ask 2 (question2 x transferRuns) (ask 3 (question3 x) (ask 4 (question4 x) (ask 5 (question5 x) 0))))
 
 -- 7: are there at most 65,536, and does the area hold all of them?
@@ -69,7 +91,7 @@ roomOk n area = leb n 65536 && leb (n * 4) area
 
 -- WHAT IS WRITTEN: the transfers' words, past which the area keeps its own, and every event's run
 unfoldable pub areaWith : Input → List ℕ → List ℕ
-areaWith x area = wordsOf (x .time) (allTransfers x) ++ drop (length (allTransfers x) * 4) area
+areaWith x area = wordsOf (allTransfers x) ++ drop (length (allTransfers x) * 4) area
 
 abbrev pub written : Input → Areas → Areas
 written x s = areas (areaWith x (s .area)) (runsFrom 0 (eventsOf x))
@@ -92,8 +114,8 @@ abbrev pub settle : ℕ → Input → Areas → Outcome
 settle zero x s = settled x s
 settle (suc n) x s = outcomeOf (Refused (suc n)) s
 
-abbrev pub outcome : Input → Areas → Outcome
-outcome x s = settle (verdict x (length (s .transferRuns))) x s
+abbrev pub outcome : Lent → Areas → Outcome
+outcome x s = settle (verdict x (length (s .transferRuns))) (inputOf x) s
 
 -- what the questions 1 to 5 give where all are answered yes
 pub record LinesBelow (lines : List ℕ) (trips lineCount : ℕ) : Type 0 where
@@ -101,9 +123,9 @@ pub record LinesBelow (lines : List ℕ) (trips lineCount : ℕ) : Type 0 where
   pub few : lineCount ≤ 4096
   pub line : (i : ℕ) → i < trips → getD lines i 0 < lineCount
 
-pub record Admitted (x : Input) (transferRuns : ℕ) : Type 0 where
+pub record Admitted (x : Lent) (transferRuns : ℕ) : Type 0 where
   pub sane : Sane (x .t) (x .c)
   pub listed : RowsListed (x .t) (x .c) (x .runs) (x .rows) (x .d)
   pub lines : LinesBelow (x .lines) (x .c .trips) (x .lineCount)
   pub time : x .time ≤ 3600
-  pub events : transferRuns ≡ eventsBefore (x .t) (x .c) (x .c .trips) * 2
+  pub events : transferRuns ≡ eventsBefore (timetable (x .t) (x .c)) (x .c .trips) * 2

@@ -13,6 +13,7 @@ use Rattle.sorts.specs.Sort.{hi, within}
 use Rattle.sorts.specs.Orders.{keep}
 use Rattle.tables.specs.declared.Counts.{Counts}
 use Rattle.tables.specs.Tables.{timeOf, firstOf, countOf}
+use Rattle.tables.specs.Timetable.{timetable}
 use Rattle.departures.specs.declared.DepartureRow.{DepartureRow}
 use Rattle.departures.specs.Departures.{rowAt, rowDeparture, runFirst, runEnd}
 use Rattle.departures.specs.Packed.{unTrip, unOffset}
@@ -21,7 +22,7 @@ use Rattle.transfers.specs.Call.{Areas, Outcome, areas, outcomeOf, roomO
 
 -- a row: its line and its departure above, its trip and offset below
 unfoldable pub packLine : List ℕ → Counts → List ℕ → DepartureRow → ℕ
-packLine t c lines r = (getD lines (r .trip) 0 * 1048576 + rowDeparture t c r) * 4294967296 + (r .trip * 65536 + r .offset) % 4294967296
+packLine t c lines r = (getD lines (r .trip) 0 * 1048576 + rowDeparture (timetable t c) r) * 4294967296 + (r .trip * 65536 + r .offset) % 4294967296
 
 abbrev pub packedAt : List ℕ → Counts → List ℕ → List ℕ → ℕ → ℕ
 packedAt t c lines rows k = packLine t c lines (rowAt rows k)

@@ -1,75 +1,84 @@
--- The transfers of every stop event (document 01, item 8). Definitions only.
-use Prim.Native.Nat.{ℕ, zero, suc, _+_}
-use mathlib.Core.Bool.{Bool, true, false, not, cond}
-use mathlib.Core.List.{List, [], _∷_, flatten}
+-- The transfers of every stop event (document 01, item 8): first free of memory, then as the area holds them. Definitions only.
+use Prim.Native.Nat.{ℕ, zero, suc, _+_, _*_}
+use mathlib.Core.Bool.{not, cond}
+use mathlib.Core.List.{List, [], _∷_, flatten, map}
 use lib.ListN.{length, getD, take}
 use lib.Dec.{leb, eqb}
 use Rattle.loops.specs.Count.{tab}
-use Rattle.sorts.specs.Sort.{sortBy}
 use Rattle.sorts.specs.Orders.{keep}
-use Rattle.tables.specs.declared.Counts.{Counts}
-use Rattle.tables.specs.Tables.{timeOf, firstOf, countOf, stopOf, arrivalOf}
 use Rattle.departures.specs.declared.DepartureRow.{DepartureRow}
-use Rattle.departures.specs.Departures.{listedAt, rowDeparture}
+use Rattle.departures.specs.declared.StopRun.{StopRun}
+use Rattle.tables.specs.Timetable.{Timetable, timeAt}
+use Rattle.departures.specs.Departures.{rowDeparture, sorted}
 
--- what the call is given: the timetable and its counts, each trip's line and how many lines there are, the listed
--- departures (a run for each stop, d rows) and the transfer time in seconds
+-- what the transfers are made from: the timetable, how many lines there are, each trip's line, each stop's listed departures,
+-- and the transfer time in seconds
 pub record Input : Type 0 where
-  pub t : List ℕ
-  pub c : Counts
-  pub lineCount : ℕ
-  pub lines : List ℕ
-  pub d : ℕ
-  pub runs : List ℕ
-  pub rows : List ℕ
+  pub timetable : Timetable
+  pub lines : ℕ
+  pub lineOf : ℕ → ℕ
+  pub listed : ℕ → List DepartureRow
   pub time : ℕ
 
-abbrev pub input : List ℕ → Counts → ℕ → List ℕ → ℕ → List ℕ → List ℕ → ℕ → Input
-input t c n lines d runs rows time = record { t = t; c = c; lineCount = n; lines = lines; d = d; runs = runs; rows = rows; time = time }
-
--- a trip's line, and the drop-off code of a trip's stop time
-abbrev pub lineOf : Input → ℕ → ℕ
-lineOf x trip = getD (x .lines) trip 0
-
-abbrev pub dropOffOf : Input → ℕ → ℕ → ℕ
-dropOffOf x trip off = timeOf (x .t) (firstOf (x .t) (x .c) trip + off) 5
+-- a transfer: to a trip at an offset, the transfer time, its arc-flag pattern
+pub record Transfer : Type 0 where
+  pub target : ℕ
+  pub offset : ℕ
+  pub time : ℕ
+  pub pattern : ℕ
 
 -- THE SORTED DEPARTURES OF A LINE at stop s: those listed there whose trip has the line, stably sorted by departure
 unfoldable pub departuresOfLine : Input → ℕ → ℕ → List DepartureRow
-departuresOfLine x s line = sortBy (rowDeparture (x .t) (x .c)) (keep (λ r. eqb (lineOf x (r .trip)) line) (listedAt (x .runs) (x .rows) s))
+departuresOfLine x s line = sorted (x .timetable) (keep (λ r. eqb (x .lineOf (r .trip)) line) (x .listed s))
 
 -- its first one not before second w: a list of one, or of none
 unfoldable pub firstNotBefore : Input → ℕ → ℕ → ℕ → List DepartureRow
-firstNotBefore x s line w = take 1 (keep (λ r. leb w (rowDeparture (x .t) (x .c) r)) (departuresOfLine x s line))
+firstNotBefore x s line w = take 1 (keep (λ r. leb w (rowDeparture (x .timetable) r)) (departuresOfLine x s line))
 
 -- THE TRANSFER of an event to a line: the first sorted departure at its stop not before arrival + transfer time;
 -- none if that first one is the same trip (no later one is tried)
 unfoldable pub transferTo : Input → ℕ → ℕ → ℕ → List DepartureRow
 transferTo x trip off line =
-    keep (λ r. not (eqb (r .trip) trip)) (firstNotBefore x (stopOf (x .t) (x .c) trip off) line (arrivalOf (x .t) (x .c) trip off + x .time))
+    keep (λ r. not (eqb (r .trip) trip))
+    (firstNotBefore x (timeAt (x .timetable) trip off .stop) line (timeAt (x .timetable) trip off .arrival + x .time))
 
 -- THE TRANSFERS OF AN EVENT, a trip's stop time: none if drop-off is 1, else those to every line, lines rising
 unfoldable pub transfersOf : Input → ℕ → ℕ → List DepartureRow
-transfersOf x trip off = cond (eqb (dropOffOf x trip off) 1) [] (flatten (tab (transferTo x trip off) (x .lineCount)))
+transfersOf x trip off = cond (eqb (timeAt (x .timetable) trip off .«drop_off») 1) [] (flatten (tab (transferTo x trip off) (x .lines)))
+
+-- a transfer to a departure: after the transfer time, flag pattern 0
+abbrev pub transferOf : ℕ → DepartureRow → Transfer
+transferOf time r = record { target = r .trip; offset = r .offset; time = time; pattern = 0 }
+
+-- THE TRANSFERS as they are built
+abbrev pub builtTransfers : Input → ℕ → ℕ → List Transfer
+builtTransfers x trip off = map (transferOf (x .time)) (transfersOf x trip off)
 
 -- EVERY EVENT'S, trip by trip, offset by offset; and all of them in one list
-unfoldable pub eventsOf : Input → List (List DepartureRow)
-eventsOf x = flatten (tab (λ trip. tab (transfersOf x trip) (countOf (x .t) (x .c) trip)) (x .c .trips))
+unfoldable pub eventsOf : Input → List (List Transfer)
+eventsOf x = flatten (tab (λ trip. tab (builtTransfers x trip) (x .timetable .trip trip .count)) (x .timetable .trips))
 
-abbrev pub allTransfers : Input → List DepartureRow
+abbrev pub allTransfers : Input → List Transfer
 allTransfers x = flatten (eventsOf x)
 
 -- how many stop events the trips before i have
-unfoldable pub eventsBefore : List ℕ → Counts → ℕ → ℕ
-eventsBefore t c zero = 0
-eventsBefore t c (suc i) = eventsBefore t c i + countOf t c i
+unfoldable pub eventsBefore : Timetable → ℕ → ℕ
+eventsBefore T zero = 0
+eventsBefore T (suc i) = eventsBefore T i + T .trip i .count
 
--- THE WORDS of a list of transfers, four for each: target trip, offset, time, flag pattern 0
-unfoldable pub wordsOf : ℕ → List DepartureRow → List ℕ
-wordsOf time [] = []
-wordsOf time (r ∷ l) = r .trip ∷ r .offset ∷ time ∷ 0 ∷ wordsOf time l
+-- IN MEMORY. The words of a list of transfers, four for each: target trip, offset, time, flag pattern
+unfoldable pub wordsOf : List Transfer → List ℕ
+wordsOf [] = []
+wordsOf (r ∷ l) = r .target ∷ r .offset ∷ r .time ∷ r .pattern ∷ wordsOf l
 
--- THE RUNS of the events, two words for each: how many transfers stand before its own, how many it has
+-- the runs of the events, two words for each: how many transfers stand before its own, how many it has
 unfoldable pub runsFrom : {A : Type 0} → ℕ → List (List A) → List ℕ
 runsFrom n [] = []
 runsFrom n (l ∷ ls) = n ∷ length l ∷ runsFrom (n + length l) ls
+
+-- transfer k of an area, and the transfers of a run
+abbrev pub transferAt : List ℕ → ℕ → Transfer
+transferAt area k = record { target = getD area (k * 4) 0; offset = getD area (k * 4 + 1) 0; time = getD area (k * 4 + 2) 0; pattern = getD area (k * 4 + 3) 0 }
+
+abbrev pub transfersAt : List ℕ → StopRun → List Transfer
+transfersAt area r = tab (λ k. transferAt area (r .first + k)) (r .length)

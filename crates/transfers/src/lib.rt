@@ -1,7 +1,9 @@
 // transfers: the transfers of every stop event (document 01, item 8; the Rust's compute_trip_transfers).
-// Specs: the transfers of an event, over lists (Transfers); the call, its questions in order and what it answers and
-// writes (Call); how the code holds a departure in one number and writes row by row (Packed, inner).
-// Proves: the call's outcome is the defined one on every input. In proofs/Laws: what each transfer is.
+// Specs: the transfers of an event, over any timetable, and as the area holds them (Transfers); the call, its questions in
+// order and what it answers and writes (Call); how the code holds a departure in one number and writes row by row (Packed,
+// inner).
+// Proves: the call's outcome is the defined one on every input. In proofs/Laws: what each transfer is, and that an event's
+// run, read out of the area, is its list of transfers.
 // Assumes nothing.
 ghost use mathlib.Core.Path.{_≡_};
 ghost use mathlib.Core.Bool.{_&&_};
@@ -12,12 +14,13 @@ ghost use lib.Dec.{leb};
 ghost use Rattle.loops.specs.Count.{tab};
 ghost use Rattle.loops.specs.Order.{Halved};
 ghost use Rattle.sorts.specs.Sort.{hi};
+ghost use Rattle.tables.specs.Timetable.{timetable};
 ghost use Rattle.tables.specs.Door.{slicesOk};
 ghost use Rattle.tables.specs.Sane.{CountsOk, SlicesOk, Sane};
 ghost use Rattle.departures.specs.Listed.{RunsListed, RowKnown, RowsKnown};
-ghost use Rattle.transfers.specs.Transfers.{input, eventsBefore};
+ghost use Rattle.transfers.specs.Transfers.{eventsBefore};
 ghost use Rattle.transfers.specs.Packed.{packLine, packedAt, Keys, LineEnd, Group, laid, lay, layRow, putRow, walk, putRun, layEvent, layEvents, toGroup, targets, prepared, alightKeys, eventKeys, tripKeys, allKeys, SortedRuns, EventAt, TripAt, settledKeys};
-ghost use Rattle.transfers.specs.Call.{areas, linesOk, sizesOk, verdict, roomOk, settled, outcome, outcomeOf, Admitted, LinesBelow};
+ghost use Rattle.transfers.specs.Call.{lent, inputOf, areas, linesOk, sizesOk, verdict, roomOk, settled, outcome, outcomeOf, Admitted, LinesBelow};
 use departures::DepartureRow;
 use tables::Counts;
 
@@ -305,7 +308,7 @@ fn pack_lines(
 // How many stop events the trips have.
 fn event_count(t: &[u32], c: Counts) -> usize
     requires { ⌜ CountsOk c ⌝ ∗ ⌜ SlicesOk (now t) c ⌝ }
-    ensures { λ r. ⌜ r ≡ eventsBefore (now (t .entry)) c (c .trips) ⌝ ∗ ⌜ r ≤ 17592186044416 ⌝ }
+    ensures { λ r. ⌜ r ≡ eventsBefore (timetable (now (t .entry)) c) (c .trips) ⌝ ∗ ⌜ r ≤ 17592186044416 ⌝ }
 {
     let n = c.trips;
     let mut e: usize = 0;
@@ -382,7 +385,7 @@ fn questions(
     time: usize,
     evs: usize,
 ) -> u32
-    ensures { λ r. ⌜ r ≡ verdict (input (now (t .entry)) c «line_count» (now (lines .entry)) d (now (runs .entry)) (now (rows .entry)) time) evs ⌝ }
+    ensures { λ r. ⌜ r ≡ verdict (lent (now (t .entry)) c «line_count» (now (lines .entry)) d (now (runs .entry)) (now (rows .entry)) time) evs ⌝ }
 {
     if !door::both(
         tables::counts_ok(c),
@@ -426,8 +429,8 @@ fn build_in(
     work: &mut [u64],
     other: &mut [u64],
 ) -> Built
-    requires { ⌜ Admitted (input (now t) c «line_count» (now lines) d (now runs) (now rows) time) (length (now evs)) ⌝ ∗ ⌜ length (now work) ≡ d ⌝ ∗ ⌜ length (now other) ≡ d ⌝ }
-    ensures { λ r. ⌜ outcomeOf r (areas (now (area .exit)) (now (evs .exit))) ≡ settled (input (now (t .entry)) c «line_count» (now (lines .entry)) d (now (runs .entry)) (now (rows .entry)) time) (areas (now (area .entry)) (now (evs .entry))) ⌝ }
+    requires { ⌜ Admitted (lent (now t) c «line_count» (now lines) d (now runs) (now rows) time) (length (now evs)) ⌝ ∗ ⌜ length (now work) ≡ d ⌝ ∗ ⌜ length (now other) ≡ d ⌝ }
+    ensures { λ r. ⌜ outcomeOf r (areas (now (area .exit)) (now (evs .exit))) ≡ settled (inputOf (lent (now (t .entry)) c «line_count» (now (lines .entry)) d (now (runs .entry)) (now (rows .entry)) time)) (areas (now (area .entry)) (now (evs .entry))) ⌝ }
 {
     pack_lines(t, c, lines, rows, d, line_count, work);
     departures::sort_stops(c, runs, d, work, other);
@@ -449,8 +452,8 @@ fn build(
     work: &mut [u64],
     other: &mut [u64],
 ) -> Built
-    requires { ⌜ Admitted (input (now t) c «line_count» (now lines) d (now runs) (now rows) time) (length (now evs)) ⌝ ∗ ⌜ d ≤ length (now work) ⌝ ∗ ⌜ d ≤ length (now other) ⌝ }
-    ensures { λ r. ⌜ outcomeOf r (areas (now (area .exit)) (now (evs .exit))) ≡ settled (input (now (t .entry)) c «line_count» (now (lines .entry)) d (now (runs .entry)) (now (rows .entry)) time) (areas (now (area .entry)) (now (evs .entry))) ⌝ }
+    requires { ⌜ Admitted (lent (now t) c «line_count» (now lines) d (now runs) (now rows) time) (length (now evs)) ⌝ ∗ ⌜ d ≤ length (now work) ⌝ ∗ ⌜ d ≤ length (now other) ⌝ }
+    ensures { λ r. ⌜ outcomeOf r (areas (now (area .exit)) (now (evs .exit))) ≡ settled (inputOf (lent (now (t .entry)) c «line_count» (now (lines .entry)) d (now (runs .entry)) (now (rows .entry)) time)) (areas (now (area .entry)) (now (evs .entry))) ⌝ }
 {
     build_in(
         t,
@@ -484,7 +487,7 @@ pub fn compute_trip_transfers(
     area: &mut [u32],
     transfer_runs: &mut [u32],
 ) -> Built
-    ensures { λ r. ⌜ outcomeOf r (areas (now (area .exit)) (now («transfer_runs» .exit))) ≡ outcome (input (now (t .entry)) c «line_count» (now (lines .entry)) d (now (runs .entry)) (now (rows .entry)) «transfer_time») (areas (now (area .entry)) (now («transfer_runs» .entry))) ⌝ }
+    ensures { λ r. ⌜ outcomeOf r (areas (now (area .exit)) (now («transfer_runs» .exit))) ≡ outcome (lent (now (t .entry)) c «line_count» (now (lines .entry)) d (now (runs .entry)) (now (rows .entry)) «transfer_time») (areas (now (area .entry)) (now («transfer_runs» .entry))) ⌝ }
 {
     let v = questions(
         t,

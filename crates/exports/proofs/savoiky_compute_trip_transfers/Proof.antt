@@ -1,6 +1,5 @@
 use Rattle.exports.proofs.Shows.{shows-transfers}
-use Rattle.transfers.specs.Call.{areas, outcome, answerOf}
-use Rattle.transfers.specs.Transfers.{input}
+use Rattle.transfers.specs.Call.{areas, lent, outcome, answerOf}
 use denote.Ref.{now}
 use mathlib.Core.Path.{_∙_, ap, sym}
 use Rattle.tables.specs.declared.Counts.{Counts}
@@ -33,7 +32,7 @@ same-length-2 : tie.Need-same-length-2
 same-length-2 c = search needs
 
 returns : tie.Need-returns
-returns c = shows-transfers _ _ _ _ (c .refused .ensures ∙ sym (ap answerOf (c .before .before .v .given .1))) (c .before .before .before .before .before .before .before .before .compute-trip-transfers .ensures ∙ ap (λ (k : Counts). outcome (input (now (c .before .before .before .before .before .before .before .before .before .before .before .before .before .before .before .before .before .before .args .tables)) k (c .before .before .before .before .before .before .before .before .before .before .before .before .before .before .before .before .before .before .args .line-count) (now (c .before .before .before .before .before .before .before .before .before .before .before .before .before .before .before .before .before .before .args .lines)) (c .before .before .before .before .before .before .before .before .before .before .before .before .before .before .before .before .before .before .args .departures) (now (c .before .before .before .before .before .before .before .before .before .before .before .before .before .before .before .before .before .before .args .runs)) (now (c .before .before .before .before .before .before .before .before .before .before .before .before .before .before .before .before .before .before .args .rows)) 120) (areas (now (c .before .before .before .before .before .before .before .before .before .before .before .before .before .before .before .before .before .before .args .area)) (now (c .before .before .before .before .before .before .before .before .before .before .before .before .before .before .before .before .before .before .args .transfer-runs)))) (c .before .before .before .before .before .before .before .before .before .before .before .counts .ensures))
+returns c = shows-transfers _ _ _ _ (c .refused .ensures ∙ sym (ap answerOf (c .before .before .v .given .1))) (c .before .before .before .before .before .before .before .before .compute-trip-transfers .ensures ∙ ap (λ (k : Counts). outcome (lent (now (c .before .before .before .before .before .before .before .before .before .before .before .before .before .before .before .before .before .before .args .tables)) k (c .before .before .before .before .before .before .before .before .before .before .before .before .before .before .before .before .before .before .args .line-count) (now (c .before .before .before .before .before .before .before .before .before .before .before .before .before .before .before .before .before .before .args .lines)) (c .before .before .before .before .before .before .before .before .before .before .before .before .before .before .before .before .before .before .args .departures) (now (c .before .before .before .before .before .before .before .before .before .before .before .before .before .before .before .before .before .before .args .runs)) (now (c .before .before .before .before .before .before .before .before .before .before .before .before .before .before .before .before .before .before .args .rows)) 120) (areas (now (c .before .before .before .before .before .before .before .before .before .before .before .before .before .before .before .before .before .before .args .area)) (now (c .before .before .before .before .before .before .before .before .before .before .before .before .before .before .before .before .before .before .args .transfer-runs)))) (c .before .before .before .before .before .before .before .before .before .before .before .counts .ensures))
 
 same-length-3 : tie.Need-same-length-3
 same-length-3 c = search needs
@@ -42,7 +41,7 @@ same-length-4 : tie.Need-same-length-4
 same-length-4 c = search needs
 
 returns-2 : tie.Need-returns-2
-returns-2 c = shows-transfers _ _ _ _ (c .given .ensures ∙ sym (ap answerOf (c .before .before .n .given .1))) (c .before .before .before .before .before .before .before .before .compute-trip-transfers .ensures ∙ ap (λ (k : Counts). outcome (input (now (c .before .before .before .before .before .before .before .before .before .before .before .before .before .before .before .before .before .before .args .tables)) k (c .before .before .before .before .before .before .before .before .before .before .before .before .before .before .before .before .before .before .args .line-count) (now (c .before .before .before .before .before .before .before .before .before .before .before .before .before .before .before .before .before .before .args .lines)) (c .before .before .before .before .before .before .before .before .before .before .before .before .before .before .before .before .before .before .args .departures) (now (c .before .before .before .before .before .before .before .before .before .before .before .before .before .before .before .before .before .before .args .runs)) (now (c .before .before .before .before .before .before .before .before .before .before .before .before .before .before .before .before .before .before .args .rows)) 120) (areas (now (c .before .before .before .before .before .before .before .before .before .before .before .before .before .before .before .before .before .before .args .area)) (now (c .before .before .before .before .before .before .before .before .before .before .before .before .before .before .before .before .before .before .args .transfer-runs)))) (c .before .before .before .before .before .before .before .before .before .before .before .counts .ensures))
+returns-2 c = shows-transfers _ _ _ _ (c .given .ensures ∙ sym (ap answerOf (c .before .before .n .given .1))) (c .before .before .before .before .before .before .before .before .compute-trip-transfers .ensures ∙ ap (λ (k : Counts). outcome (lent (now (c .before .before .before .before .before .before .before .before .before .before .before .before .before .before .before .before .before .before .args .tables)) k (c .before .before .before .before .before .before .before .before .before .before .before .before .before .before .before .before .before .before .args .line-count) (now (c .before .before .before .before .before .before .before .before .before .before .before .before .before .before .before .before .before .before .args .lines)) (c .before .before .before .before .before .before .before .before .before .before .before .before .before .before .before .before .before .before .args .departures) (now (c .before .before .before .before .before .before .before .before .before .before .before .before .before .before .before .before .before .before .args .runs)) (now (c .before .before .before .before .before .before .before .before .before .before .before .before .before .before .before .before .before .before .args .rows)) 120) (areas (now (c .before .before .before .before .before .before .before .before .before .before .before .before .before .before .before .before .before .before .args .area)) (now (c .before .before .before .before .before .before .before .before .before .before .before .before .before .before .before .before .before .before .args .transfer-runs)))) (c .before .before .before .before .before .before .before .before .before .before .before .counts .ensures))
 
 pub savoiky-compute-trip-transfers-spec : {M : Type 1} → statement M
 savoiky-compute-trip-transfers-spec =

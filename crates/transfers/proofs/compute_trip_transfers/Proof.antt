@@ -1,8 +1,7 @@
 use lib.ListN.{length}
 use mathlib.Core.Path.{sym, _∙_}
 use denote.Ref.{now}
-use Rattle.transfers.specs.Transfers.{input}
-use Rattle.transfers.specs.Call.{areas}
+use Rattle.transfers.specs.Call.{lent, areas}
 use Rattle.transfers.proofs.Lists.{repeat-room}
 use Rattle.transfers.proofs.Asking.{admitted, answered, refused}
 use borrow.Author.Needs.{needs}
@@ -17,7 +16,7 @@ questions-requires : tie.Need-questions-requires
 questions-requires c κs = search needs
 
 returns : tie.Need-returns
-returns c = refused (input (now (c .before .before .before .before .before .before .before .before .args .t)) (c .before .before .before .before .before .before .before .before .args .c) (c .before .before .before .before .before .before .before .before .args .line-count) (now (c .before .before .before .before .before .before .before .before .args .lines)) (c .before .before .before .before .before .before .before .before .args .d) (now (c .before .before .before .before .before .before .before .before .args .runs)) (now (c .before .before .before .before .before .before .before .before .args .rows)) (c .before .before .before .before .before .before .before .before .args .transfer-time)) (areas (now (c .before .before .before .before .before .before .before .before .args .area)) (now (c .before .before .before .before .before .before .before .before .args .transfer-runs))) (c .before .questions .result) (c .before .questions .ensures) (c .if1 .taken)
+returns c = refused (lent (now (c .before .before .before .before .before .before .before .before .args .t)) (c .before .before .before .before .before .before .before .before .args .c) (c .before .before .before .before .before .before .before .before .args .line-count) (now (c .before .before .before .before .before .before .before .before .args .lines)) (c .before .before .before .before .before .before .before .before .args .d) (now (c .before .before .before .before .before .before .before .before .args .runs)) (now (c .before .before .before .before .before .before .before .before .args .rows)) (c .before .before .before .before .before .before .before .before .args .transfer-time)) (areas (now (c .before .before .before .before .before .before .before .before .args .area)) (now (c .before .before .before .before .before .before .before .before .args .transfer-runs))) (c .before .questions .result) (c .before .questions .ensures) (c .if1 .taken)
 
 slice-aggregate-build : tie.Need-slice-aggregate-build
 slice-aggregate-build c = search needs
@@ -26,7 +25,7 @@ slice-aggregate-build-2 : tie.Need-slice-aggregate-build-2
 slice-aggregate-build-2 c = search needs
 
 build-requires : tie.Need-build-requires
-build-requires c κs = let a = admitted (input (now (c .before .before .before .before .before .before .before .before .before .before .before .before .args .t)) (c .before .before .before .before .before .before .before .before .before .before .before .before .args .c) (c .before .before .before .before .before .before .before .before .before .before .before .before .args .line-count) (now (c .before .before .before .before .before .before .before .before .before .before .before .before .args .lines)) (c .before .before .before .before .before .before .before .before .before .before .before .before .args .d) (now (c .before .before .before .before .before .before .before .before .before .before .before .before .args .runs)) (now (c .before .before .before .before .before .before .before .before .before .before .before .before .args .rows)) (c .before .before .before .before .before .before .before .before .before .before .before .before .args .transfer-time)) (length (now (c .before .before .before .before .before .before .before .before .before .before .before .before .args .transfer-runs))) (sym (c .before .before .before .before .before .questions .ensures) ∙ c .before .before .before .before .if1 .left) in (a, (repeat-room 65536 (c .before .before .before .before .before .before .before .before .before .before .before .before .args .d) 0 (a .listed .stops .few), repeat-room 65536 (c .before .before .before .before .before .before .before .before .before .before .before .before .args .d) 0 (a .listed .stops .few)))
+build-requires c κs = let a = admitted (lent (now (c .before .before .before .before .before .before .before .before .before .before .before .before .args .t)) (c .before .before .before .before .before .before .before .before .before .before .before .before .args .c) (c .before .before .before .before .before .before .before .before .before .before .before .before .args .line-count) (now (c .before .before .before .before .before .before .before .before .before .before .before .before .args .lines)) (c .before .before .before .before .before .before .before .before .before .before .before .before .args .d) (now (c .before .before .before .before .before .before .before .before .before .before .before .before .args .runs)) (now (c .before .before .before .before .before .before .before .before .before .before .before .before .args .rows)) (c .before .before .before .before .before .before .before .before .before .before .before .before .args .transfer-time)) (length (now (c .before .before .before .before .before .before .before .before .before .before .before .before .args .transfer-runs))) (sym (c .before .before .before .before .before .questions .ensures) ∙ c .before .before .before .before .if1 .left) in (a, (repeat-room 65536 (c .before .before .before .before .before .before .before .before .before .before .before .before .args .d) 0 (a .listed .stops .few), repeat-room 65536 (c .before .before .before .before .before .before .before .before .before .before .before .before .args .d) 0 (a .listed .stops .few)))
 
 same-length : tie.Need-same-length
 same-length c = search needs
@@ -35,7 +34,7 @@ same-length-2 : tie.Need-same-length-2
 same-length-2 c = search needs
 
 returns-2 : tie.Need-returns-2
-returns-2 c = c .before .before .before .before .before .before .build .ensures ∙ answered (input (now (c .before .before .before .before .before .before .before .before .before .before .before .before .before .before .before .before .before .before .before .args .t)) (c .before .before .before .before .before .before .before .before .before .before .before .before .before .before .before .before .before .before .before .args .c) (c .before .before .before .before .before .before .before .before .before .before .before .before .before .before .before .before .before .before .before .args .line-count) (now (c .before .before .before .before .before .before .before .before .before .before .before .before .before .before .before .before .before .before .before .args .lines)) (c .before .before .before .before .before .before .before .before .before .before .before .before .before .before .before .before .before .before .before .args .d) (now (c .before .before .before .before .before .before .before .before .before .before .before .before .before .before .before .before .before .before .before .args .runs)) (now (c .before .before .before .before .before .before .before .before .before .before .before .before .before .before .before .before .before .before .before .args .rows)) (c .before .before .before .before .before .before .before .before .before .before .before .before .before .before .before .before .before .before .before .args .transfer-time)) (areas (now (c .before .before .before .before .before .before .before .before .before .before .before .before .before .before .before .before .before .before .before .args .area)) (now (c .before .before .before .before .before .before .before .before .before .before .before .before .before .before .before .before .before .before .before .args .transfer-runs))) (c .before .before .before .before .before .before .before .before .before .before .before .before .questions .result) (c .before .before .before .before .before .before .before .before .before .before .before .before .questions .ensures) (c .before .before .before .before .before .before .before .before .before .before .before .if1 .left)
+returns-2 c = c .before .before .before .before .before .before .build .ensures ∙ answered (lent (now (c .before .before .before .before .before .before .before .before .before .before .before .before .before .before .before .before .before .before .before .args .t)) (c .before .before .before .before .before .before .before .before .before .before .before .before .before .before .before .before .before .before .before .args .c) (c .before .before .before .before .before .before .before .before .before .before .before .before .before .before .before .before .before .before .before .args .line-count) (now (c .before .before .before .before .before .before .before .before .before .before .before .before .before .before .before .before .before .before .before .args .lines)) (c .before .before .before .before .before .before .before .before .before .before .before .before .before .before .before .before .before .before .before .args .d) (now (c .before .before .before .before .before .before .before .before .before .before .before .before .before .before .before .before .before .before .before .args .runs)) (now (c .before .before .before .before .before .before .before .before .before .before .before .before .before .before .before .before .before .before .before .args .rows)) (c .before .before .before .before .before .before .before .before .before .before .before .before .before .before .before .before .before .before .before .args .transfer-time)) (areas (now (c .before .before .before .before .before .before .before .before .before .before .before .before .before .before .before .before .before .before .before .args .area)) (now (c .before .before .before .before .before .before .before .before .before .before .before .before .before .before .before .before .before .before .before .args .transfer-runs))) (c .before .before .before .before .before .before .before .before .before .before .before .before .questions .result) (c .before .before .before .before .before .before .before .before .before .before .before .before .questions .ensures) (c .before .before .before .before .before .before .before .before .before .before .before .if1 .left)
 
 pub compute-trip-transfers-spec : {M : Type 1} → statement M
 compute-trip-transfers-spec =

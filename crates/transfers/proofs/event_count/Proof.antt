@@ -1,6 +1,7 @@
 use denote.Ref.{now}
 use borrow.Author.Needs.{needs}
 use Rattle.transfers.specs.Transfers.{eventsBefore}
+use Rattle.tables.specs.Timetable.{timetable}
 use native.Mathlib.Omega.{arith}
 use Rattle.transfers.proofs.Packing.{all-of-them, events-step}
 use mathlib.Core.Path.{_∙_, _≡_, ap, refl}
@@ -12,7 +13,7 @@ use Rattle.transfers.proofs.event_count.Lts as lts
 use Rattle.tables.proofs.trip.Reads as trip-reads
 
 abbrev Inv-loop : tie.InvT-loop
-Inv-loop t c n e₀ i₀ e i = (n ≡ c .trips) × (i ≤ n) × (e ≡ eventsBefore t c i) × (e ≤ i * 4294967296)
+Inv-loop t c n e₀ i₀ e i = (n ≡ c .trips) × (i ≤ n) × (e ≡ eventsBefore (timetable t c) i) × (e ≤ i * 4294967296)
 
 abbrev μ-loop : tie.MeasureT-loop
 μ-loop t c n e₀ i₀ e i = n - i
@@ -34,10 +35,10 @@ loop-less : tie.Need-loop-less Inv-loop μ-loop
 loop-less c = omega arith
 
 loop-again : tie.Need-loop-again Inv-loop μ-loop
-loop-again c = (omega arith, omega arith, omega (arith, c .before .before .loop .inv .2, c .trip .ensures .0, events-step (now (c .before .before .before .before .args .t)) (c .before .before .before .before .args .c) (c .before .before .loop .i)), omega arith)
+loop-again c = (omega arith, omega arith, omega (arith, c .before .before .loop .inv .2, c .trip .ensures .0, events-step (timetable (now (c .before .before .before .before .args .t)) (c .before .before .before .before .args .c)) (c .before .before .loop .i)), omega arith)
 
 returns : tie.Need-returns Inv-loop μ-loop
-returns c = (c .before .loop .inv .2 ∙ ap (eventsBefore (now (c .before .before .before .args .t)) (c .before .before .before .args .c)) (all-of-them _ _ _ (c .before .loop .inv .0) (c .before .loop .inv .1) (omega arith)), omega (arith, c .before .before .before .pre .0 .trips))
+returns c = (c .before .loop .inv .2 ∙ ap (eventsBefore (timetable (now (c .before .before .before .args .t)) (c .before .before .before .args .c))) (all-of-them _ _ _ (c .before .loop .inv .0) (c .before .loop .inv .1) (omega arith)), omega (arith, c .before .before .before .pre .0 .trips))
 
 pub event-count-spec : {M : Type 1} → statement M
 event-count-spec =
