@@ -6,9 +6,9 @@ use mathlib.Core.List.{List, [], _∷_}
 use lib.Dec.{eqb}
 use Rattle.loops.specs.Iter.{iter, first, every}
 use Rattle.loops.specs.Count.{one}
-use Rattle.delays.specs.Rows.{delayRow, stopDelay}
+use Rattle.delays.specs.Delays.{delayRow, stopDelay, margin}
+use Rattle.delays.specs.Flat.{delayTables}
 use Rattle.realtime.specs.Times.{skippedAt, effectiveDeparture, effectiveArrival}
-use Rattle.delays.specs.Largest.{margin}
 use Rattle.delays.specs.Door.{delaysDoor}
 
 -- the tables, a stop time of trip 3 at sequence 7 that arrives at 200 and departs at 230, and what must come out
@@ -24,9 +24,10 @@ pub record Case : Type 0 where
 
 right : Case → Bool
 right c =
-    let d = stopDelay (c .rows) (c .stops) (delayRow (c .rows) 3) 7 in
+    let D = delayTables (c .rows) (c .stops) in
+    let d = stopDelay D (delayRow D 3) 7 in
     eqb (effectiveArrival 200 (c .shift) d) (c .arrives) && eqb (effectiveDeparture 230 d) (c .departs)
-    && eqb (one (skippedAt (d .flags))) (c .skipped) && eqb (margin (c .rows) (c .stops) (c .cap)) (c .margin)
+    && eqb (one (skippedAt (d .flags))) (c .skipped) && eqb (margin D (c .cap)) (c .margin)
 
 pub all : List Case → Bool
 all [] = true

@@ -3,15 +3,13 @@ use Prim.Native.Nat.{ℕ, zero, suc, _+_, _-_, _<_, _≤_, min, max}
 use mathlib.Core.Path.{_≡_, refl, ap, _∙_}
 use mathlib.Core.Bool.{Bool, true, false, cond}
 use mathlib.Core.Logic.{_⊎_, inl, inr, ⊎-elim}
-use mathlib.Core.List.{List}
 use native.Mathlib.Nat.{eq-or-lt-of-le}
 use native.Mathlib.Omega.{arith}
 use Rattle.loops.specs.Iter.{iter}
 use Rattle.loops.proofs.Iter.{range-done}
 use Rattle.loops.proofs.Search.{split}
-use Rattle.delays.specs.Rows.{delayCount, stopCount, stopRowAt}
 use Rattle.realtime.specs.Times.{departureGiven, arrivalGiven, sizeOf}
-use Rattle.delays.specs.Largest.{orLarger, largest, tripSize, stopSize, largestDelay, margin}
+use Rattle.delays.specs.Delays.{DelayTables, orLarger, largest, givenSize, largestDelay, margin}
 use Rattle.delays.specs.Sane.{Delays}
 
 grows : (f : ℕ → ℕ) (i n s : ℕ) → s ≤ iter (orLarger f) i n s
@@ -54,34 +52,43 @@ pub largest-is : (f : ℕ → ℕ) (n : ℕ) → (largest f n ≡ 0) ⊎ OneOf f
 largest-is f n = ⊎-elim inl (λ (o : OneOf f (0 + (n - 0)) (largest f n)). inr (record { at = o .at; below = omega (arith, o .below); is = o .is })) (one-of f 0 (n - 0) 0)
 
 -- The margin is at most the cap; each trip delay's and each given stop delay's size is at most the margin, or the margin is the cap
-pub margin-cap : (rows stops : List ℕ) (cap : ℕ) → margin rows stops cap ≤ cap
-margin-cap rows stops cap = omega arith
-
 reaches : (x most cap : ℕ) → x ≤ most → (x ≤ min cap most) ⊎ (min cap most ≡ cap)
 reaches x most cap l = ⊎-elim (λ (u : cap < most). inr (omega arith)) (λ (u : most ≤ cap). inl (omega arith)) (split cap most)
 
-pub margin-trip : (rows stops : List ℕ) (cap i : ℕ) → i < delayCount rows → (tripSize rows i ≤ margin rows stops cap) ⊎ (margin rows stops cap ≡ cap)
-margin-trip rows stops cap i u = reaches (tripSize rows i) (largestDelay rows stops) cap (omega (arith, largest-covers (tripSize rows) (delayCount rows) i u))
+-- x is at most the margin of these tables, or that margin is the cap
+abbrev pub Covered : DelayTables → ℕ → ℕ → Type 0
+Covered D cap x = (x ≤ margin D cap) ⊎ (margin D cap ≡ cap)
 
-pub margin-departure : (rows stops : List ℕ) (cap j : ℕ) → j < stopCount stops → departureGiven (stopRowAt stops j .flags) ≡ true
-    → (sizeOf (stopRowAt stops j .«departure_delay») ≤ margin rows stops cap) ⊎ (margin rows stops cap ≡ cap)
-margin-departure rows stops cap j u g =
-    reaches (sizeOf (stopRowAt stops j .«departure_delay»)) (largestDelay rows stops) cap
-    (omega (arith, largest-covers (stopSize stops) (stopCount stops) j u, ap (λ (b : Bool). cond b (sizeOf (stopRowAt stops j .«departure_delay»)) 0) g))
+module _ (D : DelayTables) where
+  abbrev tripSize : ℕ → ℕ
+  tripSize i = sizeOf (D .delay i .delay)
 
-pub margin-arrival : (rows stops : List ℕ) (cap j : ℕ) → j < stopCount stops → arrivalGiven (stopRowAt stops j .flags) ≡ true
-    → (sizeOf (stopRowAt stops j .«arrival_delay») ≤ margin rows stops cap) ⊎ (margin rows stops cap ≡ cap)
-margin-arrival rows stops cap j u g =
-    reaches (sizeOf (stopRowAt stops j .«arrival_delay»)) (largestDelay rows stops) cap
-    (omega (arith, largest-covers (stopSize stops) (stopCount stops) j u, ap (λ (b : Bool). cond b (sizeOf (stopRowAt stops j .«arrival_delay»)) 0) g))
+  abbrev stopSize : ℕ → ℕ
+  stopSize j = givenSize (D .stopRow j)
+
+  pub margin-cap : (cap : ℕ) → margin D cap ≤ cap
+  margin-cap cap = omega arith
+
+  pub margin-trip : (cap i : ℕ) → i < D .delays → Covered D cap (sizeOf (D .delay i .delay))
+  margin-trip cap i u = reaches (tripSize i) (largestDelay D) cap (omega (arith, largest-covers tripSize (D .delays) i u))
+
+  pub margin-departure : (cap j : ℕ) → j < D .stopRows → departureGiven (D .stopRow j .flags) ≡ true → Covered D cap (sizeOf (D .stopRow j .«departure_delay»))
+  margin-departure cap j u g =
+      reaches (sizeOf (D .stopRow j .«departure_delay»)) (largestDelay D) cap
+      (omega (arith, largest-covers stopSize (D .stopRows) j u, ap (λ (b : Bool). cond b (sizeOf (D .stopRow j .«departure_delay»)) 0) g))
+
+  pub margin-arrival : (cap j : ℕ) → j < D .stopRows → arrivalGiven (D .stopRow j .flags) ≡ true → Covered D cap (sizeOf (D .stopRow j .«arrival_delay»))
+  margin-arrival cap j u g =
+      reaches (sizeOf (D .stopRow j .«arrival_delay»)) (largestDelay D) cap
+      (omega (arith, largest-covers stopSize (D .stopRows) j u, ap (λ (b : Bool). cond b (sizeOf (D .stopRow j .«arrival_delay»)) 0) g))
 
 -- .. and it is the cap, 0, or one of those sizes
-pub data MarginIs (rows stops : List ℕ) (m cap : ℕ) : Type 0 where
-  capped : m ≡ cap → MarginIs rows stops m cap
-  none : m ≡ 0 → MarginIs rows stops m cap
-  ofTrip : (i : ℕ) → i < delayCount rows → m ≡ tripSize rows i → MarginIs rows stops m cap
-  ofDeparture : (j : ℕ) → j < stopCount stops → departureGiven (stopRowAt stops j .flags) ≡ true → m ≡ sizeOf (stopRowAt stops j .«departure_delay») → MarginIs rows stops m cap
-  ofArrival : (j : ℕ) → j < stopCount stops → arrivalGiven (stopRowAt stops j .flags) ≡ true → m ≡ sizeOf (stopRowAt stops j .«arrival_delay») → MarginIs rows stops m cap
+pub data MarginIs (D : DelayTables) (m cap : ℕ) : Type 0 where
+  capped : m ≡ cap → MarginIs D m cap
+  none : m ≡ 0 → MarginIs D m cap
+  ofTrip : (i : ℕ) → i < D .delays → m ≡ sizeOf (D .delay i .delay) → MarginIs D m cap
+  ofDeparture : (j : ℕ) → j < D .stopRows → departureGiven (D .stopRow j .flags) ≡ true → m ≡ sizeOf (D .stopRow j .«departure_delay») → MarginIs D m cap
+  ofArrival : (j : ℕ) → j < D .stopRows → arrivalGiven (D .stopRow j .flags) ≡ true → m ≡ sizeOf (D .stopRow j .«arrival_delay») → MarginIs D m cap
 
 -- the size of a stop row is 0 or that of a delay that is given
 given-is : (a b : Bool) (x y : ℕ) → let z = max (cond a x 0) (cond b y 0) in (z ≡ 0) ⊎ (((a ≡ true) × (z ≡ x)) ⊎ ((b ≡ true) × (z ≡ y)))
@@ -90,33 +97,33 @@ given-is true false x y = inr (inl (refl, omega arith))
 given-is false true x y = inr (inr (refl, omega arith))
 given-is false false x y = inl (omega arith)
 
-module _ (rows stops : List ℕ) (m cap : ℕ) where
-  of-stop : (j : ℕ) → j < stopCount stops → m ≡ stopSize stops j → MarginIs rows stops m cap
+module _ (D : DelayTables) (m cap : ℕ) where
+  of-stop : (j : ℕ) → j < D .stopRows → m ≡ stopSize D j → MarginIs D m cap
   of-stop j u e =
       ⊎-elim (λ z. none (e ∙ z)) (⊎-elim (λ z. ofDeparture j u (z .0) (e ∙ z .1)) (λ z. ofArrival j u (z .0) (e ∙ z .1)))
-      (given-is (departureGiven (stopRowAt stops j .flags)) (arrivalGiven (stopRowAt stops j .flags)) (sizeOf (stopRowAt stops j .«departure_delay»)) (sizeOf (stopRowAt stops j .«arrival_delay»)))
+      (given-is (departureGiven (D .stopRow j .flags)) (arrivalGiven (D .stopRow j .flags)) (sizeOf (D .stopRow j .«departure_delay»)) (sizeOf (D .stopRow j .«arrival_delay»)))
 
-  of-trips : m ≡ largest (tripSize rows) (delayCount rows) → MarginIs rows stops m cap
+  of-trips : m ≡ largest (tripSize D) (D .delays) → MarginIs D m cap
   of-trips e =
-      ⊎-elim (λ z. none (e ∙ z)) (λ (o : OneOf (tripSize rows) (delayCount rows) (largest (tripSize rows) (delayCount rows))). ofTrip (o .at) (o .below) (e ∙ o .is))
-      (largest-is (tripSize rows) (delayCount rows))
+      ⊎-elim (λ z. none (e ∙ z)) (λ (o : OneOf (tripSize D) (D .delays) (largest (tripSize D) (D .delays))). ofTrip (o .at) (o .below) (e ∙ o .is))
+      (largest-is (tripSize D) (D .delays))
 
-  of-stops : m ≡ largest (stopSize stops) (stopCount stops) → MarginIs rows stops m cap
+  of-stops : m ≡ largest (stopSize D) (D .stopRows) → MarginIs D m cap
   of-stops e =
-      ⊎-elim (λ z. none (e ∙ z)) (λ (o : OneOf (stopSize stops) (stopCount stops) (largest (stopSize stops) (stopCount stops))). of-stop (o .at) (o .below) (e ∙ o .is))
-      (largest-is (stopSize stops) (stopCount stops))
+      ⊎-elim (λ z. none (e ∙ z)) (λ (o : OneOf (stopSize D) (D .stopRows) (largest (stopSize D) (D .stopRows))). of-stop (o .at) (o .below) (e ∙ o .is))
+      (largest-is (stopSize D) (D .stopRows))
 
-pub margin-is : (rows stops : List ℕ) (cap : ℕ) → MarginIs rows stops (margin rows stops cap) cap
-margin-is rows stops cap =
-    let m = margin rows stops cap in
-    ⊎-elim (λ (u : cap < largestDelay rows stops). capped (omega arith))
-    (λ (u : largestDelay rows stops ≤ cap).
-    ⊎-elim (λ e. of-trips rows stops m cap (omega arith)) (λ e. of-stops rows stops m cap (omega arith))
-    (max-or (largest (tripSize rows) (delayCount rows)) (largest (stopSize stops) (stopCount stops))))
-    (split cap (largestDelay rows stops))
+pub margin-is : (D : DelayTables) (cap : ℕ) → MarginIs D (margin D cap) cap
+margin-is D cap =
+    let m = margin D cap in
+    ⊎-elim (λ (u : cap < largestDelay D). capped (omega arith))
+    (λ (u : largestDelay D ≤ cap).
+    ⊎-elim (λ e. of-trips D m cap (omega arith)) (λ e. of-stops D m cap (omega arith))
+    (max-or (largest (tripSize D) (D .delays)) (largest (stopSize D) (D .stopRows))))
+    (split cap (largestDelay D))
 
 -- no delay row: no margin
-pub no-margin : (trips : ℕ) (rows stops : List ℕ) (cap : ℕ) → Delays trips rows stops → delayCount rows ≡ 0 → margin rows stops cap ≡ 0
-no-margin trips rows stops cap d e =
-    let s : stopCount stops ≤ 0 = ⊎-elim (λ (l : 0 < stopCount stops). absurd (omega (arith, d .row 0 l))) (λ (l : stopCount stops ≤ 0). l) (split 0 (stopCount stops)) in
-    omega (arith, range-done (orLarger (tripSize rows)) 0 (delayCount rows) 0 (omega arith), range-done (orLarger (stopSize stops)) 0 (stopCount stops) 0 s)
+pub no-margin : (trips : ℕ) (D : DelayTables) (cap : ℕ) → Delays trips D → D .delays ≡ 0 → margin D cap ≡ 0
+no-margin trips D cap d e =
+    let s : D .stopRows ≤ 0 = ⊎-elim (λ (l : 0 < D .stopRows). absurd (omega (arith, d .row 0 l))) (λ (l : D .stopRows ≤ 0). l) (split 0 (D .stopRows)) in
+    omega (arith, range-done (orLarger (tripSize D)) 0 (D .delays) 0 (omega arith), range-done (orLarger (stopSize D)) 0 (D .stopRows) 0 s)

@@ -3,13 +3,12 @@ use Prim.Native.Nat.{ℕ, _<_}
 use mathlib.Core.Path.{_≡_, refl, ap, ap₂, _∙_, sym}
 use mathlib.Core.Bool.{Bool, false, _&&_}
 use mathlib.Core.Logic.{⊎-elim}
-use mathlib.Core.List.{List}
 use native.Mathlib.Omega.{arith}
 use lib.Dec.{eqb}
 use borrow.Author.Tests.{eq-eqb, ne-eqb}
 use Rattle.loops.specs.Iter.{Hit, hit, miss}
 use Rattle.loops.proofs.Search.{first-is, first-isnt, hit-below}
-use Rattle.delays.specs.Rows.{unknownTrip, delayCount, stopCount, delayRowAt, stopRowAt, delayRow, stopRow, besideTrip, stopDelay}
+use Rattle.delays.specs.Delays.{DelayTables, unknownTrip, delayRow, stopRow, besideTrip, stopDelay}
 use Rattle.realtime.specs.Times.{noDelay}
 use Rattle.delays.specs.Sane.{DelayRows, StopRows}
 use Rattle.realtime.specs.Door.{Bounded}
@@ -21,50 +20,58 @@ same-hit e = cc
 pub no-delay-bounded : Bounded noDelay
 no-delay-bounded = record { trip = omega arith; flags = omega arith; departure = omega arith; arrival = omega arith }
 
-pub row-bounded : (rows stops : List ℕ) → DelayRows rows → StopRows stops → (i sequence : ℕ) → i < delayCount rows → Bounded (stopDelay rows stops (hit i) sequence)
-row-bounded rows stops d s i sequence u = beside (stopRow stops i sequence) refl
-  where
-    beside : (h : Hit) → stopRow stops i sequence ≡ h → Bounded (besideTrip stops (delayRowAt rows i .delay) h)
-    beside miss e = record { trip = d .size i u; flags = omega arith; departure = omega arith; arrival = omega arith }
-    beside (hit j) e = let l : j < stopCount stops = hit-below _ _ j e in record { trip = d .size i u; flags = s .flags j l; departure = s .departure j l; arrival = s .arrival j l }
+module _ (D : DelayTables) (d : DelayRows (D .delays) (D .delay)) (s : StopRows (D .stopRows) (D .stopRow)) where
+  pub row-bounded : (i sequence : ℕ) → i < D .delays → Bounded (stopDelay D (hit i) sequence)
+  row-bounded i sequence u = beside (stopRow D i sequence) refl
+    where
+      beside : (h : Hit) → stopRow D i sequence ≡ h → Bounded (besideTrip D (D .delay i .delay) h)
+      beside miss e = record { trip = d .size i u; flags = omega arith; departure = omega arith; arrival = omega arith }
+      beside (hit j) e =
+          let l : j < D .stopRows = hit-below _ _ j e in
+          record { trip = d .size i u; flags = s .flags j l; departure = s .departure j l; arrival = s .arrival j l }
 
-pub bounded : (rows stops : List ℕ) → DelayRows rows → StopRows stops → (trip sequence : ℕ) → Bounded (stopDelay rows stops (delayRow rows trip) sequence)
-bounded rows stops d s trip sequence = at (delayRow rows trip) refl
-  where
-    at : (h : Hit) → delayRow rows trip ≡ h → Bounded (stopDelay rows stops h sequence)
-    at miss e = no-delay-bounded
-    at (hit i) e = row-bounded rows stops d s i sequence (hit-below _ _ i e)
+  pub bounded : (trip sequence : ℕ) → Bounded (stopDelay D (delayRow D trip) sequence)
+  bounded trip sequence = at (delayRow D trip) refl
+    where
+      at : (h : Hit) → delayRow D trip ≡ h → Bounded (stopDelay D h sequence)
+      at miss e = no-delay-bounded
+      at (hit i) e = row-bounded i sequence (hit-below _ _ i e)
 
--- A known trip's row is the one that is found, and the only one; so is a stop row
-apart : (rows : List ℕ) → DelayRows rows → (trip i j : ℕ) → (trip ≡ unknownTrip → ⊥) → i < j → j < delayCount rows → delayRowAt rows i .trip ≡ trip → delayRowAt rows j .trip ≡ trip → ⊥
-apart rows d trip i j known l u x y = ⊎-elim (λ z. omega arith) (λ z. known (sym x ∙ z .0)) (d .rise i j l u)
+-- A known trip's row is the one that is found, and the only one
+module _ (D : DelayTables) (d : DelayRows (D .delays) (D .delay)) (trip : ℕ) (known : trip ≡ unknownTrip → ⊥) where
+  apart : (i j : ℕ) → i < j → j < D .delays → D .delay i .trip ≡ trip → D .delay j .trip ≡ trip → ⊥
+  apart i j l u x y = ⊎-elim (λ z. omega arith) (λ z. known (sym x ∙ z .0)) (d .rise i j l u)
 
-pub delay-is : (rows : List ℕ) → DelayRows rows → (trip i : ℕ) → (trip ≡ unknownTrip → ⊥) → delayRowAt rows i .trip ≡ trip → i < delayCount rows → delayRow rows trip ≡ hit i
-delay-is rows d trip i known e u =
-    first-is (λ k. eqb (delayRowAt rows k .trip) trip) (delayCount rows) i (eq-eqb (delayRowAt rows i .trip) trip e)
-    (λ j l. ne-eqb (delayRowAt rows j .trip) trip (λ z. apart rows d trip j i known l u z e))
-    u
+  pub delay-is : (i : ℕ) → D .delay i .trip ≡ trip → i < D .delays → delayRow D trip ≡ hit i
+  delay-is i e u =
+      first-is (λ k. eqb (D .delay k .trip) trip) (D .delays) i (eq-eqb (D .delay i .trip) trip e)
+      (λ j l. ne-eqb (D .delay j .trip) trip (λ z. apart j i l u z e))
+      u
 
-pub delay-only : (rows : List ℕ) → DelayRows rows → (trip i j : ℕ) → (trip ≡ unknownTrip → ⊥) → delayRow rows trip ≡ hit i → delayRowAt rows j .trip ≡ trip → j < delayCount rows → j ≡ i
-delay-only rows d trip i j known e f u = same-hit (sym (delay-is rows d trip j known f u) ∙ e)
+  pub delay-only : (i j : ℕ) → delayRow D trip ≡ hit i → D .delay j .trip ≡ trip → j < D .delays → j ≡ i
+  delay-only i j e f u = same-hit (sym (delay-is j f u) ∙ e)
 
-pub stop-is : (stops : List ℕ) → StopRows stops → (row sequence j : ℕ) → stopRowAt stops j .row ≡ row → stopRowAt stops j .sequence ≡ sequence → j < stopCount stops → stopRow stops row sequence ≡ hit j
-stop-is stops s row sequence j e f u =
-    first-is (λ k. eqb (stopRowAt stops k .row) row && eqb (stopRowAt stops k .sequence) sequence) (stopCount stops) j
-    (ap₂ _&&_ (eq-eqb (stopRowAt stops j .row) row e) (eq-eqb (stopRowAt stops j .sequence) sequence f))
-    (λ k l. ⊎-elim (λ z. below k z) (λ z. beside k z) (s .rise k j l u))
-    u
-  where
-    below : (k : ℕ) → stopRowAt stops k .row < stopRowAt stops j .row → eqb (stopRowAt stops k .row) row && eqb (stopRowAt stops k .sequence) sequence ≡ false
-    below k l = ap (λ (b : Bool). b && eqb (stopRowAt stops k .sequence) sequence) (ne-eqb (stopRowAt stops k .row) row (λ z. omega arith))
+-- .. and so is a stop row
+module _ (D : DelayTables) (s : StopRows (D .stopRows) (D .stopRow)) (row sequence : ℕ) where
+  abbrev here : ℕ → Bool
+  here k = eqb (D .stopRow k .row) row && eqb (D .stopRow k .sequence) sequence
 
-    beside : (k : ℕ) → (stopRowAt stops k .row ≡ stopRowAt stops j .row) × (stopRowAt stops k .sequence < stopRowAt stops j .sequence)
-        → eqb (stopRowAt stops k .row) row && eqb (stopRowAt stops k .sequence) sequence ≡ false
-    beside k l = ap₂ _&&_ (eq-eqb (stopRowAt stops k .row) row (l .0 ∙ e)) (ne-eqb (stopRowAt stops k .sequence) sequence (λ z. omega arith))
+  pub stop-is : (j : ℕ) → D .stopRow j .row ≡ row → D .stopRow j .sequence ≡ sequence → j < D .stopRows → stopRow D row sequence ≡ hit j
+  stop-is j e f u =
+      first-is here (D .stopRows) j
+      (ap₂ _&&_ (eq-eqb (D .stopRow j .row) row e) (eq-eqb (D .stopRow j .sequence) sequence f))
+      (λ k l. ⊎-elim (λ z. below k z) (λ z. beside k z) (s .rise k j l u))
+      u
+    where
+      below : (k : ℕ) → D .stopRow k .row < D .stopRow j .row → here k ≡ false
+      below k l = ap (λ (b : Bool). b && eqb (D .stopRow k .sequence) sequence) (ne-eqb (D .stopRow k .row) row (λ z. omega arith))
 
-pub stop-only : (stops : List ℕ) → StopRows stops → (row sequence i j : ℕ) → stopRow stops row sequence ≡ hit i → stopRowAt stops j .row ≡ row → stopRowAt stops j .sequence ≡ sequence → j < stopCount stops → j ≡ i
-stop-only stops s row sequence i j e f g u = same-hit (sym (stop-is stops s row sequence j f g u) ∙ e)
+      beside : (k : ℕ) → (D .stopRow k .row ≡ D .stopRow j .row) × (D .stopRow k .sequence < D .stopRow j .sequence) → here k ≡ false
+      beside k l = ap₂ _&&_ (eq-eqb (D .stopRow k .row) row (l .0 ∙ e)) (ne-eqb (D .stopRow k .sequence) sequence (λ z. omega arith))
+
+  pub stop-only : (i j : ℕ) → stopRow D row sequence ≡ hit i → D .stopRow j .row ≡ row → D .stopRow j .sequence ≡ sequence → j < D .stopRows → j ≡ i
+  stop-only i j e f g u = same-hit (sym (stop-is j f g u) ∙ e)
 
 -- no delay row at all: no trip has one
-pub no-rows : (rows : List ℕ) (trip : ℕ) → delayCount rows ≡ 0 → delayRow rows trip ≡ miss
-no-rows rows trip e = first-isnt (λ i. eqb (delayRowAt rows i .trip) trip) (delayCount rows) (λ j u. absurd (omega arith))
+pub no-rows : (D : DelayTables) (trip : ℕ) → D .delays ≡ 0 → delayRow D trip ≡ miss
+no-rows D trip e = first-isnt (λ i. eqb (D .delay i .trip) trip) (D .delays) (λ j u. absurd (omega arith))

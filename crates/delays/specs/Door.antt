@@ -13,8 +13,8 @@ use Rattle.delays.specs.declared.DelayRow.{DelayRow}
 use Rattle.delays.specs.declared.StopRow.{StopRow}
 use Rattle.realtime.specs.declared.StopDelay.{StopDelay}
 use Rattle.delays.specs.declared.DelayAt.{DelayAt}
-use Rattle.delays.specs.Rows.{unknownTrip, delayCount, stopCount, delayRowAt, stopRowAt, delayRow, stopDelay}
-use Rattle.delays.specs.Largest.{margin}
+use Rattle.delays.specs.Delays.{DelayTables, unknownTrip, delayRow, stopDelay, margin}
+use Rattle.delays.specs.Flat.{delayTables}
 
 -- 1: are all counts within the limits?
 abbrev pub delayCounts : ℕ → ℕ → ℕ → Bool
@@ -31,18 +31,16 @@ tripNumbered trips r = ltb (r .trip) trips || eqb (r .trip) unknownTrip
 abbrev pub rowNumbered : ℕ → StopRow → Bool
 rowNumbered n r = ltb (r .row) n
 
-abbrev pub delayNumbers : ℕ → List ℕ → List ℕ → Bool
-delayNumbers trips rows stops =
-    everyIn (λ i. tripNumbered trips (delayRowAt rows i)) 0 (delayCount rows)
-    && everyIn (λ j. rowNumbered (delayCount rows) (stopRowAt stops j)) 0 (stopCount stops)
+abbrev pub delayNumbers : ℕ → DelayTables → Bool
+delayNumbers trips D =
+    everyIn (λ i. tripNumbered trips (D .delay i)) 0 (D .delays) && everyIn (λ j. rowNumbered (D .delays) (D .stopRow j)) 0 (D .stopRows)
 
 -- 5: is every delay and code in its range? (A stop row's delays, given or not.)
 abbrev pub stopInRange : StopRow → Bool
 stopInRange r = leb (r .flags) 7 && (sizeOk (r .«departure_delay») && sizeOk (r .«arrival_delay»))
 
-abbrev pub delayRanges : List ℕ → List ℕ → Bool
-delayRanges rows stops =
-    everyIn (λ i. sizeOk (delayRowAt rows i .delay)) 0 (delayCount rows) && everyIn (λ j. stopInRange (stopRowAt stops j)) 0 (stopCount stops)
+abbrev pub delayRanges : DelayTables → Bool
+delayRanges D = everyIn (λ i. sizeOk (D .delay i .delay)) 0 (D .delays) && everyIn (λ j. stopInRange (D .stopRow j)) 0 (D .stopRows)
 
 -- 6: are delay rows and stop rows in order? Trips strictly rise, but unknown ones may repeat at the end; stop rows strictly
 -- rise by row, then sequence.
@@ -56,9 +54,8 @@ stopsRise a b = ltb (a .row) (b .row) || (eqb (a .row) (b .row) && ltb (a .seque
 abbrev pub inOrder : {R : Type 0} → (R → R → Bool) → (ℕ → R) → ℕ → Bool
 inOrder rise at i = eqb i 0 || rise (at (i - 1)) (at i)
 
-abbrev pub delayOrder : List ℕ → List ℕ → Bool
-delayOrder rows stops =
-    everyIn (inOrder tripsRise (delayRowAt rows)) 0 (delayCount rows) && everyIn (inOrder stopsRise (stopRowAt stops)) 0 (stopCount stops)
+abbrev pub delayOrder : DelayTables → Bool
+delayOrder D = everyIn (inOrder tripsRise (D .delay)) 0 (D .delays) && everyIn (inOrder stopsRise (D .stopRow)) 0 (D .stopRows)
 
 -- The door of the delay tables: the number of the first no. A call that has numbers and ranges of its own asks of them in
 -- the same questions.
@@ -66,15 +63,15 @@ unfoldable pub delaysDoor : ℕ → ℕ → ℕ → List ℕ → List ℕ → Bo
 delaysDoor trips n m rows stops numbered ranged =
     ask 1 (delayCounts trips n m)
     (ask 2 (delayLengths n m rows stops)
-    (ask 4 (delayNumbers trips rows stops && numbered)
-    (ask 5 (delayRanges rows stops && ranged)
-    (ask 6 (delayOrder rows stops) 0))))
+    (ask 4 (delayNumbers trips (delayTables rows stops) && numbered)
+    (ask 5 (delayRanges (delayTables rows stops) && ranged)
+    (ask 6 (delayOrder (delayTables rows stops)) 0))))
 
 -- What the calls answer
 
 -- the margin; the cap is in question 5
 abbrev pub marginOutcome : ℕ → ℕ → ℕ → List ℕ → List ℕ → ℕ → Answer
-marginOutcome trips n m rows stops cap = answer (delaysDoor trips n m rows stops true (leb cap timeLimit)) (margin rows stops cap)
+marginOutcome trips n m rows stops cap = answer (delaysDoor trips n m rows stops true (leb cap timeLimit)) (margin (delayTables rows stops) cap)
 
 -- has the trip a delay row?
 abbrev pub knownOf : Hit → ℕ
@@ -101,5 +98,5 @@ delayAnswer (suc n) known d = told (suc n) 0 noDelay
 -- what the tables say of the stop time of a trip; the trip is in question 4
 abbrev pub delayAtOutcome : ℕ → ℕ → ℕ → List ℕ → List ℕ → ℕ → ℕ → DelayAt
 delayAtOutcome trips n m rows stops trip sequence =
-    delayAnswer (delaysDoor trips n m rows stops (ltb trip trips) true) (knownOf (delayRow rows trip))
-    (stopDelay rows stops (delayRow rows trip) sequence)
+    let D = delayTables rows stops in
+    delayAnswer (delaysDoor trips n m rows stops (ltb trip trips) true) (knownOf (delayRow D trip)) (stopDelay D (delayRow D trip) sequence)

@@ -1,5 +1,5 @@
-pub mod Rows
-pub mod Largest
+pub mod Delays
+pub mod Flat
 pub mod Door
 pub mod Asked
 pub mod Sane

@@ -2,32 +2,30 @@
 use Prim.Native.Nat.{ℕ, _<_, _≤_}
 use mathlib.Core.Path.{_≡_}
 use mathlib.Core.Logic.{_⊎_}
-use mathlib.Core.List.{List}
 use Rattle.door.specs.Door.{timeLimit}
-use Rattle.delays.specs.Rows.{unknownTrip, delayCount, stopCount, delayRowAt, stopRowAt}
 use Rattle.realtime.specs.Times.{sizeOf}
-use Rattle.delays.specs.Largest.{tripSize}
+use Rattle.delays.specs.declared.DelayRow.{DelayRow}
+use Rattle.delays.specs.declared.StopRow.{StopRow}
+use Rattle.delays.specs.Delays.{DelayTables, unknownTrip}
 
 -- the delay rows: few, trips strictly rise save that the unknown trip may repeat, sizes within the limit
-pub record DelayRows (rows : List ℕ) : Type 0 where
-  pub few : delayCount rows ≤ 4096
-  pub rise : (i j : ℕ) → i < j → j < delayCount rows
-      → (delayRowAt rows i .trip < delayRowAt rows j .trip) ⊎ ((delayRowAt rows i .trip ≡ unknownTrip) × (delayRowAt rows j .trip ≡ unknownTrip))
-  pub size : (i : ℕ) → i < delayCount rows → tripSize rows i ≤ timeLimit
+pub record DelayRows (n : ℕ) (delay : ℕ → DelayRow) : Type 0 where
+  pub few : n ≤ 4096
+  pub rise : (i j : ℕ) → i < j → j < n → (delay i .trip < delay j .trip) ⊎ ((delay i .trip ≡ unknownTrip) × (delay j .trip ≡ unknownTrip))
+  pub size : (i : ℕ) → i < n → sizeOf (delay i .delay) ≤ timeLimit
 
 -- the stop rows: few, strictly rising by row, then sequence, flags and sizes in their ranges
-pub record StopRows (stops : List ℕ) : Type 0 where
-  pub few : stopCount stops ≤ 4096
-  pub rise : (i j : ℕ) → i < j → j < stopCount stops
-      → (stopRowAt stops i .row < stopRowAt stops j .row) ⊎ ((stopRowAt stops i .row ≡ stopRowAt stops j .row) × (stopRowAt stops i .sequence < stopRowAt stops j .sequence))
-  pub flags : (j : ℕ) → j < stopCount stops → stopRowAt stops j .flags ≤ 7
-  pub departure : (j : ℕ) → j < stopCount stops → sizeOf (stopRowAt stops j .«departure_delay») ≤ timeLimit
-  pub arrival : (j : ℕ) → j < stopCount stops → sizeOf (stopRowAt stops j .«arrival_delay») ≤ timeLimit
+pub record StopRows (n : ℕ) (stop : ℕ → StopRow) : Type 0 where
+  pub few : n ≤ 4096
+  pub rise : (i j : ℕ) → i < j → j < n → (stop i .row < stop j .row) ⊎ ((stop i .row ≡ stop j .row) × (stop i .sequence < stop j .sequence))
+  pub flags : (j : ℕ) → j < n → stop j .flags ≤ 7
+  pub departure : (j : ℕ) → j < n → sizeOf (stop j .«departure_delay») ≤ timeLimit
+  pub arrival : (j : ℕ) → j < n → sizeOf (stop j .«arrival_delay») ≤ timeLimit
 
 -- both tables, of a timetable with this many trips
-pub record Delays (trips : ℕ) (rows stops : List ℕ) : Type 0 where
+pub record Delays (trips : ℕ) (D : DelayTables) : Type 0 where
   pub few : trips ≤ 4096
-  pub delayRows : DelayRows rows
-  pub stopRows : StopRows stops
-  pub trip : (i : ℕ) → i < delayCount rows → (delayRowAt rows i .trip < trips) ⊎ (delayRowAt rows i .trip ≡ unknownTrip)
-  pub row : (j : ℕ) → j < stopCount stops → stopRowAt stops j .row < delayCount rows
+  pub delayRows : DelayRows (D .delays) (D .delay)
+  pub stopRows : StopRows (D .stopRows) (D .stopRow)
+  pub trip : (i : ℕ) → i < D .delays → (D .delay i .trip < trips) ⊎ (D .delay i .trip ≡ unknownTrip)
+  pub row : (j : ℕ) → j < D .stopRows → D .stopRow j .row < D .delays

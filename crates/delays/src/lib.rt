@@ -2,8 +2,8 @@
 // Two tables of u32 numbers are lent. A delay row has 2: trip (4294967295 for an unknown trip) and delay. A stop row has 5:
 // delay row, sequence, flags (1 departure given, 2 arrival given, 4 skipped), departure delay, arrival delay. Delays are the
 // bits of an i32; what they mean is said in crate signed, what they do to a stop time in crate realtime.
-// Specs: Rows (rows, what the tables say of a stop time), Largest (the margin), Door (questions 1, 2, 4, 5, 6 and what each
-// call answers), Sane (what a yes to them gives), Asked and Halving (how the code asks and searches).
+// Specs: Delays (what the tables say of a stop time, the margin), Flat (the tables from two slices), Door (questions 1, 2, 4, 5,
+// 6 and what each call answers), Sane (what a yes to them gives), Asked and Halving (how the code asks and searches).
 // Proves: every function equal to its definition, the searches by halving among them; that a door without a no gives tables
 // with one row for a trip and one for a stop time, and delays in their range; that without a delay row the margin is 0; that
 // the margin covers every trip delay and every given stop delay, or is the cap.
@@ -13,14 +13,14 @@ ghost use mathlib.Core.Bool.{cond};
 ghost use Prim.Native.Nat.{_+_, _*_, _-_, _<_, min, max};
 ghost use lib.ListN.{length};
 ghost use lib.Dec.{leb};
-ghost use Rattle.loops.specs.Iter.{hit};
+ghost use Rattle.loops.specs.Iter.{hit, everyIn};
 ghost use Rattle.loops.specs.Order.{Halved};
 ghost use Rattle.realtime.specs.Times.{sizeOf};
-ghost use Rattle.delays.specs.Rows.{delayCount, stopCount, delayRowAt, stopRowAt, delayRow, stopRow, foundOf, stopDelay};
-ghost use Rattle.delays.specs.Largest.{largest, tripSize, givenSize, stopSize, margin};
+ghost use Rattle.delays.specs.Delays.{delayRow, stopRow, stopDelay, givenSize, largest, margin};
+ghost use Rattle.delays.specs.Flat.{delayCount, stopCount, delayRowAt, stopRowAt, delayTables, delaysAlone, stopsAlone, foundOf};
 ghost use Rattle.delays.specs.Door.{tripNumbered, rowNumbered, stopInRange, tripsRise, stopsRise, delayCounts, delayLengths, delaysDoor};
 ghost use Rattle.delays.specs.Door.{marginOutcome, told, delayAtOutcome};
-ghost use Rattle.delays.specs.Asked.{asked, delayAsked, stopAsked, delaysAsked, stopsAsked, rowsAsked};
+ghost use Rattle.delays.specs.Asked.{asked, delayAsked, stopAsked, rowsAsked};
 ghost use Rattle.delays.specs.Sane.{DelayRows, StopRows};
 ghost use Rattle.delays.specs.Halving.{keyAt, Keyed};
 use realtime::StopDelay;
@@ -150,7 +150,7 @@ fn previous(i: usize) -> usize
 // Question 4, 5 or 6 of delay row i.
 fn delay_asked(question: u32, trips: u32, rows: &[u32], i: usize) -> bool
     requires { ⌜ i < delayCount (now rows) ⌝ }
-    ensures { λ r. ⌜ r ≡ delayAsked question trips (now (rows .entry)) i ⌝ }
+    ensures { λ r. ⌜ r ≡ delayAsked question trips (delayRowAt (now (rows .entry))) i ⌝ }
 {
     let row = delay_row_at(rows, i);
     let prior = delay_row_at(rows, previous(i));
@@ -166,7 +166,7 @@ fn delay_asked(question: u32, trips: u32, rows: &[u32], i: usize) -> bool
 // Question 4, 5 or 6 of stop row j, where there are n delay rows.
 fn stop_asked(question: u32, n: usize, stop_rows: &[u32], j: usize) -> bool
     requires { ⌜ j < stopCount (now «stop_rows») ⌝ }
-    ensures { λ r. ⌜ r ≡ stopAsked question n (now («stop_rows» .entry)) j ⌝ }
+    ensures { λ r. ⌜ r ≡ stopAsked question n (stopRowAt (now («stop_rows» .entry))) j ⌝ }
 {
     let row = stop_row_at(stop_rows, j);
     let prior = stop_row_at(stop_rows, previous(j));
@@ -176,7 +176,7 @@ fn stop_asked(question: u32, n: usize, stop_rows: &[u32], j: usize) -> bool
 
 // Question 4, 5 or 6 of every row of a table.
 fn delays_asked(question: u32, trips: u32, rows: &[u32]) -> bool
-    ensures { λ r. ⌜ r ≡ delaysAsked question trips (now (rows .entry)) ⌝ }
+    ensures { λ r. ⌜ r ≡ everyIn (delayAsked question trips (delayRowAt (now (rows .entry)))) 0 (delayCount (now (rows .entry))) ⌝ }
 {
     let n = rows.len() / 2;
     let mut i: usize = 0;
@@ -190,7 +190,7 @@ fn delays_asked(question: u32, trips: u32, rows: &[u32]) -> bool
 }
 
 fn stops_asked(question: u32, n: usize, stop_rows: &[u32]) -> bool
-    ensures { λ r. ⌜ r ≡ stopsAsked question n (now («stop_rows» .entry)) ⌝ }
+    ensures { λ r. ⌜ r ≡ everyIn (stopAsked question n (stopRowAt (now («stop_rows» .entry)))) 0 (stopCount (now («stop_rows» .entry))) ⌝ }
 {
     let m = stop_rows.len() / 5;
     let mut j: usize = 0;
@@ -205,7 +205,7 @@ fn stops_asked(question: u32, n: usize, stop_rows: &[u32]) -> bool
 
 // Question 4, 5 or 6 of both tables.
 pub fn rows_asked(question: u32, trips: u32, rows: &[u32], stop_rows: &[u32]) -> bool
-    ensures { λ r. ⌜ r ≡ rowsAsked question trips (now (rows .entry)) (now («stop_rows» .entry)) ⌝ }
+    ensures { λ r. ⌜ r ≡ rowsAsked question trips (delayTables (now (rows .entry)) (now («stop_rows» .entry))) ⌝ }
 {
     let delays = delays_asked(question, trips, rows);
     let stops = stops_asked(question, rows.len() / 2, stop_rows);
@@ -298,8 +298,8 @@ fn first_from(t: &[u32], width: usize, n: usize, key: u64) -> usize
 
 // The delay row of a trip: the first one, by halving.
 pub fn delay_row(rows: &[u32], trip: u32) -> Found
-    requires { ⌜ DelayRows (now rows) ⌝ }
-    ensures { λ r. ⌜ r ≡ foundOf (delayRow (now (rows .entry)) trip) ⌝ }
+    requires { ⌜ DelayRows (delayCount (now rows)) (delayRowAt (now rows)) ⌝ }
+    ensures { λ r. ⌜ r ≡ foundOf (delayRow (delaysAlone (now (rows .entry))) trip) ⌝ }
 {
     let n = rows.len() / 2;
     let at = first_from(rows, 2, n, key_of(trip, 0));
@@ -314,8 +314,8 @@ pub fn delay_row(rows: &[u32], trip: u32) -> Found
 
 // The stop row of a delay row at a sequence, by halving.
 pub fn stop_row(stop_rows: &[u32], row: u32, sequence: u32) -> Found
-    requires { ⌜ StopRows (now «stop_rows») ⌝ }
-    ensures { λ r. ⌜ r ≡ foundOf (stopRow (now («stop_rows» .entry)) row sequence) ⌝ }
+    requires { ⌜ StopRows (stopCount (now «stop_rows»)) (stopRowAt (now «stop_rows»)) ⌝ }
+    ensures { λ r. ⌜ r ≡ foundOf (stopRow (stopsAlone (now («stop_rows» .entry))) row sequence) ⌝ }
 {
     let m = stop_rows.len() / 5;
     let key = key_of(row, sequence);
@@ -331,8 +331,9 @@ pub fn stop_row(stop_rows: &[u32], row: u32, sequence: u32) -> Found
 
 // What the tables say of a stop time, of a trip whose delay row is at `row`.
 pub fn stop_delay(rows: &[u32], stop_rows: &[u32], row: usize, sequence: u32) -> StopDelay
-    requires { ⌜ DelayRows (now rows) ⌝ ∗ ⌜ StopRows (now «stop_rows») ⌝ ∗ ⌜ row < delayCount (now rows) ⌝ }
-    ensures { λ r. ⌜ r ≡ stopDelay (now (rows .entry)) (now («stop_rows» .entry)) (hit row) sequence ⌝ }
+    requires { ⌜ DelayRows (delayCount (now rows)) (delayRowAt (now rows)) ⌝ ∗ ⌜ row < delayCount (now rows) ⌝ }
+    requires { ⌜ StopRows (stopCount (now «stop_rows»)) (stopRowAt (now «stop_rows»)) ⌝ }
+    ensures { λ r. ⌜ r ≡ stopDelay (delayTables (now (rows .entry)) (now («stop_rows» .entry))) (hit row) sequence ⌝ }
 {
     let own = delay_row_at(rows, row);
     let found = stop_row(stop_rows, row as u32, sequence);
@@ -400,7 +401,7 @@ pub fn given_size(row: StopRow) -> u32
 
 // The largest over each table.
 fn largest_trip(rows: &[u32]) -> u32
-    ensures { λ r. ⌜ r ≡ largest (tripSize (now (rows .entry))) (delayCount (now (rows .entry))) ⌝ }
+    ensures { λ r. ⌜ r ≡ largest (λ i. sizeOf (delayRowAt (now (rows .entry)) i .delay)) (delayCount (now (rows .entry))) ⌝ }
 {
     let n = rows.len() / 2;
     let mut most: u32 = 0;
@@ -413,7 +414,7 @@ fn largest_trip(rows: &[u32]) -> u32
 }
 
 fn largest_stop(stop_rows: &[u32]) -> u32
-    ensures { λ r. ⌜ r ≡ largest (stopSize (now («stop_rows» .entry))) (stopCount (now («stop_rows» .entry))) ⌝ }
+    ensures { λ r. ⌜ r ≡ largest (λ j. givenSize (stopRowAt (now («stop_rows» .entry)) j)) (stopCount (now («stop_rows» .entry))) ⌝ }
 {
     let m = stop_rows.len() / 5;
     let mut most: u32 = 0;
@@ -427,7 +428,7 @@ fn largest_stop(stop_rows: &[u32]) -> u32
 
 // The largest size among trip delays and given stop delays, at most the cap.
 pub fn rt_margin(rows: &[u32], stop_rows: &[u32], cap: u32) -> u32
-    ensures { λ r. ⌜ r ≡ margin (now (rows .entry)) (now («stop_rows» .entry)) cap ⌝ }
+    ensures { λ r. ⌜ r ≡ margin (delayTables (now (rows .entry)) (now («stop_rows» .entry))) cap ⌝ }
 {
     smaller(cap, larger(largest_trip(rows), largest_stop(stop_rows)))
 }

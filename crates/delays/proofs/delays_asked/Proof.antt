@@ -1,6 +1,6 @@
 use Rattle.loops.specs.Iter.{everyIn}
-use Rattle.delays.specs.Rows.{delayCount}
-use Rattle.delays.specs.Asked.{delayAsked, delaysAsked}
+use Rattle.delays.specs.Flat.{delayCount, delayRowAt}
+use Rattle.delays.specs.Asked.{delayAsked}
 use Prim.Native.Nat.{_-_}
 use borrow.Author.Tests.{not-false, not-true}
 use Rattle.loops.proofs.Iter.{every-again, every-left, every-no}
@@ -10,7 +10,7 @@ use Rattle.delays.proofs.delays_asked.Statement.{statement}
 use Rattle.delays.proofs.delays_asked.Tie as tie
 
 abbrev Inv-loop : tie.InvT-loop
-Inv-loop question trips rows n i₀ i = (n ≡ delayCount rows) × (delaysAsked question trips rows ≡ everyIn (delayAsked question trips rows) i n)
+Inv-loop question trips rows n i₀ i = (n ≡ delayCount rows) × (everyIn (delayAsked question trips (delayRowAt rows)) 0 (delayCount rows) ≡ everyIn (delayAsked question trips (delayRowAt rows)) i n)
 
 abbrev μ-loop : tie.MeasureT-loop
 μ-loop question trips rows n i₀ i = n - i

@@ -1,8 +1,8 @@
-use Rattle.delays.specs.Rows.{stopCount}
+use Rattle.delays.specs.Flat.{stopCount, stopRowAt}
 use Rattle.loops.proofs.Iter.{range-again, range-left}
 use Rattle.loops.specs.Iter.{range}
 use borrow.Author.Needs.{needs}
-use Rattle.delays.specs.Largest.{largest, stopSize, orLarger}
+use Rattle.delays.specs.Delays.{givenSize, largest, orLarger}
 use native.Mathlib.Omega.{arith}
 use mathlib.Core.Path.{_≡_, refl}
 use Prim.Native.Nat.{_-_}
@@ -10,7 +10,7 @@ use Rattle.delays.proofs.largest_stop.Statement.{statement}
 use Rattle.delays.proofs.largest_stop.Tie as tie
 
 abbrev Inv-loop : tie.InvT-loop
-Inv-loop stop-rows m most₀ j₀ most j = (m ≡ stopCount stop-rows) × (largest (stopSize stop-rows) (stopCount stop-rows) ≡ range (orLarger (stopSize stop-rows)) j m most)
+Inv-loop stop-rows m most₀ j₀ most j = (m ≡ stopCount stop-rows) × (largest (λ k. givenSize (stopRowAt stop-rows k)) (stopCount stop-rows) ≡ range (orLarger (λ k. givenSize (stopRowAt stop-rows k))) j m most)
 
 abbrev μ-loop : tie.MeasureT-loop
 μ-loop stop-rows m most₀ j₀ most j = m - j

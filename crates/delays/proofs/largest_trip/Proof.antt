@@ -1,8 +1,9 @@
+use Rattle.realtime.specs.Times.{sizeOf}
 use Rattle.loops.proofs.Iter.{range-again, range-left}
 use Rattle.loops.specs.Iter.{range}
 use borrow.Author.Needs.{needs}
-use Rattle.delays.specs.Largest.{largest, tripSize, orLarger}
-use Rattle.delays.specs.Rows.{delayCount}
+use Rattle.delays.specs.Delays.{largest, orLarger}
+use Rattle.delays.specs.Flat.{delayCount, delayRowAt}
 use native.Mathlib.Omega.{arith}
 use mathlib.Core.Path.{_≡_, refl}
 use Prim.Native.Nat.{_-_}
@@ -10,7 +11,7 @@ use Rattle.delays.proofs.largest_trip.Statement.{statement}
 use Rattle.delays.proofs.largest_trip.Tie as tie
 
 abbrev Inv-loop : tie.InvT-loop
-Inv-loop rows n most₀ i₀ most i = (n ≡ delayCount rows) × (largest (tripSize rows) (delayCount rows) ≡ range (orLarger (tripSize rows)) i n most)
+Inv-loop rows n most₀ i₀ most i = (n ≡ delayCount rows) × (largest (λ k. sizeOf (delayRowAt rows k .delay)) (delayCount rows) ≡ range (orLarger (λ k. sizeOf (delayRowAt rows k .delay))) i n most)
 
 abbrev μ-loop : tie.MeasureT-loop
 μ-loop rows n most₀ i₀ most i = n - i

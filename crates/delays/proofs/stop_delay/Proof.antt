@@ -1,4 +1,5 @@
-use Rattle.delays.specs.Rows.{stopRow}
+use Rattle.delays.specs.Flat.{stopsAlone}
+use Rattle.delays.specs.Delays.{stopRow}
 use denote.Ref.{now}
 use Rattle.delays.proofs.Search.{found-hit, found-miss}
 use Rattle.loops.proofs.Search.{hit-below}
@@ -23,13 +24,13 @@ stop-row-at-requires : tie.Need-stop-row-at-requires
 stop-row-at-requires c κs = hit-below _ _ _ (found-hit _ _ (sym (c .before .before .before .stop-row .ensures) ∙ c .before .found .given .1))
 
 returns : tie.Need-returns
-returns c = let s = c .before .before .before .before .before .before .before .before in simp (c .before .before .before .before .before .delay-row-at .ensures, c .stop-row-at .ensures, found-hit (stopRow (now (s .args .stop-rows)) (s .args .row) (s .args .sequence)) (c .before .before .found .given .0 .0) (sym (c .before .before .before .before .stop-row .ensures) ∙ c .before .before .found .given .1))
+returns c = let s = c .before .before .before .before .before .before .before .before in simp (c .before .before .before .before .before .delay-row-at .ensures, c .stop-row-at .ensures, found-hit (stopRow (stopsAlone (now (s .args .stop-rows))) (s .args .row) (s .args .sequence)) (c .before .before .found .given .0 .0) (sym (c .before .before .before .before .stop-row .ensures) ∙ c .before .before .found .given .1))
 
 enum-told : tie.Need-enum-told
 enum-told c = search needs
 
 returns-2 : tie.Need-returns-2
-returns-2 c = let s = c .before .before .before .before .before .before in simp (c .before .before .before .delay-row-at .ensures, found-miss (stopRow (now (s .args .stop-rows)) (s .args .row) (s .args .sequence)) (sym (c .before .before .stop-row .ensures) ∙ c .enum-told .given .1))
+returns-2 c = let s = c .before .before .before .before .before .before in simp (c .before .before .before .delay-row-at .ensures, found-miss (stopRow (stopsAlone (now (s .args .stop-rows))) (s .args .row) (s .args .sequence)) (sym (c .before .before .stop-row .ensures) ∙ c .enum-told .given .1))
 
 pub stop-delay-spec : {M : Type 1} → statement M
 stop-delay-spec =

@@ -1,5 +1,5 @@
-use Rattle.delays.specs.Rows.{stopCount}
-use Rattle.delays.specs.Asked.{stopAsked, stopsAsked}
+use Rattle.delays.specs.Flat.{stopCount, stopRowAt}
+use Rattle.delays.specs.Asked.{stopAsked}
 use Rattle.loops.specs.Iter.{everyIn}
 use Prim.Native.Nat.{_-_}
 use borrow.Author.Tests.{not-false, not-true}
@@ -10,7 +10,7 @@ use Rattle.delays.proofs.stops_asked.Statement.{statement}
 use Rattle.delays.proofs.stops_asked.Tie as tie
 
 abbrev Inv-loop : tie.InvT-loop
-Inv-loop question n stop-rows m j₀ j = (m ≡ stopCount stop-rows) × (stopsAsked question n stop-rows ≡ everyIn (stopAsked question n stop-rows) j m)
+Inv-loop question n stop-rows m j₀ j = (m ≡ stopCount stop-rows) × (everyIn (stopAsked question n (stopRowAt stop-rows)) 0 (stopCount stop-rows) ≡ everyIn (stopAsked question n (stopRowAt stop-rows)) j m)
 
 abbrev μ-loop : tie.MeasureT-loop
 μ-loop question n stop-rows m j₀ j = m - j
