@@ -4,7 +4,7 @@
 // Proves: that the two ways to make an answer are those of the definition.
 // Assumes nothing.
 ghost use mathlib.Core.Path.{_≡_};
-ghost use mathlib.Core.Bool.{_&&_};
+ghost use mathlib.Core.Bool.{_&&_, _||_};
 ghost use Rattle.door.specs.Door.{refusal, success};
 
 // The largest time, duration, headway or delay size, in seconds.
@@ -40,4 +40,11 @@ pub fn both(a: bool, b: bool) -> bool
     ensures { λ r. ⌜ r ≡ a && b ⌝ }
 {
     if a { b } else { false }
+}
+
+// Either yes.
+pub fn either(a: bool, b: bool) -> bool
+    ensures { λ r. ⌜ r ≡ a || b ⌝ }
+{
+    if a { true } else { b }
 }

@@ -7,7 +7,8 @@ ghost use mathlib.Core.Path.{_≡_};
 ghost use Rattle.cell_bitset.specs.CellSet.{created, resized, withCell, held, meets, union, holdsNone};
 ghost use Rattle.walk.specs.Walk.{walkDuration, roundCount};
 ghost use Rattle.frequency.specs.Entry.{freqOutcome};
-ghost use Rattle.realtime.specs.Door.{departureOutcome, arrivalOutcome, skippedOutcome, marginOutcome, delayAtOutcome};
+ghost use Rattle.realtime.specs.Door.{departureOutcome, arrivalOutcome, skippedOutcome};
+ghost use Rattle.delays.specs.Door.{marginOutcome, delayAtOutcome};
 ghost use Rattle.label.specs.Calls.{outcome, storeOutcome, loadAnswer};
 ghost use Rattle.label.specs.declared.Label.the-variants.{Access, Transit, Walk};
 ghost use Rattle.clock.specs.Clock.{serviceSecond};
@@ -19,11 +20,11 @@ ghost use Rattle.exports.specs.Counts.{countsOf};
 ghost use Rattle.exports.specs.Shown.{shown, shownOf, shownTransfers, shownTransfersOf};
 use cell_bitset::CellBitSet;
 use cell_bitset::CellSetAnswer;
+use delays::DelayAt;
 use door::Answer;
 use frequency::FreqAnswer;
 use label::LabelAnswer;
 use lines::Grouped;
-use realtime::DelayAt;
 use tables::Counts;
 use transfers::Built;
 
@@ -162,7 +163,7 @@ pub extern "C" fn savoiky_margin(
 ) -> Answer
     ensures { λ r. ⌜ r ≡ marginOutcome trips «delay_rows» «stop_row_count» (now (rows .entry)) (now («stop_rows» .entry)) 21600 ⌝ }
 {
-    realtime::margin(
+    delays::margin(
         trips,
         delay_rows,
         stop_row_count,
@@ -186,7 +187,7 @@ pub extern "C" fn savoiky_delay_at(
 ) -> DelayAt
     ensures { λ r. ⌜ r ≡ delayAtOutcome trips «delay_rows» «stop_row_count» (now (rows .entry)) (now («stop_rows» .entry)) trip sequence ⌝ }
 {
-    realtime::delay_at(
+    delays::delay_at(
         trips,
         delay_rows,
         stop_row_count,

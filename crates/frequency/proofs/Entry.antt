@@ -14,12 +14,6 @@ use Rattle.frequency.specs.declared.FreqAnswer.{FreqAnswer}
 use Rattle.frequency.specs.Gtfs.{windowCount, windowAt, earliestFreqBoard, Nominal}
 use Rattle.frequency.specs.Entry.{isTime, areTimes, windowInRange, windowsInRange, inRange, freqCode, boardAnswer, answerOf, freqOutcome}
 
--- past its end a table reads 0
-past : (l : List ℕ) (k : ℕ) → length l ≤ k → getD l k 0 ≡ 0
-past [] k h = refl
-past (x ∷ l) zero h = absurd (omega arith)
-past (x ∷ l) (suc k) h = past l k (omega arith)
-
 -- what a yes says of three times
 record Three (a b c : ℕ) : Type 0 where
   one : a ≤ 1048575
@@ -35,25 +29,20 @@ are-times a b c e =
       three = leb-true c 1048575 (and-right (isTime b) (isTime c) q);
     }
 
-module _ (ws : List ℕ) (e : windowsInRange ws ≡ true) where
-  -- word k is the start, the end or the headway of window k / 3
-  word : (k : ℕ) → k / 3 < windowCount ws → getD ws k 0 ≤ 1048575
-  word k u =
-      let r = are-times _ _ _ (everyIn-at (λ j. windowInRange (windowAt ws j)) (windowCount ws) (k / 3) e u) in
-      ⊎-elim
-      (λ (l : k < 3 * (k / 3) + 1). let z : k ≡ 3 * (k / 3) = omega arith in rw z (r .one))
-      (λ (l : 3 * (k / 3) + 1 ≤ k). ⊎-elim (λ (m : k < 3 * (k / 3) + 2). let z : k ≡ 3 * (k / 3) + 1 = omega arith in rw z (r .two)) (λ (m : 3 * (k / 3) + 2 ≤ k). let z : k ≡ 3 * (k / 3) + 2 = omega arith in rw z (r .three)) (split k (3 * (k / 3) + 2)))
-      (split k (3 * (k / 3) + 1))
+-- the times of window i
+window-times : (ws : List ℕ) → windowsInRange ws ≡ true → (i : ℕ) → i < windowCount ws → Three (windowAt ws i .start) (windowAt ws i .end) (windowAt ws i .headway)
+window-times ws e i u = are-times _ _ _ (everyIn-at (λ j. windowInRange (windowAt ws j)) (windowCount ws) i e u)
 
-  all-words : (count : ℕ) → length ws ≡ 3 * count → (k : ℕ) → getD ws k 0 ≤ 1048575
-  all-words count n k = ⊎-elim (λ (u : k < length ws). word k (omega arith)) (λ (u : length ws ≤ k). omega (arith, past ws k u)) (split k (length ws))
-
-pub nominal : (count : ℕ) (ws : List ℕ) (base dep after : ℕ) → inRange ws base dep after ≡ true → length ws ≡ 3 * count → count ≤ 65536 → Nominal ws base dep after
+pub nominal : (count : ℕ) (ws : List ℕ) (base dep after : ℕ) → inRange ws base dep after ≡ true → length ws ≡ 3 * count → count ≤ 65536
+    → Nominal (windowCount ws) (windowAt ws) base dep after
 nominal count ws base dep after e n c =
     let t = are-times base dep after (and-left (areTimes base dep after) (windowsInRange ws) e) in
+    let w = window-times ws (and-right (areTimes base dep after) (windowsInRange ws) e) in
     record {
-      rows = omega arith;
-      words = all-words ws (and-right (areTimes base dep after) (windowsInRange ws) e) count n;
+      few = omega arith;
+      starts = λ i u. w i u .one;
+      ends = λ i u. w i u .two;
+      headways = λ i u. w i u .three;
       template = t .one;
       departs = omega (arith, t .two);
       ready = omega (arith, t .three);
@@ -64,7 +53,7 @@ pub counted : (count : ℕ) (ws : List ℕ) → length ws ≡ 3 * count → wind
 counted count ws n = omega arith
 
 -- all questions are answered yes
-pub answered : (count : ℕ) (ws : List ℕ) (base dep after : ℕ) (b : FreqBoard) {r : FreqAnswer} → r ≡ boardAnswer b → b ≡ earliestFreqBoard ws base dep after → inRange ws base dep after ≡ true → length ws ≡ 3 * count → count ≤ 65536 → r ≡ freqOutcome count ws base dep after
+pub answered : (count : ℕ) (ws : List ℕ) (base dep after : ℕ) (b : FreqBoard) {r : FreqAnswer} → r ≡ boardAnswer b → b ≡ earliestFreqBoard (windowCount ws) (windowAt ws) base dep after → inRange ws base dep after ≡ true → length ws ≡ 3 * count → count ≤ 65536 → r ≡ freqOutcome count ws base dep after
 answered count ws base dep after b e f i n c = e ∙ ap₂ answerOf (sym yes5) f
   where
     yes5 : freqCode count ws base dep after ≡ 0

@@ -4,7 +4,6 @@ use Prim.Native.Nat.{ℕ, suc, _+_, _-_, _*_, _<_, _≤_}
 use mathlib.Core.Path.{_≡_, refl, ap, ap₂, sym, _∙_, subst}
 use mathlib.Core.Bool.{Bool, true, false, cond, _&&_, not}
 use mathlib.Core.Logic.{_⊎_, inl, inr, ⊎-elim}
-use mathlib.Core.List.{List}
 use native.Mathlib.Omega.{arith}
 use native.Mathlib.Nat.{mul-le-mul-right, eq-or-lt-of-le}
 use lib.Dec.{eqb, ltb, leb}
@@ -14,65 +13,62 @@ use Rattle.signed.specs.Signed.{ofBits, bitsOf}
 use Rattle.signed.proofs.Laws.{of-sub}
 use Rattle.loops.specs.Iter.{Hit, hit, miss}
 use Rattle.loops.proofs.Iter.{and-left, and-right, first-found, first-none, first-before, iter-keeps}
-use Rattle.loops.proofs.Search.{split}
+use Rattle.loops.proofs.Search.{clash, split}
 use Rattle.frequency.specs.declared.Boarding.{Boarding}
 use Rattle.frequency.specs.declared.FreqBoard.{FreqBoard}
 use Rattle.frequency.specs.declared.FreqBoard.the-variants.{Nothing, Board}
-use Rattle.frequency.specs.Gtfs.{Window, windowCount, windowAt, runStart, isRun, notBefore, isBoardable, firstRun, boardHit, earlierOf, boardNext, earliestFreqBoard, Nominal}
+use Rattle.frequency.specs.Gtfs.{Window, runStart, isRun, notBefore, isBoardable, firstRun, boardHit, earlierOf, boardNext, earliestFreqBoard, Nominal}
 use Rattle.frequency.specs.Reading.{Boards, Earliest, Answers, none, earliest}
 use Rattle.frequency.proofs.Runs.{boardable-says, run-number}
 use Rattle.frequency.proofs.Best.{found-says, earlier-none}
 
-clash : {b : Bool} → b ≡ true → b ≡ false → ⊥
-clash {b} p q = let z : _≡_ {A = ℕ} 0 1 = cc in omega arith
-
-module _ (ws : List ℕ) (base dep after : ℕ) where
-  test : (n i k : ℕ) → Boards ws n base dep after i k → isBoardable (windowAt ws i) base dep after k ≡ true
-  test n i k b = ap₂ _&&_ (b .runs) (le-leb (after + base) (runStart (windowAt ws i) k + dep) (b .wanted))
+module _ (window : ℕ → Window) (base dep after : ℕ) where
+  test : (n i k : ℕ) → Boards n window base dep after i k → isBoardable (window i) base dep after k ≡ true
+  test n i k b = ap₂ _&&_ (b .runs) (le-leb (after + base) (runStart (window i) k + dep) (b .wanted))
 
   -- a window in which the search finds nothing has no run to board
-  window-none : (n i k : ℕ) → firstRun (windowAt ws i) base dep after ≡ miss → Boards ws n base dep after i k → ⊥
+  window-none : (n i k : ℕ) → firstRun (window i) base dep after ≡ miss → Boards n window base dep after i k → ⊥
   unfolding firstRun
   window-none n i k e b =
-      let w = windowAt ws i in
+      let w = window i in
       let t = test n i k b in
       let s = boardable-says w base dep after k t in
       clash t (first-none (isBoardable w base dep after) 0 (w .end - w .start - 0) k e (omega arith) (omega (arith, run-number w k (s .spaced) (s .runs))))
 
   -- the run that it finds is the earliest of the window
-  window-least : (n i m k : ℕ) → firstRun (windowAt ws i) base dep after ≡ hit m → Boards ws n base dep after i k → runStart (windowAt ws i) m ≤ runStart (windowAt ws i) k
+  window-least : (n i m k : ℕ) → firstRun (window i) base dep after ≡ hit m → Boards n window base dep after i k → runStart (window i) m ≤ runStart (window i) k
   unfolding firstRun
   window-least n i m k e b =
-      let w = windowAt ws i in
+      let w = window i in
       ⊎-elim
       (λ (l : k < m). absurd (clash (test n i k b) (first-before (isBoardable w base dep after) 0 (w .end - w .start - 0) m k e (omega arith) l)))
       (λ (l : m ≤ k). omega (arith, mul-le-mul-right {m = m} {n = k} (w .headway) l))
       (split k m)
 
   -- a run of the first n + 1 windows is one of the first n, or of window n
-  earlier-window : (n i k : ℕ) → Boards ws (suc n) base dep after i k → i < n → Boards ws n base dep after i k
+  earlier-window : (n i k : ℕ) → Boards (suc n) window base dep after i k → i < n → Boards n window base dep after i k
   earlier-window n i k b l = record { among = l; runs = b .runs; wanted = b .wanted }
 
-  later-window : (n i k : ℕ) → Boards ws n base dep after i k → Boards ws (suc n) base dep after i k
+  later-window : (n i k : ℕ) → Boards n window base dep after i k → Boards (suc n) window base dep after i k
   later-window n i k b = record { among = omega (arith, b .among); runs = b .runs; wanted = b .wanted }
 
-  last-window : (n i k : ℕ) → Boards ws (suc n) base dep after i k → (i < n) ⊎ (i ≡ n)
+  last-window : (n i k : ℕ) → Boards (suc n) window base dep after i k → (i < n) ⊎ (i ≡ n)
   last-window n i k b = ⊎-elim (λ e. inr e) (λ l. inl l) (let q : i ≤ n = omega (arith, b .among) in eq-or-lt-of-le q)
 
   -- window n is looked at
   module _ (n : ℕ) where
     abbrev w : Window
-    w = windowAt ws n
+    w = window n
 
-    by-window : {P : ℕ → ℕ → Type 0} → ((i k : ℕ) → Boards ws n base dep after i k → P i k) → ((k : ℕ) → Boards ws (suc n) base dep after n k → P n k) → (i k : ℕ) → Boards ws (suc n) base dep after i k → P i k
+    by-window : {P : ℕ → ℕ → Type 0} → ((i k : ℕ) → Boards n window base dep after i k → P i k) → ((k : ℕ) → Boards (suc n) window base dep after n k → P n k) → (i k : ℕ) → Boards (suc n) window base dep after i k → P i k
     by-window {P} f g i k b =
         ⊎-elim
         (λ l. f i k (earlier-window n i k b l))
-        (λ (q : i ≡ n). subst (λ (j : ℕ). Boards ws (suc n) base dep after j k → P j k) (sym q) (g k) b)
+        (λ (q : i ≡ n). subst (λ (j : ℕ). Boards (suc n) window base dep after j k → P j k) (sym q) (g k) b)
         (last-window n i k b)
 
     -- the earliest before it stays, where it has none that is earlier
-    stay : (a : Boarding) → Earliest ws n base dep after a → ((k : ℕ) → Boards ws (suc n) base dep after n k → a .departure + base ≤ runStart w k + dep) → Answers ws (suc n) base dep after (Board a)
+    stay : (a : Boarding) → Earliest n window base dep after a → ((k : ℕ) → Boards (suc n) window base dep after n k → a .departure + base ≤ runStart w k + dep) → Answers (suc n) window base dep after (Board a)
     stay a s f =
         earliest
         (record {
@@ -84,7 +80,7 @@ module _ (ws : List ℕ) (base dep after : ℕ) where
         })
 
     -- it has no run to board
-    keep : (x : FreqBoard) → firstRun w base dep after ≡ miss → Answers ws n base dep after x → Answers ws (suc n) base dep after x
+    keep : (x : FreqBoard) → firstRun w base dep after ≡ miss → Answers n window base dep after x → Answers (suc n) window base dep after x
     keep Nothing e (none p) = none (by-window p (λ k b. window-none (suc n) n k e b))
     keep (Board a) e (earliest s) = stay a s (λ k b. absurd (window-none (suc n) n k e b))
 
@@ -104,7 +100,7 @@ module _ (ws : List ℕ) (base dep after : ℕ) where
       new-runs = and-left (isRun w m) (notBefore base dep after t) (first-found (isBoardable w base dep after) 0 (w .end - w .start - 0) m e)
 
       -- run m is earlier than all before it
-      replace : ((i k : ℕ) → Boards ws n base dep after i k → t < runStart (windowAt ws i) k) → Answers ws (suc n) base dep after (Board new)
+      replace : ((i k : ℕ) → Boards n window base dep after i k → t < runStart (window i) k) → Answers (suc n) window base dep after (Board new)
       unfolding new
       replace f =
           earliest {b = new}
@@ -116,41 +112,41 @@ module _ (ws : List ℕ) (base dep after : ℕ) where
             first = λ i k b l. omega (arith, new-departs, f i k (earlier-window n i k b l));
           })
 
-      found : (x : FreqBoard) → Answers ws n base dep after x → Answers ws (suc n) base dep after (earlierOf x (boardHit w n base dep (hit m)))
+      found : (x : FreqBoard) → Answers n window base dep after x → Answers (suc n) window base dep after (earlierOf x (boardHit w n base dep (hit m)))
       unfolding new
       found Nothing (none p) = replace (λ i k b. absurd (p i k b))
       found (Board a) (earliest s) = go (leb (a .departure) (t + dep - base)) refl
         where
-          go : (b : Bool) → leb (a .departure) (t + dep - base) ≡ b → Answers ws (suc n) base dep after (cond b (Board a) (Board new))
+          go : (b : Bool) → leb (a .departure) (t + dep - base) ≡ b → Answers (suc n) window base dep after (cond b (Board a) (Board new))
           go true q = stay a s (λ k b. omega (arith, leb-true (a .departure) (t + dep - base) q, new-departs, window-least (suc n) n m k e b))
           go false q = replace (λ i k b. omega (arith, leb-false (a .departure) (t + dep - base) q, s .least i k b, new-departs))
 
-    step : (x : FreqBoard) → Answers ws n base dep after x → Answers ws (suc n) base dep after (boardNext ws base dep after n x)
+    step : (x : FreqBoard) → Answers n window base dep after x → Answers (suc n) window base dep after (boardNext window base dep after n x)
     step x s = go (firstRun w base dep after) refl
       where
-        go : (h : Hit) → firstRun w base dep after ≡ h → Answers ws (suc n) base dep after (earlierOf x (boardHit w n base dep h))
+        go : (h : Hit) → firstRun w base dep after ≡ h → Answers (suc n) window base dep after (earlierOf x (boardHit w n base dep h))
         go (hit m) e = found m e x s
-        go miss e = subst (λ (y : FreqBoard). Answers ws (suc n) base dep after y) (earlier-none x) (keep x e s)
+        go miss e = subst (λ (y : FreqBoard). Answers (suc n) window base dep after y) (earlier-none x) (keep x e s)
 
   -- what earliest_freq_board finds is the earliest boarding
-  pub answers : Answers ws (windowCount ws) base dep after (earliestFreqBoard ws base dep after)
+  pub answers : (n : ℕ) → Answers n window base dep after (earliestFreqBoard n window base dep after)
   unfolding earliestFreqBoard
-  answers =
-      let none-before : Answers ws 0 base dep after Nothing = none (λ i k b. absurd (omega (arith, b .among))) in
-      let z : 0 + (windowCount ws - 0) ≡ windowCount ws = omega arith in
-      rw z at (iter-keeps (λ n x. Answers ws n base dep after x) (boardNext ws base dep after) 0 (windowCount ws - 0) Nothing none-before (λ k x l u p. step k x p))
+  answers n =
+      let none-before : Answers 0 window base dep after Nothing = none (λ i k b. absurd (omega (arith, b .among))) in
+      let z : 0 + (n - 0) ≡ n = omega arith in
+      rw z at (iter-keeps (λ m x. Answers m window base dep after x) (boardNext window base dep after) 0 (n - 0) Nothing none-before (λ k x l u p. step k x p))
 
   -- it, taken apart
-  pub board-is : (b : Boarding) → earliestFreqBoard ws base dep after ≡ Board b → Earliest ws (windowCount ws) base dep after b
-  board-is b e = of (subst (λ (y : FreqBoard). Answers ws (windowCount ws) base dep after y) e answers)
+  pub board-is : (n : ℕ) (b : Boarding) → earliestFreqBoard n window base dep after ≡ Board b → Earliest n window base dep after b
+  board-is n b e = of (subst (λ (y : FreqBoard). Answers n window base dep after y) e (answers n))
     where
-      of : Answers ws (windowCount ws) base dep after (Board b) → Earliest ws (windowCount ws) base dep after b
+      of : Answers n window base dep after (Board b) → Earliest n window base dep after b
       of (earliest s) = s
 
-  pub nothing-is : earliestFreqBoard ws base dep after ≡ Nothing → (i k : ℕ) → Boards ws (windowCount ws) base dep after i k → ⊥
-  nothing-is e = of (subst (λ (y : FreqBoard). Answers ws (windowCount ws) base dep after y) e answers)
+  pub nothing-is : (n : ℕ) → earliestFreqBoard n window base dep after ≡ Nothing → (i k : ℕ) → Boards n window base dep after i k → ⊥
+  nothing-is n e = of (subst (λ (y : FreqBoard). Answers n window base dep after y) e (answers n))
     where
-      of : Answers ws (windowCount ws) base dep after Nothing → (i k : ℕ) → Boards ws (windowCount ws) base dep after i k → ⊥
+      of : Answers n window base dep after Nothing → (i k : ℕ) → Boards n window base dep after i k → ⊥
       of (none p) = p
 
 -- the difference of two numbers up to l is no larger than l
@@ -162,26 +158,26 @@ size-sub l a b u v = go (ltb a b) refl
     go false e = omega arith
 
 -- What a query asks of the numbers.
-module _ (ws : List ℕ) (base dep after : ℕ) (n : Nominal ws base dep after) (b : Boarding) (e : earliestFreqBoard ws base dep after ≡ Board b) where
+module _ (n : ℕ) (window : ℕ → Window) (base dep after : ℕ) (nominal : Nominal n window base dep after) (b : Boarding) (e : earliestFreqBoard n window base dep after ≡ Board b) where
   -- the run starts before the largest end
-  pub start-bound : runStart (windowAt ws (b .window)) (b .run) < 1048575
+  pub start-bound : runStart (window (b .window)) (b .run) < 1048575
   start-bound =
-      let w = windowAt ws (b .window) in
-      let r : runStart w (b .run) < w .end = ltb-true _ _ (and-right (not (eqb (w .headway) 0)) (ltb (runStart w (b .run)) (w .end)) (board-is ws base dep after b e .boards .runs)) in
-      omega (arith, n .words (3 * b .window + 1))
+      let w = window (b .window) in
+      let r : runStart w (b .run) < w .end = ltb-true _ _ (and-right (not (eqb (w .headway) 0)) (ltb (runStart w (b .run)) (w .end)) (board-is window base dep after n b e .boards .runs)) in
+      omega (arith, nominal .ends (b .window) (board-is window base dep after n b e .boards .among))
 
   pub departure-after : after ≤ b .departure
-  departure-after = omega (arith, board-is ws base dep after b e .departs, board-is ws base dep after b e .boards .wanted)
+  departure-after = omega (arith, board-is window base dep after n b e .departs, board-is window base dep after n b e .boards .wanted)
 
   pub departure-bound : b .departure < 1048575 + dep
-  departure-bound = omega (arith, start-bound, board-is ws base dep after b e .departs)
+  departure-bound = omega (arith, start-bound, board-is window base dep after n b e .departs)
 
   -- the shift means run start less base, and is no larger than a time
-  pub shift-means : ofBits (b .«time_shift_s») ≡ subℕ (runStart (windowAt ws (b .window)) (b .run)) base
-  shift-means = ap ofBits (board-is ws base dep after b e .shifted) ∙ of-sub _ base (omega (arith, start-bound)) (omega (arith, n .template))
+  pub shift-means : ofBits (b .«time_shift_s») ≡ subℕ (runStart (window (b .window)) (b .run)) base
+  shift-means = ap ofBits (board-is window base dep after n b e .shifted) ∙ of-sub _ base (omega (arith, start-bound)) (omega (arith, nominal .template))
 
   pub shift-size : natAbs (ofBits (b .«time_shift_s»)) ≤ 1048575
-  shift-size = subst (λ (z : ℤ). natAbs z ≤ 1048575) (sym shift-means) (size-sub 1048575 _ base (omega (arith, start-bound)) (n .template))
+  shift-size = subst (λ (z : ℤ). natAbs z ≤ 1048575) (sym shift-means) (size-sub 1048575 _ base (omega (arith, start-bound)) (nominal .template))
 
   pub window-bound : b .window < 65536
-  window-bound = omega (arith, board-is ws base dep after b e .boards .among, n .rows)
+  window-bound = omega (arith, board-is window base dep after n b e .boards .among, nominal .few)

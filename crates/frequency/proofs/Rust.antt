@@ -5,20 +5,20 @@ use mathlib.Core.Path.{_≡_, refl, ap, ap₂, sym, _∙_}
 use mathlib.Core.Bool.{Bool, true, false, cond, _&&_, _||_}
 use mathlib.Core.Logic.{⊎-elim}
 use mathlib.Core.Option.{Option, none, some}
-use mathlib.Core.List.{List}
 use native.Mathlib.Omega.{arith}
 use native.Mathlib.Nat.{mod-eq-of-lt, mod-lt, div-add-mod', add-mul, one-mul, zero-mul, min-eq-left}
 use lib.Dec.{eqb, ltb, leb}
 use lib.IntN.{ℤ, pos, negsuc, negℤ, subℕ, _+ℤ_, _-ℤ_, +ℤ-assoc, +ℤ-comm, negℤ-+ℤ, negℤ-negℤ}
 use lib.Signed.{leZ}
 use borrow.Author.Tests.{lt-ltb, le-ltb, le-leb, lt-leb, eqb-true, eqb-false, leb-true, leb-false, ltb-true, ltb-false}
-use Rattle.loops.specs.Iter.{Hit, hit, miss, iter}
+use Rattle.loops.specs.Iter.{Hit, hit, miss}
+use Rattle.loops.proofs.Iter.{iter-as}
 use Rattle.loops.proofs.Search.{split}
 use Rattle.signed.specs.Signed.{ofBits, bitsOf}
 use Rattle.signed.proofs.Laws.{of-low, of-sub}
 use Rattle.frequency.specs.declared.FreqBoard.{FreqBoard}
 use Rattle.frequency.specs.declared.FreqBoard.the-variants.{Nothing, Board}
-use Rattle.frequency.specs.Gtfs.{Window, windowCount, windowAt, runStart, firstRun, boardHit, windowBoard, earlierOf, boardNext, earliestFreqBoard, Nominal}
+use Rattle.frequency.specs.Gtfs.{Window, runStart, firstRun, boardHit, windowBoard, earlierOf, boardNext, earliestFreqBoard, Nominal}
 use Rattle.frequency.specs.Rust.{asU32, maxI64, saturatingAdd, saturatingMul, divCeil, maxTries, boardOffset, tMin, firstTry, tries, rustWindow, keepBest, rustBoard, pairOf}
 use Rattle.frequency.proofs.Runs.{Covers, run-miss, run-first, run-later, run-past}
 
@@ -181,17 +181,14 @@ pair-earlier (Board a) (Board b) = go (leb (a .departure) (b .departure))
     go true = refl
     go false = refl
 
--- a loop in another form
-iter-as : {S T : Type 0} (h : S → T) (f : ℕ → S → S) (g : ℕ → T → T) → ((k : ℕ) (x : S) → h (f k x) ≡ g k (h x)) → (i n : ℕ) (x : S) → h (iter f i n x) ≡ iter g i n (h x)
-unfolding iter
-iter-as h f g e i zero x = refl
-iter-as h f g e i (suc n) x = iter-as h f g e (suc i) n (f i x) ∙ ap (iter g (suc i) n) (e i x)
-
 -- the Rust's departure and shift are those of the definition
-pub rust-same : (ws : List ℕ) (base dep after : ℕ) → Nominal ws base dep after → rustBoard ws base dep after ≡ pairOf (earliestFreqBoard ws base dep after)
+pub rust-same : (n : ℕ) (window : ℕ → Window) (base dep after : ℕ) → Nominal n window base dep after
+    → rustBoard n window base dep after ≡ pairOf (earliestFreqBoard n window base dep after)
 unfolding rustBoard earliestFreqBoard
-rust-same ws base dep after n =
+rust-same n window base dep after m =
     sym
-    (iter-as pairOf (boardNext ws base dep after) (λ i best. keepBest best (rustWindow (windowAt ws i) base dep after))
-    (λ k x. pair-earlier x (windowBoard (windowAt ws k) k base dep after) ∙ ap (keepBest (pairOf x)) (sym (window-same (windowAt ws k) base dep after (n .words (3 * k)) (n .words (3 * k + 1)) (n .words (3 * k + 2)) (n .template) (n .departs) (n .ready) k)))
-    0 (windowCount ws - 0) Nothing)
+    (iter-as pairOf (boardNext window base dep after) (λ i best. keepBest best (rustWindow (window i) base dep after)) 0 (n - 0) Nothing
+    (λ k x l u. pair-earlier x (windowBoard (window k) k base dep after) ∙ ap (keepBest (pairOf x)) (sym (same k (omega arith)))))
+  where
+    same : (k : ℕ) → k < n → rustWindow (window k) base dep after ≡ pairOf (windowBoard (window k) k base dep after)
+    same k u = window-same (window k) base dep after (m .starts k u) (m .ends k u) (m .headways k u) (m .template) (m .departs) (m .ready) k

@@ -54,4 +54,4 @@ answerOf zero b = boardAnswer b
 answerOf (suc n) b = noBoard (suc n)
 
 abbrev pub freqOutcome : ℕ → List ℕ → ℕ → ℕ → ℕ → FreqAnswer
-freqOutcome count ws base dep after = answerOf (freqCode count ws base dep after) (earliestFreqBoard ws base dep after)
+freqOutcome count ws base dep after = answerOf (freqCode count ws base dep after) (earliestFreqBoard (windowCount ws) (windowAt ws) base dep after)

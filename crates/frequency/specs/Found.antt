@@ -1,13 +1,12 @@
 -- How the code hands on the run that a window's search found: by its start and its number. Definitions only.
 use Prim.Native.Nat.{ℕ, _+_, _<_, _≤_}
 use mathlib.Core.Bool.{cond}
-use mathlib.Core.List.{List}
 use lib.Dec.{ltb}
 use Rattle.loops.specs.Iter.{Hit, hit, miss}
 use Rattle.frequency.specs.declared.Run.{Run}
 use Rattle.frequency.specs.declared.FreqBoard.{FreqBoard}
 use Rattle.frequency.specs.declared.FreqBoard.the-variants.{Nothing}
-use Rattle.frequency.specs.Gtfs.{Window, windowAt, runStart, firstRun, boardStart}
+use Rattle.frequency.specs.Gtfs.{Window, runStart, firstRun, boardStart}
 
 -- no run: later than every run
 abbrev pub noRun : Run
@@ -17,9 +16,9 @@ abbrev pub runOf : Window → Hit → Run
 runOf w (hit k) = record { start = runStart w k; number = k }
 runOf w miss = noRun
 
--- the first run of window i
-abbrev pub runAt : List ℕ → ℕ → ℕ → ℕ → ℕ → Run
-runAt ws base dep after i = runOf (windowAt ws i) (firstRun (windowAt ws i) base dep after)
+-- the first run of a window that can be boarded
+abbrev pub windowRun : Window → ℕ → ℕ → ℕ → Run
+windowRun w base dep after = runOf w (firstRun w base dep after)
 
 -- the boarding of run k of window i, which starts at t
 abbrev pub boardOf : ℕ → ℕ → ℕ → ℕ → ℕ → FreqBoard

@@ -21,12 +21,12 @@ pub record Window : Type 0 where
   pub end : ℕ
   pub headway : ℕ
 
--- a trip's part of the windows' table: three words a row
-abbrev pub windowCount : List ℕ → ℕ
-windowCount ws = length ws / 3
-
 abbrev pub windowOf : ℕ → ℕ → ℕ → Window
 windowOf s e h = record { start = s; end = e; headway = h }
+
+-- A trip's part of the windows' table, three words a row: how many windows, and window i
+abbrev pub windowCount : List ℕ → ℕ
+windowCount ws = length ws / 3
 
 abbrev pub windowAt : List ℕ → ℕ → Window
 windowAt ws i = windowOf (getD ws (3 * i) 0) (getD ws (3 * i + 1) 0) (getD ws (3 * i + 2) 0)
@@ -71,18 +71,20 @@ earlierOf (Board a) Nothing = Board a
 earlierOf (Board a) (Board b) = cond (leb (a .departure) (b .departure)) (Board a) (Board b)
 
 -- window i is looked at, after the best of those before it
-abbrev pub boardNext : List ℕ → ℕ → ℕ → ℕ → ℕ → FreqBoard → FreqBoard
-boardNext ws base dep after i best = earlierOf best (windowBoard (windowAt ws i) i base dep after)
+abbrev pub boardNext : (ℕ → Window) → ℕ → ℕ → ℕ → ℕ → FreqBoard → FreqBoard
+boardNext window base dep after i best = earlierOf best (windowBoard (window i) i base dep after)
 
--- earliest_freq_board: over the windows, the earliest
-unfoldable pub earliestFreqBoard : List ℕ → ℕ → ℕ → ℕ → FreqBoard
-earliestFreqBoard ws base dep after = range (boardNext ws base dep after) 0 (windowCount ws) Nothing
+-- earliest_freq_board: over n windows, the earliest
+unfoldable pub earliestFreqBoard : ℕ → (ℕ → Window) → ℕ → ℕ → ℕ → FreqBoard
+earliestFreqBoard n window base dep after = range (boardNext window base dep after) 0 n Nothing
 
 -- What the inner call asks: at most 65,536 windows of times, and a template base that is a time. The other two are wider than at
 -- the door, as inside a query: the departure may be a delayed one, and the wanted time may follow long walks.
-pub record Nominal (ws : List ℕ) (base dep after : ℕ) : Type 0 where
-  pub rows : length ws ≤ 196608
-  pub words : (k : ℕ) → getD ws k 0 ≤ 1048575
+pub record Nominal (n : ℕ) (window : ℕ → Window) (base dep after : ℕ) : Type 0 where
+  pub few : n ≤ 65536
+  pub starts : (i : ℕ) → i < n → window i .start ≤ 1048575
+  pub ends : (i : ℕ) → i < n → window i .end ≤ 1048575
+  pub headways : (i : ℕ) → i < n → window i .headway ≤ 1048575
   pub template : base ≤ 1048575
   pub departs : dep < 4194304
   pub ready : after < 134217728

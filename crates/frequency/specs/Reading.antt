@@ -3,33 +3,32 @@
 use Prim.Native.Nat.{ℕ, _+_, _<_, _≤_}
 use mathlib.Core.Path.{_≡_}
 use mathlib.Core.Bool.{true}
-use mathlib.Core.List.{List}
 use lib.IntN.{subℕ}
 use Rattle.signed.specs.Signed.{bitsOf}
 use Rattle.frequency.specs.declared.Boarding.{Boarding}
 use Rattle.frequency.specs.declared.FreqBoard.{FreqBoard}
 use Rattle.frequency.specs.declared.FreqBoard.the-variants.{Nothing, Board}
-use Rattle.frequency.specs.Gtfs.{windowAt, runStart, isRun}
+use Rattle.frequency.specs.Gtfs.{Window, runStart, isRun}
 
--- run k of window i, one of the first n windows of the table, leaves the boarding stop at the wanted time or later
-pub record Boards (ws : List ℕ) (n base dep after i k : ℕ) : Type 0 where
+-- run k of window i, one of the first n windows, leaves the boarding stop at the wanted time or later
+pub record Boards (n : ℕ) (window : ℕ → Window) (base dep after i k : ℕ) : Type 0 where
   pub among : i < n
-  pub runs : isRun (windowAt ws i) k ≡ true
-  pub wanted : after + base ≤ runStart (windowAt ws i) k + dep
+  pub runs : isRun (window i) k ≡ true
+  pub wanted : after + base ≤ runStart (window i) k + dep
 
 -- b is the earliest boarding of the first n windows
-pub record Earliest (ws : List ℕ) (n base dep after : ℕ) (b : Boarding) : Type 0 where
+pub record Earliest (n : ℕ) (window : ℕ → Window) (base dep after : ℕ) (b : Boarding) : Type 0 where
   -- it is a run that leaves at the wanted time or later
-  pub boards : Boards ws n base dep after (b .window) (b .run)
+  pub boards : Boards n window base dep after (b .window) (b .run)
   -- its departure and its shift are that run's
-  pub departs : b .departure + base ≡ runStart (windowAt ws (b .window)) (b .run) + dep
-  pub shifted : b .«time_shift_s» ≡ bitsOf (subℕ (runStart (windowAt ws (b .window)) (b .run)) base)
+  pub departs : b .departure + base ≡ runStart (window (b .window)) (b .run) + dep
+  pub shifted : b .«time_shift_s» ≡ bitsOf (subℕ (runStart (window (b .window)) (b .run)) base)
   -- no such run departs earlier
-  pub least : (i k : ℕ) → Boards ws n base dep after i k → b .departure + base ≤ runStart (windowAt ws i) k + dep
+  pub least : (i k : ℕ) → Boards n window base dep after i k → b .departure + base ≤ runStart (window i) k + dep
   -- and none of a window before its own departs as early
-  pub first : (i k : ℕ) → Boards ws n base dep after i k → i < b .window → b .departure + base < runStart (windowAt ws i) k + dep
+  pub first : (i k : ℕ) → Boards n window base dep after i k → i < b .window → b .departure + base < runStart (window i) k + dep
 
 -- the answer is the earliest boarding, or there is none to board
-pub data Answers (ws : List ℕ) (n base dep after : ℕ) : FreqBoard → Type 0 where
-  none : ((i k : ℕ) → Boards ws n base dep after i k → ⊥) → Answers ws n base dep after Nothing
-  earliest : {b : Boarding} → Earliest ws n base dep after b → Answers ws n base dep after (Board b)
+pub data Answers (n : ℕ) (window : ℕ → Window) (base dep after : ℕ) : FreqBoard → Type 0 where
+  none : ((i k : ℕ) → Boards n window base dep after i k → ⊥) → Answers n window base dep after Nothing
+  earliest : {b : Boarding} → Earliest n window base dep after b → Answers n window base dep after (Board b)

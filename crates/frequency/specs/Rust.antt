@@ -5,7 +5,6 @@
 use Prim.Native.Nat.{ℕ, zero, suc, _+_, _*_, _-_, _/_, _%_, min}
 use mathlib.Core.Bool.{cond, _&&_, _||_}
 use mathlib.Core.Option.{Option, none, some}
-use mathlib.Core.List.{List}
 use lib.Dec.{eqb, ltb, leb}
 use lib.IntN.{ℤ, pos, negsuc, _+ℤ_, _-ℤ_}
 use lib.Signed.{leZ}
@@ -13,7 +12,7 @@ use Rattle.loops.specs.Iter.{range}
 use Rattle.signed.specs.Signed.{ofBits}
 use Rattle.frequency.specs.declared.FreqBoard.{FreqBoard}
 use Rattle.frequency.specs.declared.FreqBoard.the-variants.{Nothing, Board}
-use Rattle.frequency.specs.Gtfs.{Window, windowCount, windowAt}
+use Rattle.frequency.specs.Gtfs.{Window}
 
 -- `x as u32` of an i64: its lowest 32 bits
 abbrev pub asU32 : ℤ → ℕ
@@ -76,8 +75,8 @@ keepBest best none = best
 keepBest none (some f) = some f
 keepBest (some b) (some f) = cond (leb (b .0) (f .0)) (some b) (some f)
 
-unfoldable pub rustBoard : List ℕ → ℕ → ℕ → ℕ → Option (ℕ × ℤ)
-rustBoard ws base dep after = range (λ i best. keepBest best (rustWindow (windowAt ws i) base dep after)) 0 (windowCount ws) none
+unfoldable pub rustBoard : ℕ → (ℕ → Window) → ℕ → ℕ → ℕ → Option (ℕ × ℤ)
+rustBoard n window base dep after = range (λ i best. keepBest best (rustWindow (window i) base dep after)) 0 n none
 
 -- a boarding as the Rust returns it
 abbrev pub pairOf : FreqBoard → Option (ℕ × ℤ)

@@ -8,8 +8,8 @@
 // Assumes nothing.
 ghost use mathlib.Core.Path.{_≡_};
 ghost use Prim.Native.Nat.{_≤_, _<_};
-ghost use Rattle.frequency.specs.Gtfs.{windowCount, windowOf, windowAt, firstRun, earliestFreqBoard, Nominal};
-ghost use Rattle.frequency.specs.Found.{noRun, runOf, runAt, boardOf, Fair};
+ghost use Rattle.frequency.specs.Gtfs.{windowCount, windowOf, windowAt, earliestFreqBoard, Nominal};
+ghost use Rattle.frequency.specs.Found.{noRun, windowRun, boardOf, Fair};
 ghost use Rattle.frequency.specs.Entry.{areTimes, windowInRange, windowsInRange, inRange, freqOutcome, noBoard};
 
 // The most windows.
@@ -51,7 +51,7 @@ fn no_run() -> Run
 fn first_run(start: u32, end: u32, headway: u32, base: u32, dep: u32, after: u32) -> Run
     requires { ⌜ (start ≤ 1048575) × (end ≤ 1048575) × (headway ≤ 1048575) ⌝ }
     requires { ⌜ (base ≤ 1048575) × (dep < 4194304) × (after < 134217728) ⌝ }
-    ensures { λ r. ⌜ r ≡ runOf (windowOf start end headway) (firstRun (windowOf start end headway) base dep after) ⌝ }
+    ensures { λ r. ⌜ r ≡ windowRun (windowOf start end headway) base dep after ⌝ }
 {
     if headway == 0 {
         return no_run();
@@ -82,8 +82,8 @@ fn first_run(start: u32, end: u32, headway: u32, base: u32, dep: u32, after: u32
 
 // The first run of window i.
 fn run_at(windows: &[u32], base: u32, dep: u32, after: u32, i: usize) -> Run
-    requires { ⌜ Nominal (now windows) base dep after ⌝ ∗ ⌜ i < windowCount (now windows) ⌝ }
-    ensures { λ r. ⌜ r ≡ runAt (now (windows .entry)) base dep after i ⌝ }
+    requires { ⌜ Nominal (windowCount (now windows)) (windowAt (now windows)) base dep after ⌝ ∗ ⌜ i < windowCount (now windows) ⌝ }
+    ensures { λ r. ⌜ r ≡ windowRun (windowAt (now (windows .entry)) i) base dep after ⌝ }
 {
     let start = windows[3 * i];
     let end = windows[3 * i + 1];
@@ -112,8 +112,8 @@ fn board_at(t: u32, window: u32, base: u32, dep: u32, run: u32) -> FreqBoard
 // base: the template's first departure; dep: its departure where one boards; after: the wanted time.
 // The earliest departure is that of the earliest run, as each run leaves the stop equally long after its start.
 pub fn earliest_freq_board(windows: &[u32], base: u32, dep: u32, after: u32) -> FreqBoard
-    requires { ⌜ Nominal (now windows) base dep after ⌝ }
-    ensures { λ r. ⌜ r ≡ earliestFreqBoard (now (windows .entry)) base dep after ⌝ }
+    requires { ⌜ Nominal (windowCount (now windows)) (windowAt (now windows)) base dep after ⌝ }
+    ensures { λ r. ⌜ r ≡ earliestFreqBoard (windowCount (now (windows .entry))) (windowAt (now (windows .entry))) base dep after ⌝ }
 {
     let mut best = NO_RUN;
     let mut window: u32 = 0;

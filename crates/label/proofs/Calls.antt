@@ -1,5 +1,4 @@
 -- The calls' questions and answers, case by case. Assumes nothing.
-use Rattle.label.proofs.Examples.{distances}
 use Prim.Native.Nat.{ℕ, zero, suc, _≤_, _<_, _*_}
 use mathlib.Core.Path.{_≡_, refl, sym, _∙_, ap, ap₂}
 use mathlib.Core.Bool.{Bool, true, false, and-eq-true-iff}
@@ -10,6 +9,7 @@ use lib.Dec.{ltb, leb, eqb}
 use lib.Ieee.{Float}
 use borrow.Author.Tests.{ltb-true, leb-true, eqb-true, le-leb, lt-leb}
 use Rattle.door.specs.Door.{ask}
+use Rattle.door.proofs.Laws.{ask-yes, ask-later}
 use Rattle.label.specs.declared.Label.{Label}
 use Rattle.label.specs.declared.LabelRow.{LabelRow}
 use Rattle.label.specs.declared.Label.the-variants.{Empty, Access, Transit, Walk}
@@ -18,22 +18,19 @@ use Rattle.label.specs.Table.{InTable, recordOf, putWords, putDistance, 
 use Rattle.label.specs.Calls.{placeCode, Outcome, outcome, settle, storeOutcome, refusedLabel, givenLabel, answerLabel, andThen, loadAnswer}
 use Rattle.label.proofs.Laws.{table-record, load-store, load-other, row-back, other-kind, put-words-length, put-distance-length}
 
--- a question and the later ones are all answered yes
-ask-zero : (n : ℕ) (b : Bool) (later : ℕ) → ask (suc n) b later ≡ 0 → (b ≡ true) × (later ≡ 0)
-ask-zero n true later e = (refl, e)
-ask-zero n false later e = absurd (omega arith)
-
 module _ (stops stop row : ℕ) (l : List ℕ) (d : List Float) where
   -- where all questions are answered yes, the record lies in both slices
   pub in-table : placeCode stops stop row (length l) (length d) ≡ 0 → InTable l d (recordOf stop row)
   unfolding placeCode
   in-table e =
-      let a = ask-zero 0 (leb stops 4096) _ e in
-      let b = ask-zero 1 (lengthsRight stops (length l) (length d)) _ (a .1) in
-      let f = ask-zero 3 (ltb stop stops) _ (b .1) in
-      let g = ask-zero 4 (leb row 12) 0 (f .1) in
-      let lengths = and-eq-true-iff (eqb (length l) (stops * 13 * 8)) (eqb (length d) (stops * 13)) .0 (b .0) in
-      table-record stops stop row l d (eqb-true _ _ (lengths .0)) (eqb-true _ _ (lengths .1)) (ltb-true _ _ (f .0)) (leb-true _ _ (g .0))
+      let l5 = ask 5 (leb row 12) 0 in
+      let l4 = ask 4 (ltb stop stops) l5 in
+      let right = lengthsRight stops (length l) (length d) in
+      let e2 = ask-later 0 (leb stops 4096) (ask 2 right l4) e in
+      let e4 = ask-later 1 right l4 e2 in
+      let lengths = and-eq-true-iff (eqb (length l) (stops * 13 * 8)) (eqb (length d) (stops * 13)) .0 (ask-yes 1 right l4 e2) in
+      table-record stops stop row l d (eqb-true _ _ (lengths .0)) (eqb-true _ _ (lengths .1))
+      (ltb-true _ _ (ask-yes 3 (ltb stop stops) l5 e4)) (leb-true _ _ (ask-yes 4 (leb row 12) 0 (ask-later 3 (ltb stop stops) l5 e4)))
 
   -- a store that is refused
   pub store-refused : (x : Label) (n : ℕ) → n ≡ placeCode stops stop row (length l) (length d) → (n ≡ 0 → ⊥)

@@ -1,6 +1,5 @@
 -- What holds of every label table: a stored label is loaded again, no other record changes, records are apart.
 -- Assumes nothing.
-use Rattle.label.proofs.Examples.{words}
 use Prim.Native.Nat.{ℕ, zero, suc, _+_, _*_, _≤_, _<_}
 use mathlib.Core.Path.{_≡_, refl, sym, _∙_, ap}
 use mathlib.Core.Bool.{Bool, true, false}

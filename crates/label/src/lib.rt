@@ -62,75 +62,115 @@ pub struct LabelAnswer {
     pub row: LabelRow,
 }
 
+// The row of a label, a function for each kind.
+fn empty_row() -> LabelRow
+    ensures { λ r. ⌜ r ≡ rowOf Label.Empty ⌝ }
+{
+    LabelRow {
+        kind: 0,
+        word1: 0,
+        word2: 0,
+        word3: 0,
+        word4: 0,
+        word5: 0,
+        word6: 0,
+        word7: 0,
+        distance: 0.0,
+    }
+}
+
+fn access_row(stop_idx: u32, arrival_s: u32, walk_duration: u32, walk_distance: f64) -> LabelRow
+    ensures { λ r. ⌜ r ≡ rowOf (Label.Access «stop_idx» «arrival_s» «walk_duration» «walk_distance») ⌝ }
+{
+    LabelRow {
+        kind: 1,
+        word1: stop_idx,
+        word2: arrival_s,
+        word3: walk_duration,
+        word4: 0,
+        word5: 0,
+        word6: 0,
+        word7: 0,
+        distance: walk_distance,
+    }
+}
+
+fn transit_row(
+    arrival_s: u32,
+    trip_idx: u32,
+    board_stop: u32,
+    board_off: u32,
+    alight_off: u32,
+    prev_round: u32,
+    time_shift_s: u32,
+) -> LabelRow
+    ensures { λ r. ⌜ r ≡ rowOf (Label.Transit «arrival_s» «trip_idx» «board_stop» «board_off» «alight_off» «prev_round» «time_shift_s») ⌝ }
+{
+    LabelRow {
+        kind: 2,
+        word1: arrival_s,
+        word2: trip_idx,
+        word3: board_stop,
+        word4: board_off,
+        word5: alight_off,
+        word6: prev_round,
+        word7: time_shift_s,
+        distance: 0.0,
+    }
+}
+
+fn walk_row(
+    arrival_s: u32,
+    from_stop: u32,
+    to_stop: u32,
+    duration_s: u32,
+    distance_m: f64,
+    prev_round: u32,
+) -> LabelRow
+    ensures { λ r. ⌜ r ≡ rowOf (Label.Walk «arrival_s» «from_stop» «to_stop» «duration_s» «distance_m» «prev_round») ⌝ }
+{
+    LabelRow {
+        kind: 3,
+        word1: arrival_s,
+        word2: from_stop,
+        word3: to_stop,
+        word4: duration_s,
+        word5: prev_round,
+        word6: 0,
+        word7: 0,
+        distance: distance_m,
+    }
+}
+
 // A label's row.
 pub fn row_of(label: Label) -> LabelRow
     ensures { λ r. ⌜ r ≡ rowOf label ⌝ }
 {
     match label {
-        Label::Empty => LabelRow {
-            kind: 0,
-            word1: 0,
-            word2: 0,
-            word3: 0,
-            word4: 0,
-            word5: 0,
-            word6: 0,
-            word7: 0,
-            distance: 0.0,
-        },
+        Label::Empty => empty_row(),
         Label::Access {
             stop_idx,
             arrival_s,
             walk_duration,
             walk_distance,
-        } => LabelRow {
-            kind: 1,
-            word1: stop_idx,
-            word2: arrival_s,
-            word3: walk_duration,
-            word4: 0,
-            word5: 0,
-            word6: 0,
-            word7: 0,
-            distance: walk_distance,
-        },
+        } => access_row(stop_idx, arrival_s, walk_duration, walk_distance),
         Label::Transit {
             arrival_s,
             trip_idx,
-            board_stop,
-            board_off,
-            alight_off,
+            board_stop: from,
+            board_off: on,
+            alight_off: off,
             prev_round,
             time_shift_s,
-        } => LabelRow {
-            kind: 2,
-            word1: arrival_s,
-            word2: trip_idx,
-            word3: board_stop,
-            word4: board_off,
-            word5: alight_off,
-            word6: prev_round,
-            word7: time_shift_s,
-            distance: 0.0,
-        },
+        } => transit_row(arrival_s, trip_idx, from, on, off, prev_round, time_shift_s),
         Label::Walk {
             arrival_s,
-            from_stop,
-            to_stop,
+            from_stop: from,
+            to_stop: to,
             duration_s,
             distance_m,
             prev_round,
-        } => LabelRow {
-            kind: 3,
-            word1: arrival_s,
-            word2: from_stop,
-            word3: to_stop,
-            word4: duration_s,
-            word5: prev_round,
-            word6: 0,
-            word7: 0,
-            distance: distance_m,
-        },
+        } => walk_row(arrival_s, from, to, duration_s, distance_m, prev_round),
     }
 }
 
@@ -356,7 +396,7 @@ pub fn store_walk(
 fn refused_label(code: u32) -> LabelAnswer
     ensures { λ r. ⌜ r ≡ refusedLabel code ⌝ }
 {
-    let row = row_of(Label::Empty);
+    let row = empty_row();
     LabelAnswer { code, row }
 }
 

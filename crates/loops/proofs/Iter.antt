@@ -36,6 +36,14 @@ iter-keeps P f i zero s p q = rw add-zero p
 iter-keeps P f i (suc n) s p q =
     rw (add-suc, ← suc-add) (iter-keeps P f (suc i) n (f i s) (q i s (omega arith) (omega arith) p) (λ k x l u h. q k x (omega arith) (omega arith) h))
 
+-- a loop in another form: where h takes each turn of f to one of g, it takes the end of the one loop to that of the other
+pub iter-as : {S T : Type 0} (h : S → T) (f : ℕ → S → S) (g : ℕ → T → T) (i n : ℕ) (s : S)
+    → ((k : ℕ) (x : S) → i ≤ k → k < i + n → h (f k x) ≡ g k (h x)) → h (iter f i n s) ≡ iter g i n (h s)
+unfolding iter
+iter-as h f g i zero s e = refl
+iter-as h f g i (suc n) s e =
+    iter-as h f g (suc i) n (f i s) (λ k x l u. e k x (omega arith) (omega arith)) ∙ ap (iter g (suc i) n) (e i s (omega arith) (omega arith))
+
 pub every-turn : (f : ℕ → Bool) (i b : ℕ) → i < b → every f i (b - i) ≡ f i && every f (i + 1) (b - (i + 1))
 unfolding every
 every-turn f i b h =

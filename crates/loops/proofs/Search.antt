@@ -11,7 +11,8 @@ use Rattle.loops.specs.Iter.{first, firstIn, Hit, hit, miss, foundOr}
 use Rattle.loops.specs.Order.{Stays, Rising, Halved}
 use Rattle.loops.proofs.Iter.{first-found, first-before, first-bound, first-none}
 
-clash : {b : Bool} → b ≡ true → b ≡ false → ⊥
+-- no test is both passed and failed
+pub clash : {b : Bool} → b ≡ true → b ≡ false → ⊥
 clash {b} p q = let z : _≡_ {A = ℕ} 0 1 = cc in omega arith
 
 pub halved-start : (f : ℕ → Bool) (n : ℕ) → Halved f n 0 n
@@ -57,7 +58,32 @@ first-isnt f n b = go (firstIn f 0 n) refl
     go (hit j) q = absurd (clash (first-found f 0 (n - 0) j q) (b j (omega (arith, first-bound f 0 (n - 0) j q))))
     go miss q = refl
 
--- nothing is left between: the first that passes is found
+-- the number that a search finds is one of those searched
+pub hit-below : (f : ℕ → Bool) (n k : ℕ) → firstIn f 0 n ≡ hit k → k < n
+hit-below f n k e = omega (arith, first-bound f 0 (n - 0) k e)
+
+-- searches by tests that agree find the same
+pub first-ext : (f g : ℕ → Bool) (n : ℕ) → ((k : ℕ) → f k ≡ g k) → firstIn f 0 n ≡ firstIn g 0 n
+first-ext f g n e = go (firstIn g 0 n) refl
+  where
+    go : (x : Hit) → firstIn g 0 n ≡ x → firstIn f 0 n ≡ x
+    go (hit k) q =
+        first-is f n k (e k ∙ first-found g 0 (n - 0) k q) (λ j l. e j ∙ first-before g 0 (n - 0) k j q (omega arith) l) (hit-below g n k q)
+    go miss q = first-isnt f n (λ j l. e j ∙ first-none g 0 (n - 0) j q (omega arith) (omega arith))
+
+pub halved-ext : (f g : ℕ → Bool) (n lo hi : ℕ) → ((k : ℕ) → f k ≡ g k) → Halved f n lo hi → Halved g n lo hi
+halved-ext f g n lo hi e h =
+    record { order = h .order; inside = h .inside; below = λ k l. sym (e k) ∙ h .below k l; above = λ k a b. sym (e k) ∙ h .above k a b }
+
+pub stays-ext : (f g : ℕ → Bool) (n : ℕ) → ((k : ℕ) → f k ≡ g k) → Stays f n → Stays g n
+stays-ext f g n e s = record { stays = λ i j l u h. sym (e j) ∙ s .stays i j l u (e i ∙ h) }
+
+-- nothing is left between
+pub halved-end : (f : ℕ → Bool) (n lo hi : ℕ) → Halved f n lo hi → hi ≤ lo → Halved f n lo lo
+halved-end f n lo hi h l =
+    record { order = omega arith; inside = omega (arith, h .order, h .inside); below = h .below; above = λ k a b. h .above k (omega arith) b }
+
+-- .. and the first that passes is found
 pub halved-found : (f : ℕ → Bool) (n lo hi : ℕ) → Halved f n lo hi → hi ≤ lo → lo ≡ foundOr (firstIn f 0 n) n
 halved-found f n lo hi h l =
     ⊎-elim

@@ -1,6 +1,2 @@
-pub mod Search
 pub mod Times
-pub mod Door
-pub mod Largest
-pub mod Rows
 pub mod Examples

@@ -12,10 +12,8 @@ use Rattle.loops.proofs.Search.{split}
 use Rattle.signed.proofs.Laws.{moved-low, moved-high, size-low}
 use Rattle.door.specs.Door.{timeLimit}
 use Rattle.realtime.specs.declared.StopDelay.{StopDelay}
-use Rattle.realtime.specs.Rows.{departureGiven, arrivalGiven, noDelay}
-use Rattle.realtime.specs.Times.{sizeOf, shifted, effectiveDeparture, effectiveArrival}
-use Rattle.realtime.specs.Door.{timeInRange, sizeOk}
-use Rattle.realtime.specs.Sane.{Bounded}
+use Rattle.realtime.specs.Times.{departureGiven, arrivalGiven, noDelay, sizeOf, shifted, effectiveDeparture, effectiveArrival}
+use Rattle.realtime.specs.Door.{timeInRange, sizeOk, Bounded}
 
 -- an arrival by what the stop row gives: neither time, the arrival's own, the departure's alone
 pub arrival-shifted : (arrival shift : ℕ) (d : StopDelay) → departureGiven (d .flags) || arrivalGiven (d .flags) ≡ false → effectiveArrival arrival shift d ≡ shifted arrival shift

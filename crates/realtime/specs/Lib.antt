@@ -1,6 +1,2 @@
-pub mod Rows
 pub mod Times
 pub mod Door
-pub mod Asked
-pub mod Sane
-pub mod Halving

@@ -1,13 +1,24 @@
--- Effective times and the margin (document 01, item 4). Definitions only.
-use Prim.Native.Nat.{ℕ, min, max}
-use mathlib.Core.Bool.{cond, _||_}
-use mathlib.Core.List.{List}
+-- What delays do to one stop time (document 01, item 4): flags and effective times. Definitions only.
+use Prim.Native.Nat.{ℕ, _/_, _%_}
+use mathlib.Core.Bool.{Bool, cond, _||_}
+use lib.Dec.{eqb}
 use lib.IntN.{pos, natAbs, _+ℤ_}
-use Rattle.loops.specs.Iter.{range}
 use Rattle.signed.specs.Signed.{ofBits, floored}
-use Rattle.realtime.specs.declared.StopRow.{StopRow}
 use Rattle.realtime.specs.declared.StopDelay.{StopDelay}
-use Rattle.realtime.specs.Rows.{delayRowAt, stopRowAt, delayCount, stopCount, departureGiven, arrivalGiven}
+
+-- Flags: 1 departure given, 2 arrival given, 4 skipped
+abbrev pub departureGiven : ℕ → Bool
+departureGiven flags = eqb (flags % 2) 1
+
+abbrev pub arrivalGiven : ℕ → Bool
+arrivalGiven flags = eqb (flags / 2 % 2) 1
+
+abbrev pub skippedAt : ℕ → Bool
+skippedAt flags = eqb (flags / 4 % 2) 1
+
+-- no delay row: no delay, nothing given, not skipped
+abbrev pub noDelay : StopDelay
+noDelay = record { «trip_delay» = 0; flags = 0; «departure_delay» = 0; «arrival_delay» = 0 }
 
 -- the size of a signed delay: 3 for 3 and for -3
 abbrev pub sizeOf : ℕ → ℕ
@@ -28,31 +39,3 @@ effectiveArrival arrival shift d =
     (cond (departureGiven (d .flags) || arrivalGiven (d .flags))
     (cond (arrivalGiven (d .flags)) (d .«arrival_delay») (d .«trip_delay»))
     shift)
-
--- the largest of f 0, f 1, .., n of them; 0 where there is none
-abbrev pub orLarger : (ℕ → ℕ) → ℕ → ℕ → ℕ
-orLarger f i most = max most (f i)
-
-abbrev pub largest : (ℕ → ℕ) → ℕ → ℕ
-largest f n = range (orLarger f) 0 n 0
-
--- the size of a trip delay
-abbrev pub tripSize : List ℕ → ℕ → ℕ
-tripSize rows i = sizeOf (delayRowAt rows i .delay)
-
--- the larger size of the given delays of a stop row
-abbrev pub givenSize : StopRow → ℕ
-givenSize r =
-    max (cond (departureGiven (r .flags)) (sizeOf (r .«departure_delay»)) 0)
-    (cond (arrivalGiven (r .flags)) (sizeOf (r .«arrival_delay»)) 0)
-
-abbrev pub stopSize : List ℕ → ℕ → ℕ
-stopSize stops j = givenSize (stopRowAt stops j)
-
--- the largest size among trip delays, unknown trips included, and given stop delays
-abbrev pub largestDelay : List ℕ → List ℕ → ℕ
-largestDelay rows stops = max (largest (tripSize rows) (delayCount rows)) (largest (stopSize stops) (stopCount stops))
-
--- .. at most the cap
-abbrev pub margin : List ℕ → List ℕ → ℕ → ℕ
-margin rows stops cap = min cap (largestDelay rows stops)

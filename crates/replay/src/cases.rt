@@ -103,7 +103,7 @@ fn margin(w: &[u32]) -> bool {
 }
 
 // One stop time: skipped, departure and arrival under what the tables say of it.
-fn timed(d: realtime::DelayAt, w: &[u32], g: usize) -> bool
+fn timed(d: delays::DelayAt, w: &[u32], g: usize) -> bool
     requires { ⌜ g < 4096 ⌝ }
 {
     let time = at(w, g + 2);
@@ -150,39 +150,39 @@ fn stop_time(w: &[u32]) -> bool {
     timed(d, w, g)
 }
 
-// Stores the label of a line; its code.
-fn stored(w: &[u32], labels: &mut [u32], distances: &mut [f64]) -> u32 {
-    let kind = at(w, 1);
-    let distance = at(w, 9) as f64;
-    if kind == 1 {
-        return exports::savoiky_label_store_access(
-            3,
-            at(w, 10),
-            at(w, 11),
-            at(w, 2),
-            at(w, 3),
-            at(w, 4),
-            distance,
-            labels,
-            distances,
-        );
-    }
-    if kind == 2 {
-        return exports::savoiky_label_store_transit(
-            3,
-            at(w, 10),
-            at(w, 11),
-            at(w, 2),
-            at(w, 3),
-            at(w, 4),
-            at(w, 5),
-            at(w, 6),
-            at(w, 7),
-            at(w, 8),
-            labels,
-            distances,
-        );
-    }
+// Stores the label of a line, one function for each kind; its code.
+fn access_stored(w: &[u32], labels: &mut [u32], distances: &mut [f64]) -> u32 {
+    exports::savoiky_label_store_access(
+        3,
+        at(w, 10),
+        at(w, 11),
+        at(w, 2),
+        at(w, 3),
+        at(w, 4),
+        at(w, 9) as f64,
+        labels,
+        distances,
+    )
+}
+
+fn transit_stored(w: &[u32], labels: &mut [u32], distances: &mut [f64]) -> u32 {
+    exports::savoiky_label_store_transit(
+        3,
+        at(w, 10),
+        at(w, 11),
+        at(w, 2),
+        at(w, 3),
+        at(w, 4),
+        at(w, 5),
+        at(w, 6),
+        at(w, 7),
+        at(w, 8),
+        labels,
+        distances,
+    )
+}
+
+fn walk_stored(w: &[u32], labels: &mut [u32], distances: &mut [f64]) -> u32 {
     exports::savoiky_label_store_walk(
         3,
         at(w, 10),
@@ -191,11 +191,22 @@ fn stored(w: &[u32], labels: &mut [u32], distances: &mut [f64]) -> u32 {
         at(w, 3),
         at(w, 4),
         at(w, 5),
-        distance,
+        at(w, 9) as f64,
         at(w, 6),
         labels,
         distances,
     )
+}
+
+fn stored(w: &[u32], labels: &mut [u32], distances: &mut [f64]) -> u32 {
+    let kind = at(w, 1);
+    if kind == 1 {
+        return access_stored(w, labels, distances);
+    }
+    if kind == 2 {
+        return transit_stored(w, labels, distances);
+    }
+    walk_stored(w, labels, distances)
 }
 
 fn label(w: &[u32]) -> bool {

@@ -1,7 +1,7 @@
 use mathlib.Core.Logic.{⊎-elim}
 use Rattle.loops.proofs.Iter.{range-left}
 use Rattle.loops.specs.Iter.{range}
-use Rattle.frequency.specs.Gtfs.{boardNext, earliestFreqBoard, windowCount}
+use Rattle.frequency.specs.Gtfs.{boardNext, earliestFreqBoard, windowAt, windowCount}
 use native.Mathlib.Omega.{arith}
 use Rattle.frequency.proofs.Best.{again-new, again-old}
 use mathlib.Core.Path.{_∙_, _≡_, refl}
@@ -11,7 +11,7 @@ use Rattle.frequency.proofs.earliest_freq_board.Statement.{statement}
 use Rattle.frequency.proofs.earliest_freq_board.Tie as tie
 
 abbrev Inv-loop : tie.InvT-loop
-Inv-loop windows base dep after best₀ window₀ run₀ i₀ best window run i = (i ≤ windowCount windows) × ((earliestFreqBoard windows base dep after ≡ range (boardNext windows base dep after) i (windowCount windows) (boardOf best window base dep run)) × Fair base dep best)
+Inv-loop windows base dep after best₀ window₀ run₀ i₀ best window run i = (i ≤ windowCount windows) × ((earliestFreqBoard (windowCount windows) (windowAt windows) base dep after ≡ range (boardNext (windowAt windows) base dep after) i (windowCount windows) (boardOf best window base dep run)) × Fair base dep best)
 
 abbrev μ-loop : tie.MeasureT-loop
 μ-loop windows base dep after best₀ window₀ run₀ i₀ best window run i = windowCount windows - i
@@ -21,16 +21,16 @@ unfolding earliestFreqBoard
 loop-holds c = (omega arith, (refl, record { starts = λ l. absurd (omega arith); leaves = λ l. absurd (omega arith) }))
 
 mul-loop : tie.Need-mul-loop Inv-loop μ-loop
-mul-loop c = omega (arith, c .before .before .pre .rows)
+mul-loop c = omega (arith, c .before .before .pre .few)
 
 add-loop : tie.Need-add-loop Inv-loop μ-loop
-add-loop c = omega (arith, c .before .before .pre .rows)
+add-loop c = omega (arith, c .before .before .pre .few)
 
 run-at-requires : tie.Need-run-at-requires Inv-loop μ-loop
 run-at-requires c κs = (c .before .before .before .pre, omega arith)
 
 cast-window : tie.Need-cast-window Inv-loop μ-loop
-cast-window c = omega (arith, c .before .before .before .before .before .before .pre .rows)
+cast-window c = omega (arith, c .before .before .before .before .before .before .pre .few)
 
 add-i : tie.Need-add-i Inv-loop μ-loop
 add-i c = omega arith
@@ -39,7 +39,7 @@ loop-less : tie.Need-loop-less Inv-loop μ-loop
 loop-less c = omega arith
 
 loop-again : tie.Need-loop-again Inv-loop μ-loop
-loop-again c = (omega arith, ⊎-elim (λ w. again-new _ _ _ _ (c .before .before .before .before .before .before .pre) _ _ _ _ (c .before .before .before .before .loop .inv .1 .1) _ (c .before .before .run-at .ensures) _ (c .before .before .before .before .loop .inv .1 .0) _ _ _ (w .1) (w .2) (w .3) (w .0 .taken) (omega arith)) (λ w. again-old _ _ _ _ (c .before .before .before .before .before .before .pre) _ _ _ _ (c .before .before .before .before .loop .inv .1 .1) _ (c .before .before .run-at .ensures) _ (c .before .before .before .before .loop .inv .1 .0) _ _ _ (w .1) (w .2) (w .3) (w .0 .left) (omega arith)) (c .if1 .came))
+loop-again c = (omega arith, ⊎-elim (λ w. again-new _ _ _ _ _ (c .before .before .before .before .before .before .pre) _ (omega arith) _ _ _ (c .before .before .before .before .loop .inv .1 .1) _ (c .before .before .run-at .ensures) _ (c .before .before .before .before .loop .inv .1 .0) _ _ _ (w .1) (w .2) (w .3) (w .0 .taken)) (λ w. again-old _ _ _ _ _ (c .before .before .before .before .before .before .pre) _ (omega arith) _ _ _ (c .before .before .before .before .loop .inv .1 .1) _ (c .before .before .run-at .ensures) _ (c .before .before .before .before .loop .inv .1 .0) _ _ _ (w .1) (w .2) (w .3) (w .0 .left)) (c .if1 .came))
 
 board-at-requires : tie.Need-board-at-requires Inv-loop μ-loop
 board-at-requires c κs = (c .before .loop .inv .1 .1, (c .before .before .before .pre .template, c .before .before .before .pre .departs))

@@ -31,7 +31,7 @@ returns-3 : tie.Need-returns-3
 returns-3 c = c .no-board3 .ensures ∙ simp (le-leb _ _ (c .before .before .before .before .if1 .left), eq-eqb _ _ (c .before .before .before .if2 .left), sym (c .before .before .in-range .ensures) ∙ not-true _ (c .before .if3 .taken))
 
 earliest-freq-board-requires : tie.Need-earliest-freq-board-requires
-earliest-freq-board-requires c κs = nominal (c .before .before .before .before .before .args .count) _ _ _ _ (sym (c .before .in-range .ensures) ∙ not-false _ (c .if3 .left)) (c .before .before .if2 .left) (c .before .before .before .if1 .left)
+earliest-freq-board-requires c κs = let a = c .before .before .before .before .before .args in nominal (a .count) (a .windows .now) _ _ _ (sym (c .before .in-range .ensures) ∙ not-false _ (c .if3 .left)) (c .before .before .if2 .left) (c .before .before .before .if1 .left)
 
 enum-known-b : tie.Need-enum-known-b
 enum-known-b c = search needs
@@ -43,10 +43,10 @@ no-board-requires-4 : tie.Need-no-board-requires-4
 no-board-requires-4 c κs = search needs
 
 returns-4 : tie.Need-returns-4
-returns-4 c = answered (c .before .before .before .before .before .before .before .before .before .args .count) _ _ _ _ Nothing (c .no-board4 .ensures) (sym (c .before .enum-told .given .1) ∙ c .before .before .before .earliest-freq-board .ensures) (sym (c .before .before .before .before .before .in-range .ensures) ∙ not-false _ (c .before .before .before .before .if3 .left)) (c .before .before .before .before .before .before .if2 .left) (c .before .before .before .before .before .before .before .if1 .left)
+returns-4 c = let a = c .before .before .before .before .before .before .before .before .before .args in answered (a .count) (a .windows .now) (a .base) (a .dep) (a .after) Nothing (c .no-board4 .ensures) (sym (c .before .enum-told .given .1) ∙ c .before .before .before .earliest-freq-board .ensures) (sym (c .before .before .before .before .before .in-range .ensures) ∙ not-false _ (c .before .before .before .before .if3 .left)) (c .before .before .before .before .before .before .if2 .left) (c .before .before .before .before .before .before .before .if1 .left)
 
 returns-5 : tie.Need-returns-5
-returns-5 c = answered (c .before .before .before .before .before .before .before .before .before .args .count) _ _ _ _ (Board (c .before .b .given .0 .0)) refl (sym (c .before .b .given .1) ∙ c .before .before .before .earliest-freq-board .ensures) (sym (c .before .before .before .before .before .in-range .ensures) ∙ not-false _ (c .before .before .before .before .if3 .left)) (c .before .before .before .before .before .before .if2 .left) (c .before .before .before .before .before .before .before .if1 .left)
+returns-5 c = let a = c .before .before .before .before .before .before .before .before .before .args in answered (a .count) (a .windows .now) (a .base) (a .dep) (a .after) (Board (c .before .b .given .0 .0)) refl (sym (c .before .b .given .1) ∙ c .before .before .before .earliest-freq-board .ensures) (sym (c .before .before .before .before .before .in-range .ensures) ∙ not-false _ (c .before .before .before .before .if3 .left)) (c .before .before .before .before .before .before .if2 .left) (c .before .before .before .before .before .before .before .if1 .left)
 
 pub freq-board-spec : {M : Type 1} → statement M
 freq-board-spec =

@@ -36,7 +36,10 @@ shared-slice-read-headway : tie.Need-shared-slice-read-headway
 shared-slice-read-headway c = search needs
 
 first-run-requires : tie.Need-first-run-requires
-first-run-requires c κs = ((c .before .before .before .before .pre .0 .words _, c .before .before .before .before .pre .0 .words _, c .before .before .before .before .pre .0 .words _), (c .before .before .before .before .pre .0 .template, c .before .before .before .before .pre .0 .departs, c .before .before .before .before .pre .0 .ready))
+first-run-requires c κs =
+    let n = c .before .before .before .before .pre .0 in
+    let u = c .before .before .before .before .pre .1 in
+    ((n .starts _ u, n .ends _ u, n .headways _ u), (n .template, n .departs, n .ready))
 
 returns : tie.Need-returns
 returns c = search needs

@@ -2,11 +2,11 @@ use borrow.Author.Needs.{needs}
 use Rattle.label.proofs.refused_label.Statement.{statement}
 use Rattle.label.proofs.refused_label.Tie as tie
 
-row-of-requires : tie.Need-row-of-requires
-row-of-requires c κs = search needs
+empty-row-requires : tie.Need-empty-row-requires
+empty-row-requires c κs = search needs
 
 returns : tie.Need-returns
 returns c = cc
 
 pub refused-label-spec : {M : Type 1} → statement M
-refused-label-spec = tie.close (tie.spec row-of-requires returns)
+refused-label-spec = tie.close (tie.spec empty-row-requires returns)

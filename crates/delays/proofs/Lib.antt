@@ -1,0 +1,5 @@
+pub mod Search
+pub mod Door
+pub mod Largest
+pub mod Rows
+pub mod Examples
