@@ -1,0 +1,471 @@
+-- In unflagged mode, without delays and frequency trips, the full search goes step by step with the small one.
+use Prim.Native.Nat.{ℕ, zero, suc, _+_, _*_, _-_, _≤_, _<_}
+use mathlib.Core.Path.{_≡_, refl, sym, ap, subst, _∙_}
+use mathlib.Core.Bool.{Bool, true, false, cond, _&&_, _||_, not}
+use mathlib.Core.List.{List, [], _∷_, _++_, map, List·Memᴰ, List·Memᴰ·head, List·Memᴰ·tail, List·Memᴰ·eq-of-singleton}
+use native.Mathlib.Omega.{arith}
+use native.Mathlib.Nat.{add-zero, sub-zero, min-zero}
+use lib.ListN.{length, getD, set, replicate, length-set, length-replicate, List·getD-map}
+use lib.Dec.{ltb, leb, eqb}
+use borrow.Author.Tests.{ltb-true, ltb-false, leb-true, leb-false, lt-ltb, le-ltb, lt-leb, le-leb, eqb-true, eq-eqb, ne-eqb}
+use lib.IntN.{pos, subℕ}
+use Rattle.loops.specs.Iter.{Hit, hit, miss, iter, first}
+use Rattle.signed.specs.Signed.{bitsOf, ofBits, floored}
+use Rattle.walk.specs.Walk.{roundCount}
+use Rattle.frequency.specs.declared.Boarding.{Boarding}
+use Rattle.frequency.specs.declared.FreqBoard.{FreqBoard}
+use Rattle.frequency.specs.declared.FreqBoard.the-variants.{Nothing, Board}
+use Rattle.realtime.specs.Times.{noDelay, shifted, effectiveArrival, effectiveDeparture}
+use Rattle.label.specs.declared.Label.{Label}
+use Rattle.label.specs.declared.Label.the-variants.{Empty, Access, Transit, Walk}
+use Rattle.label.specs.Table.{recordOf}
+use Rattle.departures.specs.declared.DepartureRow.{DepartureRow}
+use Rattle.frequency.specs.Gtfs.{earliestFreqBoard}
+use Rattle.delays.specs.Delays.{DelayTables, margin}
+use Rattle.model.specs.Tables.{never, Tables, Origin, Query, roundsOf, changeBefore, isEgress, egressWalk, stops, trips, stopCount, stopAt, arrival, departure, sequence, noPickup, noDropOff, noWindows, edgesFrom, edgeTo, walkTime, position, fifo, permitted}
+use Rattle.model.specs.Search.{reachedBy, Arrivals, Boardings, State, Answer, tripWindow, departureNow, marginOf, boardAt, notBefore, departuresAt, markAt, lineAt, bestAfter, improve, relax, alightings, scanTripForward, dominated, pruned, passedOver, boarding, board, scanDepartures, scanStops, walkFrom, walkAll, stamped, emptied, roundStart, ridePhase, walkPhase, idle, rounds, setOut, access, newArrivals, begin, bestTarget, rowTarget, candidatesFrom, final, answer}
+use Rattle.model.proofs.Base.{no-both}
+use Rattle.model.proofs.Net.{Net, Plain}
+use Rattle.model.proofs.PlainSearch
+use Rattle.model.proofs.Early.{early}
+use Rattle.model.proofs.Departures.{deps-le, deps-graph}
+use Rattle.model.proofs.Rounds.{Inv, round-inv}
+use Rattle.model.proofs.Access.{begin-inv}
+use Rattle.model.proofs.Stamps.{transit-stamped, round-long, idle-rounds}
+use Rattle.model.proofs.NetOf.{net, coreOf, bookOf, stateOf, undelay, pairOf, walkOf, originOf, countAt}
+
+map-set : {A : Type 0} (f : A → ℕ) (l : List A) (i : ℕ) (x : A) → map f (set l i x) ≡ set (map f l) i (f x)
+map-set f [] i x = refl
+map-set f (y ∷ l) zero x = refl
+map-set f (y ∷ l) (suc i) x = ap (λ (z : List ℕ). f y ∷ z) (map-set f l i x)
+
+map-replicate : {A : Type 0} (f : A → ℕ) (n : ℕ) (x : A) → map f (replicate n x) ≡ replicate n (f x)
+map-replicate f zero x = refl
+map-replicate f (suc n) x = ap (λ (z : List ℕ). f x ∷ z) (map-replicate f n x)
+
+-- no shift, no delay
+self-shift : (a : ℕ) → bitsOf (subℕ a a) ≡ 0
+self-shift a = let e : subℕ a a ≡ pos 0 = rw (le-ltb a a (omega arith)) (ap pos (omega arith)) in ap bitsOf e
+
+unshifted : (a : ℕ) → shifted a 0 ≡ a
+unshifted a = add-zero a
+
+module _ (T : Tables) (Q₁ : Query) where
+  abbrev Q : Query
+  Q = undelay Q₁
+
+  abbrev N : Net
+  N = net T Q
+
+  no-margin : marginOf T Q ≡ 0
+  unfolding iter
+  no-margin = min-zero (Q .settings .marginCap)
+
+  sim-improve : (stamp s v : ℕ) (l : Label) (c : Arrivals) → reachedBy l ≡ suc v → coreOf (improve T Q stamp s v l c) ≡ PlainSearch.imp N stamp s v (coreOf c)
+  unfolding improve PlainSearch.imp bestAfter PlainSearch.best
+  sim-improve stamp s v l c e =
+      ap (λ (z : List ℕ). record { lab = z; E = set (c .earliest) s v; B = bestAfter T Q s v (c .best); SS = cond (not (eqb (getD (c .stopStamp) s 0) stamp)) (set (c .stopStamp) s stamp) (c .stopStamp); Q = cond (not (eqb (getD (c .stopStamp) s 0) stamp)) (c .reached ++ (s ∷ [])) (c .reached) })
+      (map-set reachedBy (c .labels) (recordOf s (stamp - 1)) l ∙ ap (λ (z : ℕ). set (map reachedBy (c .labels)) (recordOf s (stamp - 1)) z) e)
+
+  sim-relax : (stamp s v : ℕ) (l : Label) (c : Arrivals) → reachedBy l ≡ suc v → coreOf (relax T Q stamp s v l c) ≡ PlainSearch.relax N stamp s v (coreOf c)
+  unfolding relax PlainSearch.relax
+  sim-relax stamp s v l c e = go (ltb v (getD (c .earliest) s 0))
+    where
+      go : (b : Bool) → coreOf (cond b (improve T Q stamp s v l c) c) ≡ cond b (PlainSearch.imp N stamp s v (coreOf c)) (coreOf c)
+      go true = sim-improve stamp s v l c e
+      go false = refl
+
+  sim-alightings : (stamp t x o k off : ℕ) (c : Arrivals) → coreOf (alightings T Q stamp miss 0 t x o k off c) ≡ PlainSearch.scan N stamp t k off (coreOf c)
+  unfolding alightings PlainSearch.scan
+  sim-alightings stamp t x o zero off c = refl
+  sim-alightings stamp t x o (suc k) off c =
+      subst
+      (λ (a : ℕ). coreOf (elim (noDropOff T t off || false) [ true ↦ alightings T Q stamp miss 0 t x o k (suc off) c | false ↦ elim (ltb a (c .best)) [ false ↦ c | true ↦ alightings T Q stamp miss 0 t x o k (suc off) (relax T Q stamp (stopAt T t off) a (Transit a t x o off (stamp - 2) 0) c) ] ])
+      ≡ elim (not (noDropOff T t off)) [ false ↦ PlainSearch.scan N stamp t k (suc off) (coreOf c) | true ↦ elim (ltb (arrival T t off) (c .best)) [ false ↦ coreOf c | true ↦ PlainSearch.scan N stamp t k (suc off) n′ ] ])
+      (sym (add-zero (arrival T t off)))
+      (go (noDropOff T t off) (ltb (arrival T t off) (c .best)) (sim-alightings stamp t x o k (suc off) c)
+      (sim-alightings stamp t x o k (suc off) n ∙ ap (PlainSearch.scan N stamp t k (suc off)) (sim-relax stamp (stopAt T t off) (arrival T t off) _ c refl)))
+    where
+      n : Arrivals
+      n = relax T Q stamp (stopAt T t off) (arrival T t off) (Transit (arrival T t off) t x o off (stamp - 2) 0) c
+
+      n′ : PlainSearch.Core
+      n′ = PlainSearch.relax N stamp (stopAt T t off) (arrival T t off) (coreOf c)
+
+      go : (b d : Bool) → coreOf (alightings T Q stamp miss 0 t x o k (suc off) c) ≡ PlainSearch.scan N stamp t k (suc off) (coreOf c)
+          → coreOf (alightings T Q stamp miss 0 t x o k (suc off) n) ≡ PlainSearch.scan N stamp t k (suc off) n′
+          → coreOf (elim (b || false) [ true ↦ alightings T Q stamp miss 0 t x o k (suc off) c | false ↦ elim d [ false ↦ c | true ↦ alightings T Q stamp miss 0 t x o k (suc off) n ] ])
+          ≡ elim (not b) [ false ↦ PlainSearch.scan N stamp t k (suc off) (coreOf c) | true ↦ elim d [ false ↦ coreOf c | true ↦ PlainSearch.scan N stamp t k (suc off) n′ ] ]
+      go true d p q = p
+      go false false p q = refl
+      go false true p q = q
+
+  sim-scan : (stamp t x o : ℕ) (c : Arrivals) → t < trips T → coreOf (scanTripForward T Q false stamp miss 0 t x o c) ≡ PlainSearch.ride N stamp t o (coreOf c)
+  unfolding scanTripForward PlainSearch.ride countAt
+  sim-scan stamp t x o c h =
+      sim-alightings stamp t x o (stopCount T t - suc o) (suc o) c
+      ∙ ap (λ (b : Bool). PlainSearch.scan N stamp t (elim b as (λ z. ℕ) [ true ↦ stopCount T t | false ↦ 0 ] - suc o) (suc o) (coreOf c)) (sym (lt-ltb t (trips T) h))
+
+  sim-blocked : (t o : ℕ) (bs : List (ℕ × ℕ)) → dominated T Q t o bs ≡ PlainSearch.blocked N t o bs
+  unfolding dominated PlainSearch.blocked
+  sim-blocked t o [] = refl
+  sim-blocked t o (b ∷ bs) = ap (λ (z : Bool). ((eqb (lineAt T (b .0)) (lineAt T t) && ltb (position T (b .0)) (position T t)) && leb (b .1) o) || z) (sim-blocked t o bs)
+
+  -- a boarding on schedule
+  abbrev onTime : ℕ → ℕ → Boarding
+  onTime t o = record { departure = departure T t o; «time_shift_s» = 0; window = 0; run = 0 }
+
+  calm-board : (t o after : ℕ) → noWindows T t ≡ true → boardAt T Q miss t o after ≡ elim (ltb (departure T t o) after) [ true ↦ Nothing | false ↦ Board (onTime t o) ]
+  unfolding boardAt
+  calm-board t o after w =
+      ap (λ (b : Bool). elim b as (λ z. FreqBoard) [ true ↦ F (departureNow T Q miss t o) (departureNow T Q miss t o) | false ↦ earliestFreqBoard (T .timetable .trip t .windows) (tripWindow T t) (departure T t 0) (departureNow T Q miss t o) after ]) w
+      ∙ (ap (λ (d : ℕ). F d d) (unshifted (departure T t o)) ∙ G (self-shift (departure T t o)))
+    where
+      F : ℕ → ℕ → FreqBoard
+      F d e = elim (ltb d after) [ true ↦ Nothing | false ↦ Board (record { departure = d; «time_shift_s» = bitsOf (subℕ e (departure T t o)); window = 0; run = 0 }) ]
+
+      G : bitsOf (subℕ (departure T t o) (departure T t o)) ≡ 0 → F (departure T t o) (departure T t o) ≡ elim (ltb (departure T t o) after) [ true ↦ Nothing | false ↦ Board (onTime t o) ]
+      G e = ap (λ (x : ℕ). elim (ltb (departure T t o) after) as (λ z. FreqBoard) [ true ↦ Nothing | false ↦ Board (record { departure = departure T t o; «time_shift_s» = x; window = 0; run = 0 }) ]) e
+
+  -- one listed departure, before the best total
+  sim-boarding : (stamp after t o : ℕ) (s : State) → noWindows T t ≡ true → departure T t o < s .arrivals .best
+      → boarding T Q stamp after miss t o s ≡ elim (PlainSearch.skips N stamp after t o (bookOf (s .boardings))) [ true ↦ Nothing | false ↦ Board (onTime t o) ]
+  unfolding boarding pruned passedOver PlainSearch.skips PlainSearch.passed
+  sim-boarding stamp after t o s w h =
+      go (permitted T Q t) (fifo T (lineAt T t) && dominated T Q t o (s .boardings .lineBoards)) (fifo T (lineAt T t) && PlainSearch.blocked N t o (s .boardings .lineBoards)) (ap (λ (z : Bool). fifo T (lineAt T t) && z) (sim-blocked t o (s .boardings .lineBoards)))
+      (noPickup T t o) (ltb (departure T t o) after) (λ x. leb (s .arrivals .best) x || passedOver T Q stamp t o x (s .boardings)) (PlainSearch.passed N stamp t o (bookOf (s .boardings)))
+      (ap (λ (z : Bool). z || passedOver T Q stamp t o (departure T t o) (s .boardings)) (lt-leb (s .arrivals .best) (departure T t o) h)) (boardAt T Q miss t o after) (calm-board t o after w)
+    where
+      go : (A B B′ : Bool) → B ≡ B′ → (C D : Bool) (F : ℕ → Bool) (P : Bool) → F (departure T t o) ≡ P → (z : FreqBoard) → z ≡ elim D as (λ y. FreqBoard) [ true ↦ Nothing | false ↦ Board (onTime t o) ]
+          → _≡_ {A = FreqBoard} (elim (((not A || B) || C) || false) [ true ↦ Nothing | false ↦ elim z [ Nothing ↦ Nothing | Board b ↦ elim (F (b .departure)) [ true ↦ Nothing | false ↦ Board b ] ] ])
+          (elim ((((not A || B′) || not (not C)) || D) || P) [ true ↦ Nothing | false ↦ Board (onTime t o) ])
+      go false B B′ b C D F P f z e = refl
+      go true true true b C D F P f z e = refl
+      go true true false b C D F P f z e = absurd (no-both refl b)
+      go true false true b C D F P f z e = absurd (no-both b refl)
+      go true false false b true D F P f z e = refl
+      go true false false b false true F P f z e = ap (λ (z : FreqBoard). elim z as (λ y. FreqBoard) [ Nothing ↦ Nothing | Board b ↦ elim (F (b .departure)) [ true ↦ Nothing | false ↦ Board b ] ]) e
+      go true false false b false false F P f z e =
+          ap (λ (z : FreqBoard). elim z as (λ y. FreqBoard) [ Nothing ↦ Nothing | Board b ↦ elim (F (b .departure)) [ true ↦ Nothing | false ↦ Board b ] ]) e
+          ∙ ap (λ (z : Bool). elim z as (λ y. FreqBoard) [ true ↦ Nothing | false ↦ Board (onTime t o) ]) f
+
+  sim-board : (round stamp t o : ℕ) (k : Boardings) → bookOf (board T Q round stamp miss t o (departure T t o) k) ≡ PlainSearch.board N round stamp t o (bookOf k)
+  unfolding board PlainSearch.board
+  sim-board round stamp t o k = refl
+
+  sim-departing : (round stamp x after : ℕ) (ds : List DepartureRow) (s : State) → ((d : DepartureRow) → List·Memᴰ d ds → (d .trip < trips T) × (noWindows T (d .trip) ≡ true))
+      → stateOf (scanDepartures T Q false false round stamp x after ds s) ≡ PlainSearch.departures N round stamp after (map pairOf ds) (stateOf s)
+  unfolding scanDepartures PlainSearch.departures first
+  sim-departing round stamp x after [] s I = refl
+  sim-departing round stamp x after (d ∷ ds) s I =
+      ap (λ (m : ℕ). stateOf (elim (leb m (departure T (d .trip) (d .offset))) as (λ z. State) [ true ↦ s | false ↦ F (boarding T Q stamp after miss (d .trip) (d .offset) s) ])) (ap (λ (m : ℕ). s .arrivals .best + m) no-margin ∙ add-zero (s .arrivals .best))
+      ∙ go (leb (s .arrivals .best) (departure T (d .trip) (d .offset))) refl (sim-departing round stamp x after ds s (λ e m. I e (List·Memᴰ·tail m)))
+      (sim-departing round stamp x after ds n (λ e m. I e (List·Memᴰ·tail m))
+      ∙ ap (λ (z : PlainSearch.St). PlainSearch.departures N round stamp after (map pairOf ds) z)
+      (ap (λ (c : PlainSearch.Core). record { c = c; k = bookOf (n .boardings) }) (sim-scan stamp (d .trip) x (d .offset) (s .arrivals) (I d (List·Memᴰ·head refl) .0))
+      ∙ ap (λ (k : PlainSearch.Book). record { c = PlainSearch.ride N stamp (d .trip) (d .offset) (coreOf (s .arrivals)); k = k }) (sim-board round stamp (d .trip) (d .offset) (s .boardings))))
+    where
+      n : State
+      n = record { arrivals = scanTripForward T Q false stamp miss 0 (d .trip) x (d .offset) (s .arrivals); boardings = board T Q round stamp miss (d .trip) (d .offset) (departure T (d .trip) (d .offset)) (s .boardings) }
+
+      n′ : PlainSearch.St
+      n′ = record { c = PlainSearch.ride N stamp (d .trip) (d .offset) (coreOf (s .arrivals)); k = PlainSearch.board N round stamp (d .trip) (d .offset) (bookOf (s .boardings)) }
+
+      F : FreqBoard → State
+      F z =
+          elim z [
+            | Nothing ↦ scanDepartures T Q false false round stamp x after ds s
+            | Board b ↦ scanDepartures T Q false false round stamp x after ds (record {
+              arrivals = scanTripForward T Q false stamp miss (b .«time_shift_s») (d .trip) x (d .offset) (s .arrivals);
+              boardings = board T Q round stamp miss (d .trip) (d .offset) (b .departure) (s .boardings);
+            })
+          ]
+
+      R : Bool → Bool → PlainSearch.St
+      R a b = elim a [ true ↦ stateOf s | false ↦ elim b [ true ↦ PlainSearch.departures N round stamp after (map pairOf ds) (stateOf s) | false ↦ PlainSearch.departures N round stamp after (map pairOf ds) n′ ] ]
+
+      pick : (b : Bool) → stateOf (scanDepartures T Q false false round stamp x after ds s) ≡ PlainSearch.departures N round stamp after (map pairOf ds) (stateOf s) → stateOf (scanDepartures T Q false false round stamp x after ds n) ≡ PlainSearch.departures N round stamp after (map pairOf ds) n′
+          → stateOf (F (elim b [ true ↦ Nothing | false ↦ Board (onTime (d .trip) (d .offset)) ])) ≡ elim b [ true ↦ PlainSearch.departures N round stamp after (map pairOf ds) (stateOf s) | false ↦ PlainSearch.departures N round stamp after (map pairOf ds) n′ ]
+      pick true p q = p
+      pick false p q = q
+
+      go : (a : Bool) → leb (s .arrivals .best) (departure T (d .trip) (d .offset)) ≡ a → stateOf (scanDepartures T Q false false round stamp x after ds s) ≡ PlainSearch.departures N round stamp after (map pairOf ds) (stateOf s) → stateOf (scanDepartures T Q false false round stamp x after ds n) ≡ PlainSearch.departures N round stamp after (map pairOf ds) n′
+          → stateOf (elim a [ true ↦ s | false ↦ F (boarding T Q stamp after miss (d .trip) (d .offset) s) ]) ≡ R a (PlainSearch.skips N stamp after (d .trip) (d .offset) (bookOf (s .boardings)))
+      go true e p q = refl
+      go false e p q = ap (λ z. stateOf (F z)) (sim-boarding stamp after (d .trip) (d .offset) s (I d (List·Memᴰ·head refl) .1) (leb-false _ _ e)) ∙ pick (PlainSearch.skips N stamp after (d .trip) (d .offset) (bookOf (s .boardings))) p q
+
+  -- the scan may begin at the first departure that is not too early
+  late-enough : (round stamp after : ℕ) (ds : List DepartureRow) (s : PlainSearch.St) → after ≤ s .c .B → PlainSearch.departures N round stamp after (map pairOf (notBefore T after ds)) s ≡ PlainSearch.departures N round stamp after (map pairOf ds) s
+  unfolding notBefore
+  late-enough round stamp after [] s h = refl
+  late-enough round stamp after (d ∷ ds) s h = go (ltb (departure T (d .trip) (d .offset)) after) refl (late-enough round stamp after ds s h)
+    where
+      go : (b : Bool) → ltb (departure T (d .trip) (d .offset)) after ≡ b → PlainSearch.departures N round stamp after (map pairOf (notBefore T after ds)) s ≡ PlainSearch.departures N round stamp after (map pairOf ds) s
+          → PlainSearch.departures N round stamp after (map pairOf (elim b as (λ z. List DepartureRow) [ true ↦ notBefore T after ds | false ↦ d ∷ ds ])) s ≡ PlainSearch.departures N round stamp after (map pairOf (d ∷ ds)) s
+      go true e p = p ∙ sym (early N round stamp after (pairOf d ∷ []) (map pairOf ds) s h (λ z m. subst (λ (y : ℕ × ℕ). departure T (y .0) (y .1) < after) (sym (List·Memᴰ·eq-of-singleton m)) (ltb-true _ _ e)))
+      go false e p = refl
+
+  kept-members : (P : DepartureRow → Type 0) (after : ℕ) (ds : List DepartureRow) → ((d : DepartureRow) → List·Memᴰ d ds → P d) → (d : DepartureRow) → List·Memᴰ d (notBefore T after ds) → P d
+  unfolding notBefore
+  kept-members P after [] I d m = I d m
+  kept-members P after (e ∷ ds) I d m = go (ltb (departure T (e .trip) (e .offset)) after) (kept-members P after ds (λ d m. I d (List·Memᴰ·tail m)) d) m
+    where
+      go : (b : Bool) → (List·Memᴰ d (notBefore T after ds) → P d) → List·Memᴰ {A = DepartureRow} d (elim b [ true ↦ notBefore T after ds | false ↦ e ∷ ds ]) → P d
+      go true p m = p m
+      go false p m = I d m
+
+  sim-change : (r : ℕ) → changeBefore Q r ≡ PlainSearch.change N r
+  unfolding changeBefore PlainSearch.change
+  sim-change zero = refl
+  sim-change (suc r) = refl
+
+  -- what the tables must give: marks and listed trips without frequency
+  pub record Calm : Type 0 where
+    pub marks : (x : ℕ) → markAt T x ≡ false
+    pub listed : (x : ℕ) (d : DepartureRow) → List·Memᴰ d (departuresAt T x) → (d .trip < trips T) × (noWindows T (d .trip) ≡ true)
+
+  sim-stops : Calm → (round stamp : ℕ) (xs : List ℕ) (s : State) → s .arrivals .best ≤ never → stateOf (scanStops T Q false round stamp xs s) ≡ PlainSearch.stops N round stamp xs (stateOf s)
+  unfolding scanStops PlainSearch.stops
+  sim-stops C round stamp [] s top = refl
+  sim-stops C round stamp (x ∷ xs) s top =
+      subst (λ (z : ℕ). stateOf (elim (eqb v never || leb (s .arrivals .best) a) [ true ↦ scanStops T Q false round stamp xs s | false ↦ elim (markAt T x) [ true ↦ scanStops T Q false round stamp xs (scanDepartures T Q false true round stamp x a (departuresAt T x) s) | false ↦ scanStops T Q false round stamp xs (scanDepartures T Q false false round stamp x a (notBefore T z (departuresAt T x)) s) ] ]) ≡ R (v + PlainSearch.change N round))
+      (sym (ap (λ (m : ℕ). a - m) no-margin ∙ sub-zero a))
+      (go (eqb v never) refl (leb (s .arrivals .best) a) refl (markAt T x) (C .marks x) (sim-stops C round stamp xs s top)
+      (sim-stops C round stamp xs n (omega (arith, top, ap (λ (z : PlainSearch.St). z .c .B) departed, deps-le N round stamp a (deps-graph N round stamp a (map pairOf (notBefore T a (departuresAt T x))) (stateOf s)) .b)) ∙ ap (PlainSearch.stops N round stamp xs) departed)
+      ∙ ap R (ap (λ (z : ℕ). v + z) (sim-change round)))
+    where
+      v : ℕ
+      v = getD (s .arrivals .earliest) x 0
+
+      a : ℕ
+      a = getD (s .arrivals .earliest) x 0 + changeBefore Q round
+
+      n : State
+      n = scanDepartures T Q false false round stamp x a (notBefore T a (departuresAt T x)) s
+
+      departed : stateOf (scanDepartures T Q false false round stamp x a (notBefore T a (departuresAt T x)) s) ≡ PlainSearch.departures N round stamp a (map pairOf (notBefore T a (departuresAt T x))) (stateOf s)
+      departed = sim-departing round stamp x a (notBefore T a (departuresAt T x)) s (kept-members (λ d. (d .trip < trips T) × (noWindows T (d .trip) ≡ true)) a (departuresAt T x) (C .listed x))
+
+      R : ℕ → PlainSearch.St
+      R z = elim (leb (s .arrivals .best) z) [ true ↦ PlainSearch.stops N round stamp xs (stateOf s) | false ↦ PlainSearch.stops N round stamp xs (PlainSearch.departures N round stamp z (map pairOf (departuresAt T x)) (stateOf s)) ]
+
+      -- an unreached stop is passed over: from it nothing leaves before the best total
+      go : (u : Bool) → eqb v never ≡ u → (b : Bool) → leb (s .arrivals .best) a ≡ b → (m : Bool) → m ≡ false → stateOf (scanStops T Q false round stamp xs s) ≡ PlainSearch.stops N round stamp xs (stateOf s) → stateOf (scanStops T Q false round stamp xs n) ≡ PlainSearch.stops N round stamp xs (PlainSearch.departures N round stamp a (map pairOf (notBefore T a (departuresAt T x))) (stateOf s))
+          → stateOf (elim (u || b) [ true ↦ scanStops T Q false round stamp xs s | false ↦ elim m [ true ↦ scanStops T Q false round stamp xs (scanDepartures T Q false true round stamp x a (departuresAt T x) s) | false ↦ scanStops T Q false round stamp xs n ] ])
+          ≡ elim b [ true ↦ PlainSearch.stops N round stamp xs (stateOf s) | false ↦ PlainSearch.stops N round stamp xs (PlainSearch.departures N round stamp a (map pairOf (departuresAt T x)) (stateOf s)) ]
+      go true f true e m g p q = p
+      go false f true e m g p q = p
+      go true f false e m g p q = absurd (omega (arith, top, eqb-true (getD (s .arrivals .earliest) x 0) never f, leb-false (s .arrivals .best) (getD (s .arrivals .earliest) x 0 + changeBefore Q round) e))
+      go false f false e true g p q = absurd (no-both refl g)
+      go false f false e false g p q = q ∙ ap (PlainSearch.stops N round stamp xs) (late-enough round stamp a (departuresAt T x) (stateOf s) (let l : a < s .arrivals .best = leb-false _ _ e in omega arith))
+
+  sim-walkFrom : (stamp x v : ℕ) (es : List ℕ) (c : Arrivals) → coreOf (walkFrom T Q false stamp x v es c) ≡ PlainSearch.walk N stamp v (map (walkOf T Q) es) (coreOf c)
+  unfolding walkFrom PlainSearch.walk
+  sim-walkFrom stamp x v [] c = refl
+  sim-walkFrom stamp x v (e ∷ es) c =
+      go (ltb (v + d) (c .best)) (sim-walkFrom stamp x v es c) (sim-walkFrom stamp x v es n ∙ ap (PlainSearch.walk N stamp v (map (walkOf T Q) es)) (sim-relax stamp (edgeTo T e) (v + d) _ c refl))
+    where
+      d : ℕ
+      d = walkTime T Q e
+
+      n : Arrivals
+      n = relax T Q stamp (edgeTo T e) (v + d) (Walk (v + d) x (edgeTo T e) d (T .distance e) (stamp - 1)) c
+
+      n′ : PlainSearch.Core
+      n′ = PlainSearch.relax N stamp (edgeTo T e) (v + d) (coreOf c)
+
+      go : (b : Bool) → coreOf (walkFrom T Q false stamp x v es c) ≡ PlainSearch.walk N stamp v (map (walkOf T Q) es) (coreOf c) → coreOf (walkFrom T Q false stamp x v es n) ≡ PlainSearch.walk N stamp v (map (walkOf T Q) es) n′
+          → coreOf (elim b [ false ↦ walkFrom T Q false stamp x v es c | true ↦ walkFrom T Q false stamp x v es n ]) ≡ elim b [ false ↦ PlainSearch.walk N stamp v (map (walkOf T Q) es) (coreOf c) | true ↦ PlainSearch.walk N stamp v (map (walkOf T Q) es) n′ ]
+      go false p q = p
+      go true p q = q
+
+  sim-walking : (stamp : ℕ) (xs : List ℕ) (c : Arrivals) → coreOf (walkAll T Q false stamp xs c) ≡ PlainSearch.walks N stamp xs (coreOf c)
+  unfolding walkAll PlainSearch.walks
+  sim-walking stamp [] c = refl
+  sim-walking stamp (x ∷ xs) c = sim-walking stamp xs (walkFrom T Q false stamp x (getD (c .earliest) x 0) (edgesFrom T x) c) ∙ ap (PlainSearch.walks N stamp xs) (sim-walkFrom stamp x (getD (c .earliest) x 0) (edgesFrom T x) c)
+
+  sim-riding : Calm → (r : ℕ) (s : State) → s .arrivals .best ≤ never → stateOf (ridePhase T Q false r s) ≡ PlainSearch.rideSt N r (stateOf s)
+  unfolding ridePhase
+  sim-riding C r s top = sim-stops C r (suc (suc r)) (s .arrivals .reached) (roundStart T Q s) top
+
+  all-stamped : (stamp : ℕ) (ss xs : List ℕ) → ((x : ℕ) → List·Memᴰ x xs → getD ss x 0 ≡ stamp) → stamped T Q stamp ss xs ≡ xs
+  unfolding stamped
+  all-stamped stamp ss [] h = refl
+  all-stamped stamp ss (x ∷ xs) h =
+      ap (λ (b : Bool). elim b as (λ z. List ℕ) [ true ↦ x ∷ stamped T Q stamp ss xs | false ↦ stamped T Q stamp ss xs ]) (eq-eqb (getD ss x 0) stamp (h x (List·Memᴰ·head refl)))
+      ∙ ap (λ (z : List ℕ). x ∷ z) (all-stamped stamp ss xs (λ y m. h y (List·Memᴰ·tail m)))
+
+  sim-footing : (r : ℕ) (s : State) → ((x : ℕ) → List·Memᴰ x (s .arrivals .reached) → getD (PlainSearch.walkSt N r (stateOf s) .c .SS) x 0 ≡ suc (suc r)) → stateOf (walkPhase T Q false r s) ≡ PlainSearch.walkSt N r (stateOf s)
+  unfolding walkPhase
+  sim-footing r s h =
+      ap (λ (z : List ℕ). record { c = record { lab = map reachedBy (w .labels); E = w .earliest; B = w .best; SS = w .stopStamp; Q = w .reached ++ z }; k = bookOf (s .boardings) })
+      (all-stamped (suc (suc r)) (w .stopStamp) (s .arrivals .reached) (λ x m. ap (λ (c : PlainSearch.Core). getD (c .SS) x 0) walked ∙ h x m))
+      ∙ ap (λ (w : PlainSearch.Core). record { c = record { lab = w .lab; E = w .E; B = w .B; SS = w .SS; Q = w .Q ++ s .arrivals .reached }; k = bookOf (s .boardings) }) walked
+    where
+      w : Arrivals
+      w = walkAll T Q false (suc (suc r)) (s .arrivals .reached) (emptied T Q (s .arrivals .segQueue) (s .arrivals))
+
+      walked : coreOf (walkAll T Q false (suc (suc r)) (s .arrivals .reached) (emptied T Q (s .arrivals .segQueue) (s .arrivals))) ≡ PlainSearch.walks N (suc (suc r)) (s .arrivals .reached) (coreOf (emptied T Q (s .arrivals .segQueue) (s .arrivals)))
+      walked = sim-walking (suc (suc r)) (s .arrivals .reached) (emptied T Q (s .arrivals .segQueue) (s .arrivals))
+
+  -- a round
+  sim-round : Plain N → Calm → (r : ℕ) (s : State) → Inv N r (stateOf s) → length (s .arrivals .stopStamp) ≡ stops T → stateOf (walkPhase T Q false r (ridePhase T Q false r s)) ≡ PlainSearch.walkSt N r (PlainSearch.rideSt N r (stateOf s))
+  sim-round P C r s I long =
+      sim-footing r (ridePhase T Q false r s)
+      (λ x m. ap (λ (t : PlainSearch.St). getD (PlainSearch.walkSt N r t .c .SS) x 0) rode ∙ transit-stamped N P r (stateOf s) I long x (subst (λ (t : PlainSearch.St). List·Memᴰ x (t .c .Q)) rode m))
+      ∙ ap (PlainSearch.walkSt N r) rode
+    where
+      rode : stateOf (ridePhase T Q false r s) ≡ PlainSearch.rideSt N r (stateOf s)
+      rode = sim-riding C r s (I .top)
+
+  -- the two states agree, but for the line boardings of a round that did not run
+  pub record Agree (s : State) (t : PlainSearch.St) : Type 0 where
+    pub core : coreOf (s .arrivals) ≡ t .c
+    pub scans : s .boardings .scans ≡ t .k .log
+
+  sim-rounds : Plain N → Calm → (n r : ℕ) (s : State) → Inv N r (stateOf s) → length (s .arrivals .stopStamp) ≡ stops T → Agree (rounds T Q false n r s) (PlainSearch.rounds N n r (stateOf s))
+  unfolding rounds PlainSearch.rounds idle
+  sim-rounds P C zero r s I long = record { core = refl; scans = refl }
+  sim-rounds P C (suc n) r s I long =
+      go (s .arrivals .reached) refl
+      (subst (λ (t : PlainSearch.St). Agree (rounds T Q false n (suc r) next) (PlainSearch.rounds N n (suc r) t)) round
+      (sim-rounds P C n (suc r) next (subst (Inv N (suc r)) (sym round) (round-inv N P r (stateOf s) I)) (ap (λ (t : PlainSearch.St). length (t .c .SS)) round ∙ round-long N P r (stateOf s) I long)))
+    where
+      next : State
+      next = walkPhase T Q false r (ridePhase T Q false r s)
+
+      round : stateOf (walkPhase T Q false r (ridePhase T Q false r s)) ≡ PlainSearch.walkSt N r (PlainSearch.rideSt N r (stateOf s))
+      round = sim-round P C r s I long
+
+      S : List ℕ → PlainSearch.St
+      S q = record { c = record { lab = map reachedBy (s .arrivals .labels); E = s .arrivals .earliest; B = s .arrivals .best; SS = s .arrivals .stopStamp; Q = q }; k = bookOf (s .boardings) }
+
+      go : (q : List ℕ) → s .arrivals .reached ≡ q → Agree (rounds T Q false n (suc r) next) (PlainSearch.rounds N n (suc r) (PlainSearch.walkSt N r (PlainSearch.rideSt N r (stateOf s))))
+          → Agree (elim (eqb (length q) 0 && true) [ true ↦ s | false ↦ rounds T Q false n (suc r) next ]) (PlainSearch.rounds N n (suc r) (PlainSearch.walkSt N r (PlainSearch.rideSt N r (stateOf s))))
+      go [] e h =
+          let i = idle-rounds N (suc n) r (map reachedBy (s .arrivals .labels)) (s .arrivals .earliest) (s .arrivals .best) (s .arrivals .stopStamp) (bookOf (s .boardings)) in
+          record { core = ap (λ (q : List ℕ). S q .c) e ∙ (sym (i .0) ∙ ap (λ (q : List ℕ). PlainSearch.rounds N (suc n) r (S q) .c) (sym e)); scans = sym (i .1) ∙ ap (λ (q : List ℕ). PlainSearch.rounds N (suc n) r (S q) .k .log) (sym e) }
+      go (x ∷ q) e h =
+          subst (λ (b : Bool). Agree (elim (b && true) [ true ↦ s | false ↦ rounds T Q false n (suc r) next ]) (PlainSearch.rounds N n (suc r) (PlainSearch.walkSt N r (PlainSearch.rideSt N r (stateOf s))))) (sym (ne-eqb (suc (length q)) 0 (λ z. omega arith))) h
+
+  sim-arrive : (o : Origin) (c : Arrivals) → coreOf (setOut T Q o c) ≡ PlainSearch.arrive N (originOf o) (coreOf c)
+  unfolding setOut PlainSearch.arrive bestAfter PlainSearch.best
+  sim-arrive o c = go (ltb v (getD (c .earliest) (o .stop) 0))
+    where
+      v : ℕ
+      v = Q .start + o .duration
+
+      b : ℕ
+      b = cond (isEgress (Q .egress) (o .stop) && ltb (v + egressWalk (Q .egress) (o .stop)) (c .best)) (v + egressWalk (Q .egress) (o .stop)) (c .best)
+
+      go : (t : Bool) → coreOf (elim t [
+        | true ↦ record { labels = set (c .labels) (recordOf (o .stop) 0) (Access (o .stop) v (o .duration) (o .distance)); earliest = set (c .earliest) (o .stop) v; best = b; stopStamp = set (c .stopStamp) (o .stop) 1; reached = c .reached ++ (o .stop ∷ []); segQueue = c .segQueue; segReach = c .segReach }
+        | false ↦ record { labels = c .labels; earliest = c .earliest; best = b; stopStamp = c .stopStamp; reached = c .reached; segQueue = c .segQueue; segReach = c .segReach }
+      ])
+          ≡ elim t [
+            | true ↦ record { lab = set (map reachedBy (c .labels)) (recordOf (o .stop) 0) (suc v); E = set (c .earliest) (o .stop) v; B = b; SS = set (c .stopStamp) (o .stop) 1; Q = c .reached ++ (o .stop ∷ []) }
+            | false ↦ record { lab = map reachedBy (c .labels); E = c .earliest; B = b; SS = c .stopStamp; Q = c .reached }
+          ]
+      go true = ap (λ (z : List ℕ). record { lab = z; E = set (c .earliest) (o .stop) v; B = b; SS = set (c .stopStamp) (o .stop) 1; Q = c .reached ++ (o .stop ∷ []) }) (map-set reachedBy (c .labels) (recordOf (o .stop) 0) (Access (o .stop) v (o .duration) (o .distance)))
+      go false = refl
+
+  sim-setOut : (os : List Origin) (c : Arrivals) → coreOf (access T Q os c) ≡ PlainSearch.access N (map originOf os) (coreOf c)
+  unfolding access PlainSearch.access
+  sim-setOut [] c = refl
+  sim-setOut (o ∷ os) c = sim-setOut os (setOut T Q o c) ∙ ap (PlainSearch.access N (map originOf os)) (sim-arrive o c)
+
+  sim-begin : stateOf (begin T Q) ≡ PlainSearch.begin N (trips T)
+  sim-begin =
+      ap (λ (c : PlainSearch.Core). record { c = c; k = bookOf (begin T Q .boardings) })
+      (sim-setOut (Q .origins) (newArrivals T Q) ∙ ap (λ (z : List ℕ). PlainSearch.access N (map originOf (Q .origins)) (record { lab = z; E = replicate (stops T) never; B = never; SS = replicate (stops T) 0; Q = [] })) (map-replicate reachedBy (stops T * 13) Empty))
+
+  setOut-long : (os : List Origin) (c : Arrivals) → length (access T Q os c .stopStamp) ≡ length (c .stopStamp)
+  unfolding access setOut
+  setOut-long [] c = refl
+  setOut-long (o ∷ os) c = setOut-long os (setOut T Q o c) ∙ go (ltb (Q .start + o .duration) (getD (c .earliest) (o .stop) 0))
+    where
+      go : (b : Bool) → length (elim b as (λ z. Arrivals) [
+        | true ↦ record { labels = set (c .labels) (recordOf (o .stop) 0) (Access (o .stop) (Q .start + o .duration) (o .duration) (o .distance)); earliest = set (c .earliest) (o .stop) (Q .start + o .duration); best = bestAfter T Q (o .stop) (Q .start + o .duration) (c .best); stopStamp = set (c .stopStamp) (o .stop) 1; reached = c .reached ++ (o .stop ∷ []); segQueue = c .segQueue; segReach = c .segReach }
+        | false ↦ record { labels = c .labels; earliest = c .earliest; best = bestAfter T Q (o .stop) (Q .start + o .duration) (c .best); stopStamp = c .stopStamp; reached = c .reached; segQueue = c .segQueue; segReach = c .segReach }
+      ] .stopStamp) ≡ length (c .stopStamp)
+      go true = length-set (c .stopStamp) (o .stop) 1
+      go false = refl
+
+  pub sim-final : Plain N → Calm → Agree (final T Q false) (PlainSearch.run N (trips T) (roundsOf Q))
+  unfolding final PlainSearch.run
+  sim-final P C =
+      subst (λ (t : PlainSearch.St). Agree (rounds T Q false (roundsOf Q) 0 (begin T Q)) (PlainSearch.rounds N (roundsOf Q) 0 t)) sim-begin
+      (sim-rounds P C (roundsOf Q) 0 (begin T Q) (subst (Inv N 0) (sym sim-begin) (begin-inv N P (trips T))) (setOut-long (Q .origins) (newArrivals T Q) ∙ length-replicate (stops T) 0))
+
+  sim-target : (c : Arrivals) (es : List (ℕ × ℕ)) (a : ℕ × ℕ) → bestTarget T Q c es a ≡ PlainSearch.target N (coreOf c) es a
+  unfolding bestTarget PlainSearch.target
+  sim-target c [] a = refl
+  sim-target c (e ∷ es) a = go (eqb v never) (ltb (v + e .1) (a .0)) (sim-target c es a) (sim-target c es (v + e .1, e .0))
+    where
+      v : ℕ
+      v = getD (c .earliest) (e .0) 0
+
+      go : (x y : Bool) → bestTarget T Q c es a ≡ PlainSearch.target N (coreOf c) es a → bestTarget T Q c es (v + e .1, e .0) ≡ PlainSearch.target N (coreOf c) es (v + e .1, e .0)
+          → _≡_ {A = ℕ × ℕ} (elim x [ true ↦ bestTarget T Q c es a | false ↦ elim y [ true ↦ bestTarget T Q c es (v + e .1, e .0) | false ↦ bestTarget T Q c es a ] ])
+          (elim x [ true ↦ PlainSearch.target N (coreOf c) es a | false ↦ elim y [ true ↦ PlainSearch.target N (coreOf c) es (v + e .1, e .0) | false ↦ PlainSearch.target N (coreOf c) es a ] ])
+      go true y p q = p
+      go false true p q = q
+      go false false p q = p
+
+  sim-row : (c : Arrivals) (r : ℕ) (es : List (ℕ × ℕ)) (a : ℕ × ℕ) → rowTarget T Q c r es a ≡ PlainSearch.rowBest N (coreOf c) r es a
+  unfolding rowTarget PlainSearch.rowBest
+  sim-row c r [] a = refl
+  sim-row c r (e ∷ es) a =
+      go (reachedBy (getD (c .labels) (recordOf (e .0) r) Empty)) (sim-row c r es a) (λ v. sim-row c r es (v + e .1, e .0))
+      ∙ ap (λ (x : ℕ). elim x as (λ z. ℕ × ℕ) [ zero ↦ PlainSearch.rowBest N (coreOf c) r es a | suc v ↦ elim (ltb (v + e .1) (a .0)) as (λ z. ℕ × ℕ) [ true ↦ PlainSearch.rowBest N (coreOf c) r es (v + e .1, e .0) | false ↦ PlainSearch.rowBest N (coreOf c) r es a ] ])
+      (sym (List·getD-map reachedBy (c .labels) (recordOf (e .0) r) Empty))
+    where
+      one : (v : ℕ) (y : Bool) → rowTarget T Q c r es a ≡ PlainSearch.rowBest N (coreOf c) r es a → rowTarget T Q c r es (v + e .1, e .0) ≡ PlainSearch.rowBest N (coreOf c) r es (v + e .1, e .0)
+          → _≡_ {A = ℕ × ℕ} (elim y [ true ↦ rowTarget T Q c r es (v + e .1, e .0) | false ↦ rowTarget T Q c r es a ]) (elim y [ true ↦ PlainSearch.rowBest N (coreOf c) r es (v + e .1, e .0) | false ↦ PlainSearch.rowBest N (coreOf c) r es a ])
+      one v true p q = q
+      one v false p q = p
+
+      go : (x : ℕ) → rowTarget T Q c r es a ≡ PlainSearch.rowBest N (coreOf c) r es a → ((v : ℕ) → rowTarget T Q c r es (v + e .1, e .0) ≡ PlainSearch.rowBest N (coreOf c) r es (v + e .1, e .0))
+          → _≡_ {A = ℕ × ℕ} (elim x [ zero ↦ rowTarget T Q c r es a | suc v ↦ elim (ltb (v + e .1) (a .0)) [ true ↦ rowTarget T Q c r es (v + e .1, e .0) | false ↦ rowTarget T Q c r es a ] ])
+          (elim x [ zero ↦ PlainSearch.rowBest N (coreOf c) r es a | suc v ↦ elim (ltb (v + e .1) (a .0)) [ true ↦ PlainSearch.rowBest N (coreOf c) r es (v + e .1, e .0) | false ↦ PlainSearch.rowBest N (coreOf c) r es a ] ])
+      go zero p q = p
+      go (suc v) p q = one v (ltb (v + e .1) (a .0)) p (q v)
+
+  sim-candidates : (c : Arrivals) (top k r last : ℕ) → candidatesFrom T Q c top k r last ≡ PlainSearch.cands N (coreOf c) top k r last
+  unfolding candidatesFrom PlainSearch.cands
+  sim-candidates c top zero r last = refl
+  sim-candidates c top (suc k) r last =
+      go (ltb (b .0) last && leb (b .0) (top + Q .settings .candidateSlack)) (sim-candidates c top k (suc r) (b .0)) (sim-candidates c top k (suc r) last) ∙ ap R (sim-row c r (Q .egress) (never, never))
+    where
+      b : ℕ × ℕ
+      b = rowTarget T Q c r (Q .egress) (never, never)
+
+      R : ℕ × ℕ → List (ℕ × ℕ × ℕ)
+      R b = elim (ltb (b .0) last && leb (b .0) (top + Q .settings .candidateSlack)) [ true ↦ (b .0, b .1, r) ∷ PlainSearch.cands N (coreOf c) top k (suc r) (b .0) | false ↦ PlainSearch.cands N (coreOf c) top k (suc r) last ]
+
+      go : (x : Bool) → candidatesFrom T Q c top k (suc r) (b .0) ≡ PlainSearch.cands N (coreOf c) top k (suc r) (b .0) → candidatesFrom T Q c top k (suc r) last ≡ PlainSearch.cands N (coreOf c) top k (suc r) last
+          → _≡_ {A = List (ℕ × ℕ × ℕ)} (elim x [ true ↦ (b .0, b .1, r) ∷ candidatesFrom T Q c top k (suc r) (b .0) | false ↦ candidatesFrom T Q c top k (suc r) last ])
+          (elim x [ true ↦ (b .0, b .1, r) ∷ PlainSearch.cands N (coreOf c) top k (suc r) (b .0) | false ↦ PlainSearch.cands N (coreOf c) top k (suc r) last ])
+      go true p q = ap (λ (z : List (ℕ × ℕ × ℕ)). (b .0, b .1, r) ∷ z) p
+      go false p q = q
+
+  -- the small model's answer, of a state of the full one; it goes through the rows for "no way" too
+  abbrev pub small : State → PlainSearch.Answer N
+  small s = let b = bestTarget T Q (s .arrivals) (Q .egress) (never, never) in record { total = b .0; stop = b .1; cand = candidatesFrom T Q (s .arrivals) (b .0) (suc (roundsOf Q)) 0 never }
+
+  pub sim-answer : Plain N → Calm → small (final T Q false) ≡ PlainSearch.answer N (trips T) (roundsOf Q)
+  unfolding PlainSearch.answer
+  sim-answer P C =
+      ap (λ (b : ℕ × ℕ). record { total = b .0; stop = b .1; cand = candidatesFrom T Q c (b .0) (suc (roundsOf Q)) 0 never }) (sim-target c (Q .egress) (never, never))
+      ∙ ap (λ (l : List (ℕ × ℕ × ℕ)). record { total = t .0; stop = t .1; cand = l }) (sim-candidates c (t .0) (suc (roundsOf Q)) 0 never)
+      ∙ ap (λ (c : PlainSearch.Core). let t = PlainSearch.target N c (Q .egress) (never, never) in record { total = t .0; stop = t .1; cand = PlainSearch.cands N c (t .0) (suc (roundsOf Q)) 0 never }) (sim-final P C .core)
+    where
+      c : Arrivals
+      c = final T Q false .arrivals
+
+      t : ℕ × ℕ
+      t = PlainSearch.target N (coreOf c) (Q .egress) (never, never)
+
+  pub sim-scans : Plain N → Calm → answer T Q false .scans ≡ PlainSearch.run N (trips T) (roundsOf Q) .k .log
+  unfolding answer
+  sim-scans P C = sim-final P C .scans

@@ -1,0 +1,119 @@
+-- What a guest relies on (the request's demand 3): plain day, journey, way, and the demand itself, in the request's and document 01's
+-- words. No memory and no search stands here, but the log of the query's scans that a way's rounds refer to. Definitions only.
+use Prim.Native.Nat.{ℕ, zero, suc, _+_, _≤_, _<_}
+use mathlib.Core.Path.{_≡_}
+use mathlib.Core.Bool.{Bool, true, false}
+use mathlib.Core.List.{List, [], _∷_, List·Memᴰ}
+use Rattle.departures.specs.declared.DepartureRow.{DepartureRow}
+use Rattle.tables.specs.Timetable.{Timetable}
+use Rattle.lines.specs.Lines.{lineOf, linesOf}
+use Rattle.built.specs.Built.{AsBuilt}
+use Rattle.departures.specs.Departures.{sorted, markOf}
+use Rattle.transfers.specs.Transfers.{Input, builtTransfers}
+use Rattle.model.specs.Tables.{never, Tables, Origin, Query, roundsOf, changeBefore, stops, trips, stopCount, stopAt, arrival, departure, noPickup, noDropOff, noWindows, edgesFrom, edgeTo, walkTime, permitted}
+use Rattle.model.specs.Search.{Answer, flagsInUse}
+
+-- what the transfers call makes its transfers from
+abbrev pub transferInput : Tables → ℕ → Input
+transferInput T time = record { timetable = T .timetable; lines = T .lines; lineOf = T .lineOf; listed = T .departures; time = time }
+
+module _ (T : Tables) (Q : Query) where
+  -- PLAIN DAY
+  pub record PlainDay : Type 0 where
+    -- "tables as our building calls wrote them": from a caller's list of departures for each stop
+    pub listed : ℕ → List DepartureRow
+    pub departures-built : (s : ℕ) → s < stops T → T .departures s ≡ sorted (T .timetable) (listed s)
+    pub marks-built : (s : ℕ) → s < stops T → T .mark s ≡ markOf (T .timetable) (listed s)
+    pub lines-built : T .lines ≡ linesOf (T .timetable)
+    pub line-built : (t : ℕ) → t < trips T → T .lineOf t ≡ lineOf (T .timetable) t
+    pub lists-built : AsBuilt (T .timetable) (T .line)
+    pub transfers-built : (t o : ℕ) → t < trips T → o < stopCount T t → T .transfers t o ≡ builtTransfers (transferInput T (Q .settings .transferTime)) t o
+    -- "no frequency trips": a frequency trip has windows
+    pub no-windows : (t : ℕ) → t < trips T → noWindows T t ≡ true
+    -- "no delays": no delay row
+    pub no-delays : Q .delays .delays ≡ 0
+    -- "no arc flags in use": the switch puts them off, or they skip no walk edge or transfer
+    pub no-flags : flagsInUse T Q ≡ false
+    -- "no trip whose times fall": no departure precedes its arrival, no arrival the departure before it
+    pub waits : (t o : ℕ) → t < trips T → o < stopCount T t → arrival T t o ≤ departure T t o
+    pub rides : (t o : ℕ) → t < trips T → suc o < stopCount T t → departure T t o ≤ arrival T t (suc o)
+    -- "lines evenly listed": where one trip's departure is listed at an offset, that of each trip of its line is listed at the same
+    -- offset, save where its pickup is 1
+    pub evenly-listed : (s t u o : ℕ) → s < stops T → List·Memᴰ (record { trip = t; offset = o }) (T .departures s) → u < trips T → T .lineOf u ≡ T .lineOf t → noPickup T u o ≡ false
+        → List·Memᴰ (record { trip = u; offset = o }) (T .departures s)
+    -- "walks complete", with this query's durations: edges A to B and B to C (C not A) have an edge A to C no longer than the two
+    -- together; an origin at B and an edge B to C have an origin at C no longer than the two together
+    pub edges-complete : (a e f : ℕ) → List·Memᴰ e (edgesFrom T a) → List·Memᴰ f (edgesFrom T (edgeTo T e)) → (edgeTo T f ≡ a → ⊥)
+        → (g : ℕ) × (List·Memᴰ g (edgesFrom T a)) × (edgeTo T g ≡ edgeTo T f) × (walkTime T Q g ≤ walkTime T Q e + walkTime T Q f)
+    pub origins-complete : (a : Origin) (f : ℕ) → List·Memᴰ a (Q .origins) → List·Memᴰ f (edgesFrom T (a .stop))
+        → (b : Origin) × (List·Memᴰ b (Q .origins)) × (b .stop ≡ edgeTo T f) × (b .duration ≤ a .duration + walkTime T Q f)
+
+  -- BOARDING (01, "Permitted"): at stop x, trip t at offset o. The trip is permitted, the departure is listed, pickup is not 1.
+  pub record Boarding (x t o : ℕ) : Type 0 where
+    pub trip : permitted T Q t ≡ true
+    pub listed : List·Memᴰ (record { trip = t; offset = o }) (T .departures x)
+    pub pickup : noPickup T t o ≡ false
+
+  -- ALIGHTING: trip t, boarded at offset o, is left at a later offset p whose drop-off is not 1
+  pub record Alighting (t o p : ℕ) : Type 0 where
+    pub later : o < p
+    pub inside : p < stopCount T t
+    pub dropOff : noDropOff T t p ≡ false
+
+  -- JOURNEY ("access walk, at most one ride a round, one walk edge allowed after each ride, the change time before every boarding but
+  -- the first"): has it just left a ride, how many rides, which stop, when. A ride lasts from departure to arrival.
+  pub data Journey : Bool → ℕ → ℕ → ℕ → Type 0 where
+    access : (a : Origin) → List·Memᴰ a (Q .origins) → Journey false zero (a .stop) (Q .start + a .duration)
+    ride : {b : Bool} {n x v : ℕ} (t o p : ℕ) → Journey b n x v → Boarding x t o → Alighting t o p → v + changeBefore Q n ≤ departure T t o
+        → Journey true (suc n) (stopAt T t p) (arrival T t p)
+    foot : {n x v : ℕ} (e : ℕ) → Journey true n x v → List·Memᴰ e (edgesFrom T x) → Journey false n (edgeTo T e) (v + walkTime T Q e)
+
+  -- a whole journey of at most n rides, closed by an egress walk, whose end is the arrival
+  pub record JourneyOf (n arrives : ℕ) : Type 0 where
+    pub justRode : Bool
+    pub rideCount : ℕ
+    pub stop : ℕ
+    pub reached : ℕ
+    pub journey : Journey justRode rideCount stop reached
+    pub fits : rideCount ≤ n
+    pub walk : ℕ
+    pub egress : List·Memᴰ (stop, walk) (Q .egress)
+    pub sum : arrives ≡ reached + walk
+
+  abbrev pub WholeJourney : ℕ → Type 0
+  WholeJourney arrives = JourneyOf (roundsOf Q) arrives
+
+  -- WAY ("from the query's start and one of its origins, by permitted rides and walks, each begun where the one before ended and no
+  -- sooner, the rides' rounds never falling, and every boarding after the first round at least the change time after the arrival
+  -- before it"): which stop, when, and the round of its last ride (0 before any). Each ride has a round in which the query scans its
+  -- trip from that boarding; scans: these (round, trip, offset).
+  pub data Way (scans : List (ℕ × ℕ × ℕ)) : ℕ → ℕ → ℕ → Type 0 where
+    access : (a : Origin) → List·Memᴰ a (Q .origins) → Way scans (a .stop) (Q .start + a .duration) zero
+    ride : {x v q : ℕ} (r t o p : ℕ) → Way scans x v q → q ≤ r → List·Memᴰ (r, t, o) scans → Boarding x t o → Alighting t o p → v + changeBefore Q r ≤ departure T t o
+        → Way scans (stopAt T t p) (arrival T t p) r
+    foot : {x v q : ℕ} (e : ℕ) → Way scans x v q → List·Memᴰ e (edgesFrom T x) → Way scans (edgeTo T e) (v + walkTime T Q e) q
+
+  -- a total that is the arrival of a way which closes with the egress walk of the stop given with it
+  pub record Arrives (scans : List (ℕ × ℕ × ℕ)) (total stop : ℕ) : Type 0 where
+    pub reached : ℕ
+    pub lastRound : ℕ
+    pub way : Way scans stop reached lastRound
+    pub walk : ℕ
+    pub egress : List·Memᴰ (stop, walk) (Q .egress)
+    pub sum : total ≡ reached + walk
+
+  -- DEMAND 3
+  pub record Demand3 (A : Answer) : Type 0 where
+    -- "every journey that tables and query permit arrives at the query's best total or later"
+    pub lowest : (v : ℕ) → WholeJourney v → A .total ≤ v
+    -- ""no way" is given only if no journey exists"
+    pub no-way : A .total ≡ never → (v : ℕ) → WholeJourney v → ⊥
+    -- "in any other answer the best total, and each candidate's, is the arrival of a way"
+    pub best : (A .total ≡ never → ⊥) → Arrives (A .scans) (A .total) (A .stop)
+    pub each : (total stop row : ℕ) → List·Memᴰ (total, stop, row) (A .candidates) → Arrives (A .scans) total stop
+
+  -- beyond the request: for every journey of at most k rides that arrives within the slack of the best total, a candidate of row k or
+  -- lower arrives no later
+  pub record Pareto (A : Answer) : Type 0 where
+    pub covers : (k v : ℕ) → k ≤ roundsOf Q → JourneyOf k v → v ≤ A .total + Q .settings .candidateSlack
+        → (c : ℕ × ℕ × ℕ) × (List·Memᴰ c (A .candidates)) × (c .0 ≤ v) × (c .2 ≤ k)

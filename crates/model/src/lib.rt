@@ -1,0 +1,1 @@
+// model: `run_tbr` as definitions.
