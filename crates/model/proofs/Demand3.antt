@@ -20,7 +20,7 @@ use Rattle.model.proofs.Net.{Net, Plain}
 use Rattle.model.proofs.PlainSearch
 use Rattle.model.proofs.Rounds.{Reach, j-access, j-ride, j-walk}
 use Rattle.model.proofs.Ways
-use Rattle.model.proofs.Totals
+use Rattle.model.proofs.PlainTotals
 use Rattle.model.proofs.Pareto
 use Rattle.model.proofs.NetOf.{net, walkOf, originOf, countAt, undelay, undelay-same}
 use Rattle.model.proofs.Simulation.{Calm, small, sim-answer, sim-scans}
@@ -85,7 +85,7 @@ module _ (T : Tables) (Q : Query) where
       let e = edge-of T Q y y′ d m in
       subst (λ (z : ℕ). Way T Q L z (w + d) q′) (e .to) (subst (λ (z : ℕ). Way T Q L (edgeTo T (e .edge)) (w + z) q′) (e .walk) (Way.foot (e .edge) (way-of y w q′ j) (e .member)))
 
-  arrives-of : {L : List (ℕ × ℕ × ℕ)} {n total stop : ℕ} → Totals.Arrives (net T Q) L n total stop → Arrives T Q L total stop
+  arrives-of : {L : List (ℕ × ℕ × ℕ)} {n total stop : ℕ} → PlainTotals.Arrives (net T Q) L n total stop → Arrives T Q L total stop
   arrives-of {stop = stop} a = record { reached = a .reached; lastRound = a .good .last; way = way-of stop (a .reached) (a .good .last) (a .good .way); walk = a .walk; egress = a .egress; sum = a .sum }
 
 -- of a query without delay rows, unflagged
@@ -116,11 +116,11 @@ unflagged T Q₁ D P =
     N-plain : Plain (net T (undelay Q₁))
     N-plain = plain T (undelay Q₁) D P
 
-    d : Totals.Demand3 (net T (undelay Q₁)) (answer T (undelay Q₁) false .scans) (roundsOf Q₁) (small T Q₁ (final T (undelay Q₁) false))
+    d : PlainTotals.Demand3 (net T (undelay Q₁)) (answer T (undelay Q₁) false .scans) (roundsOf Q₁) (small T Q₁ (final T (undelay Q₁) false))
     d =
-        subst (λ (L : List (ℕ × ℕ × ℕ)). Totals.Demand3 (net T (undelay Q₁)) L (roundsOf Q₁) (small T Q₁ (final T (undelay Q₁) false))) (sym (sim-scans T Q₁ N-plain C))
-        (subst (λ (z : PlainSearch.Answer (net T (undelay Q₁))). Totals.Demand3 (net T (undelay Q₁)) (PlainSearch.run (net T (undelay Q₁)) (trips T) (roundsOf Q₁) .k .log) (roundsOf Q₁) z) (sym (sim-answer T Q₁ N-plain C))
-        (Totals.demand3 (net T (undelay Q₁)) N-plain (trips T) (roundsOf Q₁) (rounds-few Q₁)))
+        subst (λ (L : List (ℕ × ℕ × ℕ)). PlainTotals.Demand3 (net T (undelay Q₁)) L (roundsOf Q₁) (small T Q₁ (final T (undelay Q₁) false))) (sym (sim-scans T Q₁ N-plain C))
+        (subst (λ (z : PlainSearch.Answer (net T (undelay Q₁))). PlainTotals.Demand3 (net T (undelay Q₁)) (PlainSearch.run (net T (undelay Q₁)) (trips T) (roundsOf Q₁) .k .log) (roundsOf Q₁) z) (sym (sim-answer T Q₁ N-plain C))
+        (PlainTotals.demand3 (net T (undelay Q₁)) N-plain (trips T) (roundsOf Q₁) (rounds-few Q₁)))
 
 -- the candidates are Pareto-complete
 unflagged-pareto : (T : Tables) (Q : Query) → Door T (undelay Q) → PlainDay T (undelay Q) → Pareto T (undelay Q) (answer T (undelay Q) false)

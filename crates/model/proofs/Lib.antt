@@ -12,7 +12,7 @@ pub mod Rounds
 pub mod Access
 pub mod Optimal
 pub mod Ways
-pub mod Totals
+pub mod PlainTotals
 pub mod Early
 pub mod Times
 pub mod NetOf
@@ -27,3 +27,14 @@ pub mod Moves
 pub mod Queue
 pub mod Reached
 pub mod Calls
+pub mod Stores
+pub mod Steps
+pub mod Phases
+pub mod Runs
+pub mod Sizes
+pub mod Labels
+pub mod Rows
+pub mod Bounds
+pub mod Candidates
+pub mod Answers
+pub mod Totals

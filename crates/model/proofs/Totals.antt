@@ -1,194 +1,164 @@
--- Demand 3, whole, of the model.
-use Prim.Native.Nat.{ℕ, zero, suc, _+_, _*_, _-_, _≤_, _<_, _%_, zero-le}
+-- The best total so far (`best_dest`) is at every moment the least total over the egress stops; at the end it is the answer's.
+use Prim.Native.Nat.{ℕ, _+_, _≤_}
 use mathlib.Core.Path.{_≡_, refl, sym, ap, subst, _∙_}
 use mathlib.Core.Logic.{_⊎_, inl, inr, ⊎-elim}
-use mathlib.Core.Bool.{Bool, true, false, _&&_}
-use mathlib.Core.List.{List, [], _∷_, _++_, List·Memᴰ, List·Memᴰ·head, List·Memᴰ·tail, List·Memᴰ·cases-cons, List·Memᴰ·not-nil}
-use native.Mathlib.Nat.{le-refl, le-trans, mul-add-mod-self-right, mod-eq-of-lt}
+use mathlib.Core.Bool.{Bool, true, false, cond, _&&_}
+use mathlib.Core.List.{List, List·Memᴰ, List·Memᴰ·not-nil, List·Memᴰ·cases-cons}
+use native.Mathlib.Nat.{le-refl}
 use native.Mathlib.Omega.{arith}
-use lib.ListN.{getD, set, replicate, getD-replicate}
-use lib.Dec.{ltb, leb, eqb}
-use borrow.Author.Tests.{ltb-true, ltb-false, leb-true, leb-false, eqb-true, eqb-false}
-use Rattle.model.proofs.Base.{set-cases, and-true}
-use Rattle.model.proofs.Net.{Net, Plain}
-use Rattle.model.proofs.PlainSearch.{Core, St, at, run, begin, rounds, access, arrive, target, rowBest, cands, Answer, answer}
-use Rattle.model.proofs.Rounds.{Reach}
-use Rattle.model.proofs.Access.{Acc, begin-acc, begin-inv}
-use Rattle.model.proofs.Optimal.{no-better, no-way}
-use Rattle.model.proofs.Ways.{Way, w-access, Good, Rows, Ways, rounds-ways}
+use lib.ListN.{getD}
+use lib.Dec.{ltb, eqb}
+use borrow.Author.Tests.{ltb-true, ltb-false, eq-eqb, ne-eqb}
+use Rattle.model.specs.Tables.{Tables, Query, isEgress, egressWalk, never, stops}
+use Rattle.model.specs.Search.{Arrivals, at, bestAfter, bestTarget, final, answer}
+use Rattle.model.specs.Door.{Door, Rising, none, more}
+use Rattle.model.proofs.Stores.{set-cases, set-there, lt-getD, getD-replicate-in, no-both}
+use Rattle.model.proofs.Steps.{Kept, run-keeps, improved-le}
+use Rattle.model.proofs.Runs.{final-ran}
+use Rattle.model.proofs.Bounds.{latestTotal, egress-listed, final-best}
+use Rattle.model.proofs.Candidates.{best-lowest, best-of}
+use Rattle.model.proofs.Answers.{answer-lawful}
 
-module _ (N : Net) where
-  access-rows : (L : List (ℕ × ℕ × ℕ)) → Plain N → (os : List (ℕ × ℕ)) → ((s d : ℕ) → List·Memᴰ (s, d) os → List·Memᴰ (s, d) (N .orig)) → (c : Core) → Rows N (Good N L 0) c → Rows N (Good N L 0) (access N os c)
-  unfolding access arrive
-  access-rows L P [] sub c R = R
-  access-rows L P (o ∷ os) sub c R = access-rows L P os (λ s d m. sub s d (List·Memᴰ·tail m)) (arrive N o c) (one (ltb (N .start + o .1) (at c (o .0))))
+-- an egress stop's one walk, where egress stops strictly rise
+egress-one : {es : List (ℕ × ℕ)} → Rising es → (s d : ℕ) → List·Memᴰ (s, d) es → (isEgress es s ≡ true) × (egressWalk es s ≡ d)
+unfolding isEgress egressWalk
+egress-one none s d m = absurd (List·Memᴰ·not-nil m)
+egress-one (more {s = u} {d = w} {es = es} h R) s d m =
+    ⊎-elim
+    (λ e. here (eqb u s) (eq-eqb u s (sym (ap (λ (z : ℕ × ℕ). z .0) e))) (sym (ap (λ (z : ℕ × ℕ). z .1) e)))
+    (λ n. there (eqb u s) (ne-eqb u s (λ z. omega (arith, h s d n))) (egress-one R s d n))
+    (List·Memᴰ·cases-cons m)
+  where
+    here : (b : Bool) → b ≡ true → w ≡ d
+        → (elim b as (λ z. Bool) [ true ↦ true | false ↦ isEgress es s ] ≡ true) × (elim b as (λ z. ℕ) [ true ↦ w | false ↦ egressWalk es s ] ≡ d)
+    here true p e = (refl, e)
+    here false p e = absurd (no-both p refl)
+
+    there : (b : Bool) → b ≡ false → (isEgress es s ≡ true) × (egressWalk es s ≡ d)
+        → (elim b as (λ z. Bool) [ true ↦ true | false ↦ isEgress es s ] ≡ true) × (elim b as (λ z. ℕ) [ true ↦ w | false ↦ egressWalk es s ] ≡ d)
+    there true p e = absurd (no-both refl p)
+    there false p e = e
+
+-- some egress stop has a total no later than v
+pub record Met (Q : Query) (a : Arrivals) (v : ℕ) : Type 0 where
+  pub stop : ℕ
+  pub walk : ℕ
+  pub egress : List·Memᴰ (stop, walk) (Q .egress)
+  pub no-later : at a stop + walk ≤ v
+
+-- the best total is no later than any egress stop's, and is none or some one's
+pub record Tight (Q : Query) (a : Arrivals) : Type 0 where
+  pub lowest : (s d : ℕ) → List·Memᴰ (s, d) (Q .egress) → a .best ≤ at a s + d
+  pub met : (a .best ≡ never) ⊎ Met Q a (a .best)
+
+module _ (T : Tables) (Q : Query) (D : Door T Q) where
+  -- what the best total becomes
+  record After (s v b z : ℕ) : Type 0 where
+    falls : z ≤ b
+    counts : (d : ℕ) → List·Memᴰ (s, d) (Q .egress) → z ≤ v + d
+    is : (z ≡ b) ⊎ ((isEgress (Q .egress) s ≡ true) × (z ≡ v + egressWalk (Q .egress) s))
+
+  after : (s v b : ℕ) → After s v b (bestAfter T Q s v b)
+  unfolding bestAfter
+  after s v b = go (isEgress (Q .egress) s) refl (ltb (v + egressWalk (Q .egress) s) b) refl
     where
-      yes′ : Core
-      yes′ = record { lab = set (c .lab) (13 * o .0 + 0) (suc (N .start + o .1)); E = set (c .E) (o .0) (N .start + o .1); B = Rattle.model.proofs.PlainSearch.best N (o .0) (N .start + o .1) (c .B); SS = set (c .SS) (o .0) 1; Q = c .Q ++ (o .0 ∷ []) }
+      walk-is : (d : ℕ) → List·Memᴰ (s, d) (Q .egress) → egressWalk (Q .egress) s ≡ d
+      walk-is d m = egress-one (D .egress-rising) s d m .1
 
-      no′ : Core
-      no′ = record { lab = c .lab; E = c .E; B = Rattle.model.proofs.PlainSearch.best N (o .0) (N .start + o .1) (c .B); SS = c .SS; Q = c .Q }
+      go : (x : Bool) → isEgress (Q .egress) s ≡ x → (y : Bool) → ltb (v + egressWalk (Q .egress) s) b ≡ y
+          → After s v b (cond (x && y) (v + egressWalk (Q .egress) s) b)
+      go true e true h =
+          record { falls = omega (arith, ltb-true (v + egressWalk (Q .egress) s) b h); counts = λ d m. omega (arith, walk-is d m); is = inr (e, refl) }
+      go true e false h =
+          record { falls = le-refl b; counts = λ d m. omega (arith, walk-is d m, ltb-false (v + egressWalk (Q .egress) s) b h); is = inl refl }
+      go false e y h = record { falls = le-refl b; counts = λ d m. absurd (no-both (egress-one (D .egress-rising) s d m .0) e); is = inl refl }
 
-      i₀ : o .0 < N .nS
-      i₀ = P .orig-in (o .0) (o .1) (sub (o .0) (o .1) (List·Memᴰ·head refl))
-
-      g₀ : Good N L 0 (o .0) (N .start + o .1)
-      g₀ = record { inside = i₀; last = 0; so-far = le-refl _; way = w-access (sub (o .0) (o .1) (List·Memᴰ·head refl)) }
-
-      one : (b : Bool) → Rows N (Good N L 0) (elim b [ true ↦ yes′ | false ↦ no′ ])
-      one true = record {
-        row = λ x i v l e. ⊎-elim
-            (λ p. subst (λ (y : ℕ). Good N L 0 y v) (omega (arith, p .0)) (subst (λ (y : ℕ). Good N L 0 (o .0) y) (omega (arith, p .1, e)) g₀))
-            (λ p. R .row x i v l (sym p ∙ e))
-            (set-cases (c .lab) (13 * o .0 + 0) (suc (N .start + o .1)) (13 * x + i) 0);
-      }
-      one false = record { row = R .row }
-
-  zeros : (n i v : ℕ) → getD (replicate n 0) i 0 ≡ suc v → ⊥
-  zeros zero i v e = omega arith
-  zeros (suc n) zero v e = omega arith
-  zeros (suc n) (suc i) v e = zeros n i v e
-
-  begin-ways : (L : List (ℕ × ℕ × ℕ)) → Plain N → (trips : ℕ) → Ways N L 0 (begin N trips .c)
-  begin-ways L P trips =
+  -- it stays so where stop s is reached at v and no earliest arrival rises
+  tight-after : (s v : ℕ) (a b : Arrivals) → b .best ≡ bestAfter T Q s v (a .best) → ((x : ℕ) → at b x ≤ at a x)
+      → ((x : ℕ) → (x ≡ s) ⊎ (at b x ≡ at a x)) → (at b s ≡ v) ⊎ (at b s ≡ at a s)
+      → at b s ≤ v → Tight Q a → Tight Q b
+  tight-after s v a b e le cases there here A =
       record {
-        known = λ x h l. ⊎-elim
-            (λ e. absurd (omega (arith, e, getD-replicate (N .nS) x (N .MAX) 0 h)))
-            (λ f. subst (λ (v : ℕ). Good N L 0 x v) (sym (f .2)) (record { inside = h; last = 0; so-far = le-refl _; way = w-access (f .1) }))
-            (A .changed x);
-        rows = access-rows L P (N .orig) (λ s d m. m) _ (record { row = λ x i v l e. absurd (zeros (N .nS * 13) (13 * x + i) v e) });
+        lowest = λ x d m. ⊎-elim
+            (λ z. subst (λ (y : ℕ). List·Memᴰ (y, d) (Q .egress) → b .best ≤ at b y + d) (sym z) (at-s d) m)
+            (λ z. omega (arith, e, F .falls, A .lowest x d m, z))
+            (cases x);
+        met = ⊎-elim
+            (λ z. ⊎-elim
+            (λ n. inl (e ∙ z ∙ n))
+            (λ M. inr (record { stop = M .stop; walk = M .walk; egress = M .egress; no-later = omega (arith, e, z, le (M .stop), M .no-later) }))
+            (A .met))
+            (λ z. inr (record {
+              stop = s;
+              walk = egressWalk (Q .egress) s;
+              egress = egress-listed (Q .egress) s (z .0);
+              no-later = omega (arith, e, z .1);
+            }))
+            (F .is);
       }
     where
-      A : Acc N (N .orig) (record { lab = replicate (N .nS * 13) 0; E = replicate (N .nS) (N .MAX); B = N .MAX; SS = replicate (N .nS) 0; Q = [] }) (begin N trips .c)
-      A = begin-acc N trips
+      F : After s v (a .best) (bestAfter T Q s v (a .best))
+      F = after s v (a .best)
 
-  pub run-ways : Plain N → (trips n : ℕ) → n ≤ 12 → Ways N (run N trips n .k .log) n (run N trips n .c)
-  unfolding run
-  run-ways P trips n b = subst (λ (k : ℕ). Ways N (rounds N n 0 (begin N trips) .k .log) k (rounds N n 0 (begin N trips) .c)) (omega arith) (rounds-ways N P _ n 0 (begin N trips) (omega arith) (begin-inv N P trips) (begin-ways _ P trips) (λ m i. i))
+      at-s : (d : ℕ) → List·Memᴰ (s, d) (Q .egress) → b .best ≤ at b s + d
+      at-s d m = ⊎-elim (λ z. omega (arith, e, z, F .counts d m)) (λ z. omega (arith, e, z, F .falls, A .lowest s d m)) there
 
-  -- what the last loops pick
-  target-low : (c : Core) (es : List (ℕ × ℕ)) (a : ℕ × ℕ) → a .0 ≤ N .MAX → (target N c es a .0 ≤ a .0) × ((s d : ℕ) → List·Memᴰ (s, d) es → target N c es a .0 ≤ at c s + d)
-  unfolding target
-  target-low c [] a h = (le-refl _, λ s d m. absurd (List·Memᴰ·not-nil m))
-  target-low c (e ∷ es) a h = go (eqb (at c (e .0)) (N .MAX)) refl (ltb (at c (e .0) + e .1) (a .0)) refl (target-low c es a h) (target-low c es (at c (e .0) + e .1, e .0))
+  tight-kept : Kept T Q (λ stamp a. Tight Q a)
+  tight-kept =
+      record {
+        new = record { lowest = λ s d m. rw (getD-replicate-in {A = ℕ} (stops T) s never 0 (D .egress-in s d m)) (omega arith); met = inl refl };
+        improves = λ {stamp} {s} {v} {l} {a} {b} w e h i A.
+            let hit : at b s ≡ v = ap (λ (z : List ℕ). getD z s 0) (i .earliest) ∙ set-there (a .earliest) s v 0 (lt-getD (a .earliest) s v h) in
+            tight-after s v a b (i .best) (improved-le T Q i h)
+            (λ x. ⊎-elim (λ p. inl (p .0)) (λ p. inr (ap (λ (z : List ℕ). getD z x 0) (i .earliest) ∙ p)) (set-cases (a .earliest) s v x 0)) (inl hit) (omega (arith, hit)) A;
+        hears = λ {stamp} {s} {v} {l} {a} {b} w h A.
+            let same : (x : ℕ) → at b x ≡ at a x = λ x. ap (λ (z : List ℕ). getD z x 0) (h .earliest) in
+            tight-after s v a b (h .best) (λ x. omega (arith, same x)) (λ x. inr (same x)) (inr (same s)) (omega (arith, same s, h .late)) A;
+        queues = λ {stamp} {a} {b} h A. still a b (h .best) (h .earliest) A;
+        next = λ A. A;
+      }
     where
-      R : ℕ × ℕ → Type 0
-      R t = (t .0 ≤ a .0) × ((s d : ℕ) → List·Memᴰ (s, d) (e ∷ es) → t .0 ≤ at c s + d)
+      still : (a b : Arrivals) → b .best ≡ a .best → b .earliest ≡ a .earliest → Tight Q a → Tight Q b
+      still a b p q A =
+          record {
+            lowest = rw (p, q) (A .lowest);
+            met = ⊎-elim (λ z. inl (p ∙ z)) (λ M. inr (record {
+              stop = M .stop;
+              walk = M .walk;
+              egress = M .egress;
+              no-later = rw (p, q) (M .no-later);
+            })) (A .met);
+          }
 
-      out : (t : ℕ × ℕ) → t .0 ≤ at c (e .0) + e .1 → ((s d : ℕ) → List·Memᴰ (s, d) es → t .0 ≤ at c s + d) → (s d : ℕ) → List·Memᴰ (s, d) (e ∷ es) → t .0 ≤ at c s + d
-      out t p q s d m = ⊎-elim (λ z. subst (λ (y : ℕ × ℕ). t .0 ≤ at c (y .0) + y .1) (sym z) p) (λ i. q s d i) (List·Memᴰ·cases-cons m)
+  -- of every admitted run's end; and the best total is then the answer's
+  pub final-tight : (flagged : Bool) → Tight Q (final T Q flagged .arrivals)
+  final-tight flagged = run-keeps T Q tight-kept (final-ran T Q D flagged .2 .arrivals)
 
-      go : (x : Bool) → eqb (at c (e .0)) (N .MAX) ≡ x → (y : Bool) → ltb (at c (e .0) + e .1) (a .0) ≡ y
-          → (target N c es a .0 ≤ a .0) × ((s d : ℕ) → List·Memᴰ (s, d) es → target N c es a .0 ≤ at c s + d)
-          → (at c (e .0) + e .1 ≤ N .MAX → (target N c es (at c (e .0) + e .1, e .0) .0 ≤ at c (e .0) + e .1) × ((s d : ℕ) → List·Memᴰ (s, d) es → target N c es (at c (e .0) + e .1, e .0) .0 ≤ at c s + d))
-          → R (elim x [ true ↦ target N c es a | false ↦ elim y [ true ↦ target N c es (at c (e .0) + e .1, e .0) | false ↦ target N c es a ] ])
-      go true f y g p q = (p .0, out (target N c es a) (omega (arith, p .0, eqb-true (at c (e .0)) (N .MAX) f)) (p .1))
-      go false f true g p q =
-          let l : at c (e .0) + e .1 < a .0 = ltb-true _ _ g in
-          let r = q (omega arith) in
-          (omega (arith, r .0), out (target N c es (at c (e .0) + e .1, e .0)) (r .0) (r .1))
-      go false f false g p q = (p .0, out (target N c es a) (omega (arith, p .0, ltb-false (at c (e .0) + e .1) (a .0) g)) (p .1))
-
-  target-is : (c : Core) (es : List (ℕ × ℕ)) (a : ℕ × ℕ) → (target N c es a ≡ a) ⊎ ((d : ℕ) × (List·Memᴰ (target N c es a .1, d) es) × (target N c es a .0 ≡ at c (target N c es a .1) + d))
-  unfolding target
-  target-is c [] a = inl refl
-  target-is c (e ∷ es) a = go (eqb (at c (e .0)) (N .MAX)) (ltb (at c (e .0) + e .1) (a .0)) (target-is c es a) (target-is c es (at c (e .0) + e .1, e .0))
-    where
-      Is : ℕ × ℕ → Type 0
-      Is t = (t ≡ a) ⊎ ((d : ℕ) × (List·Memᴰ (t .1, d) (e ∷ es)) × (t .0 ≡ at c (t .1) + d))
-
-      go : (x y : Bool) → ((target N c es a ≡ a) ⊎ ((d : ℕ) × (List·Memᴰ (target N c es a .1, d) es) × (target N c es a .0 ≡ at c (target N c es a .1) + d)))
-          → ((target N c es (at c (e .0) + e .1, e .0) ≡ (at c (e .0) + e .1, e .0)) ⊎ ((d : ℕ) × (List·Memᴰ (target N c es (at c (e .0) + e .1, e .0) .1, d) es) × (target N c es (at c (e .0) + e .1, e .0) .0 ≡ at c (target N c es (at c (e .0) + e .1, e .0) .1) + d)))
-          → Is (elim x [ true ↦ target N c es a | false ↦ elim y [ true ↦ target N c es (at c (e .0) + e .1, e .0) | false ↦ target N c es a ] ])
-      go true y p q = ⊎-elim (λ z. inl z) (λ z. inr (z .0, List·Memᴰ·tail (z .1), z .2)) p
-      go false true p q = ⊎-elim (λ z. inr (subst (λ (t : ℕ × ℕ). (d : ℕ) × (List·Memᴰ (t .1, d) (e ∷ es)) × (t .0 ≡ at c (t .1) + d)) (sym z) (e .1, List·Memᴰ·head refl, refl))) (λ z. inr (z .0, List·Memᴰ·tail (z .1), z .2)) q
-      go false false p q = ⊎-elim (λ z. inl z) (λ z. inr (z .0, List·Memᴰ·tail (z .1), z .2)) p
-
-  -- a total that is the arrival of a way, with the egress walk of the stop
-  pub record Arrives (L : List (ℕ × ℕ × ℕ)) (n total stop : ℕ) : Type 0 where
-    pub reached : ℕ
-    pub walk : ℕ
-    pub egress : List·Memᴰ (stop, walk) (N .egs)
-    pub good : Good N L n stop reached
-    pub sum : total ≡ reached + walk
-
-  module _ (L : List (ℕ × ℕ × ℕ)) (P : Plain N) (n : ℕ) (c : Core) (W : Ways N L n c) where
-    rowBest-is : (r : ℕ) → r < 13 → (es : List (ℕ × ℕ)) (a : ℕ × ℕ) → ((s d : ℕ) → List·Memᴰ (s, d) es → List·Memᴰ (s, d) (N .egs)) → (a .0 < N .MAX → Arrives L n (a .0) (a .1)) → rowBest N c r es a .0 < N .MAX → Arrives L n (rowBest N c r es a .0) (rowBest N c r es a .1)
-    unfolding rowBest
-    rowBest-is r b [] a sub A = A
-    rowBest-is r b (e ∷ es) a sub A = go (getD (c .lab) (13 * e .0 + r) 0) refl (rowBest-is r b es a (λ s d m. sub s d (List·Memᴰ·tail m)) A) (λ v. rowBest-is r b es (v + e .1, e .0) (λ s d m. sub s d (List·Memᴰ·tail m)))
-      where
-        Is : ℕ × ℕ → Type 0
-        Is t = t .0 < N .MAX → Arrives L n (t .0) (t .1)
-
-        i₀ : e .0 < N .nS
-        i₀ = P .eg-in (e .0) (e .1) (sub (e .0) (e .1) (List·Memᴰ·head refl))
-
-        one : (v : ℕ) → getD (c .lab) (13 * e .0 + r) 0 ≡ suc v → (y : Bool) → Is (rowBest N c r es a) → (((v + e .1 < N .MAX) → Arrives L n (v + e .1) (e .0)) → Is (rowBest N c r es (v + e .1, e .0))) → Is (elim y [ true ↦ rowBest N c r es (v + e .1, e .0) | false ↦ rowBest N c r es a ])
-        one v f true p q = q (λ h. record { reached = v; walk = e .1; egress = sub (e .0) (e .1) (List·Memᴰ·head refl); good = W .rows .row (e .0) r v b f; sum = refl })
-        one v f false p q = p
-
-        go : (x : ℕ) → getD (c .lab) (13 * e .0 + r) 0 ≡ x → Is (rowBest N c r es a) → ((v : ℕ) → ((v + e .1 < N .MAX) → Arrives L n (v + e .1) (e .0)) → Is (rowBest N c r es (v + e .1, e .0)))
-            → Is (elim x [ zero ↦ rowBest N c r es a | suc v ↦ elim (ltb (v + e .1) (a .0)) [ true ↦ rowBest N c r es (v + e .1, e .0) | false ↦ rowBest N c r es a ] ])
-        go zero f p q = p
-        go (suc v) f p q = one v f (ltb (v + e .1) (a .0)) p (q v)
-
-    cands-are : (top k r last : ℕ) → k + r ≤ 13 → last ≤ N .MAX → (total stop row : ℕ) → List·Memᴰ (total, stop, row) (cands N c top k r last) → Arrives L n total stop
-    unfolding cands
-    cands-are top zero r last b′ h total stop row = λ m. absurd (List·Memᴰ·not-nil m)
-    cands-are top (suc k) r last b′ h total stop row =
-        go (ltb (rowBest N c r (N .egs) (N .MAX, N .MAX) .0) last && leb (rowBest N c r (N .egs) (N .MAX, N .MAX) .0) (top + N .slack)) refl
-        (λ q. cands-are top k (suc r) (rowBest N c r (N .egs) (N .MAX, N .MAX) .0) (omega arith) q total stop row)
-        (cands-are top k (suc r) last (omega arith) h total stop row)
-      where
-        b : ℕ × ℕ
-        b = rowBest N c r (N .egs) (N .MAX, N .MAX)
-
-        go : (x : Bool) → (ltb (rowBest N c r (N .egs) (N .MAX, N .MAX) .0) last && leb (rowBest N c r (N .egs) (N .MAX, N .MAX) .0) (top + N .slack)) ≡ x
-            → (b .0 ≤ N .MAX → List·Memᴰ (total, stop, row) (cands N c top k (suc r) (b .0)) → Arrives L n total stop)
-            → (List·Memᴰ (total, stop, row) (cands N c top k (suc r) last) → Arrives L n total stop)
-            → List·Memᴰ {A = ℕ × ℕ × ℕ} (total, stop, row) (elim x [ true ↦ (b .0, b .1, r) ∷ cands N c top k (suc r) (b .0) | false ↦ cands N c top k (suc r) last ]) → Arrives L n total stop
-        go true e p q m =
-            let l : rowBest N c r (N .egs) (N .MAX, N .MAX) .0 < last = ltb-true _ _ (and-true _ _ e .0) in
-            ⊎-elim
-            (λ z. subst (λ (t : ℕ × ℕ × ℕ). Arrives L n (t .0) (t .1)) (sym z) (rowBest-is r (omega arith) (N .egs) (N .MAX, N .MAX) (λ s d m. m) (λ h. absurd (omega arith)) (omega arith)))
-            (λ i. p (omega arith) i)
-            (List·Memᴰ·cases-cons m)
-        go false e p q m = q m
-
-  pub record Demand3 (L : List (ℕ × ℕ × ℕ)) (n : ℕ) (a : Answer N) : Type 0 where
-    -- no journey arrives before the best total
-    pub lowest : (b : Bool) (m x v : ℕ) → m ≤ n → Reach N b m x v → N .isEg x ≡ true → v < N .MAX → a .total ≤ v + N .eg x
-    -- "no way" (the total is MAX) only if no journey exists, as long as no journey's arrival comes up to MAX
-    pub none : a .total ≡ N .MAX → (b : Bool) (m x v : ℕ) → m ≤ n → Reach N b m x v → N .isEg x ≡ true → v + N .eg x < N .MAX → ⊥
-    -- any other total is the arrival of a way, and so is each candidate's
-    pub best : (a .total ≡ N .MAX → ⊥) → Arrives L n (a .total) (a .stop)
-    pub each : (total stop row : ℕ) → List·Memᴰ (total, stop, row) (a .cand) → Arrives L n total stop
-
-  pub demand3 : Plain N → (trips n : ℕ) → n ≤ 12 → Demand3 (run N trips n .k .log) n (answer N trips n)
+  pub best-is-total : (flagged : Bool) → final T Q flagged .arrivals .best ≡ answer T Q flagged .total
   unfolding answer
-  demand3 P trips n few =
-      record {
-        lowest = λ b m x v h j e l. no-better N P trips n _ low b m x v h j e l;
-        none = λ q b m x v h j e l. absurd (omega (arith, q, no-better N P trips n _ low b m x v h j e (omega arith)));
-        best = λ q. ⊎-elim
-            (λ z. absurd (q (ap (λ (t : ℕ × ℕ). t .0) z)))
-            (λ z. record {
-              reached = at (run N trips n .c) (t .1);
-              walk = z .0;
-              egress = z .1;
-              sum = z .2;
-              good = run-ways P trips n few .known (t .1) (P .eg-in (t .1) (z .0) (z .1)) (omega (arith, z .2, q, l .0));
-            })
-            (target-is (run N trips n .c) (N .egs) (N .MAX, N .MAX));
-        each = cands-are (run N trips n .k .log) P n (run N trips n .c) (run-ways P trips n few) _ (suc n) 0 (N .MAX) (omega arith) (le-refl _);
-      }
+  best-is-total flagged = go (answer-lawful T Q D flagged .total) (A .met) (final-best T Q D flagged)
     where
-      t : ℕ × ℕ
-      t = target N (run N trips n .c) (N .egs) (N .MAX, N .MAX)
+      a : Arrivals
+      a = final T Q flagged .arrivals
 
-      l : (t .0 ≤ N .MAX) × ((s d : ℕ) → List·Memᴰ (s, d) (N .egs) → t .0 ≤ at (run N trips n .c) s + d)
-      l = target-low (run N trips n .c) (N .egs) (N .MAX, N .MAX) (le-refl _)
+      A : Tight Q a
+      A = final-tight flagged
 
-      low : (s : ℕ) → N .isEg s ≡ true → t .0 ≤ at (run N trips n .c) s + N .eg s
-      low s e = l .1 s (N .eg s) (P .eg-list s e)
+      total : ℕ
+      total = bestTarget T Q a (Q .egress) (never, never) .0
+
+      above : Met Q a (a .best) → a .best ≤ latestTotal → total ≤ a .best
+      above M h = omega (arith, M .no-later, best-lowest T Q a (M .stop) (M .walk) (M .egress) (λ z. omega (arith, M .no-later)))
+
+      below : total ≤ latestTotal → a .best ≤ total
+      below h =
+          let B = best-of T Q a (λ z. omega arith) in omega (arith, B .sum, A .lowest (bestTarget T Q a (Q .egress) (never, never) .1) (B .walk) (B .egress))
+
+      go : (total ≡ never) ⊎ (total ≤ latestTotal) → (a .best ≡ never) ⊎ Met Q a (a .best) → (a .best ≡ never) ⊎ (a .best ≤ latestTotal)
+          → a .best ≡ total
+      go (inl t) (inl m) f = m ∙ sym t
+      go (inl t) (inr M) (inl f) = f ∙ sym t
+      go (inl t) (inr M) (inr f) = absurd (omega (arith, above M f))
+      go (inr t) (inl m) f = absurd (omega (arith, below t))
+      go (inr t) (inr M) (inl f) = absurd (omega (arith, below t))
+      go (inr t) (inr M) (inr f) = omega (arith, above M f, below t)
