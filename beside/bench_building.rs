@@ -194,6 +194,9 @@ fn main() {
     case("4,096 trips of about 2,600 lines", timetable(&mut r, 1000, &s, 4096, false));
     let s = vec![vec![0; 16]; 4];
     case("61,440 departures at one stop", timetable(&mut r, 1, &s, 4096, false));
+    let from_one = |lines: u32| -> Vec<Vec<u32>> { (1..=lines).map(|k| vec![0, k]).collect() };
+    case("4,096 departures of 16 lines", timetable(&mut r, 17, &from_one(16), 4096, false));
+    case("1,024 departures of 64 lines", timetable(&mut r, 65, &from_one(64), 1024, false));
     let s = shapes(&mut r, 16, 4000, 1000);
     case("trips that share long runs", timetable(&mut r, 1000, &s, 4096, true));
 }

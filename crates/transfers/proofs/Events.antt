@@ -8,7 +8,7 @@ use mathlib.Core.Bool.{Bool, true, false, cond}
 use mathlib.Core.List.{List, [], _∷_, _++_, flatten}
 use native.Mathlib.Omega.{arith}
 use native.Mathlib.Numerals.{add-one}
-use lib.ListN.{length, take, drop}
+use lib.ListN.{length, take, drop, length-append, length-take}
 use lib.Seq.{slice}
 use lib.Dec.{eqb}
 use borrow.Author.Tests.{eq-eqb, ne-eqb}
@@ -21,7 +21,9 @@ use Rattle.tables.specs.Sane.{Sane}
 use Rattle.departures.specs.declared.StopRun.{StopRun}
 use Rattle.departures.specs.Departures.{runAt, runEnd, runFirst}
 use Rattle.departures.specs.Listed.{RunsListed}
-use Rattle.transfers.specs.Packed.{Keys, Laid, Prepared, SortedRuns, EventAt, TripAt, Walk, alightKeys, allKeys, eventKeys, laid, lay, layEvent, layEvents, noted, putRun, targets, tripKeys, walk}
+use Rattle.transfers.specs.Packed.{Keys, Laid, Lines, LinesAfter, Most, Prepared, SortedRuns, EventAt, TripAt, Walk, alightKeys, allKeys, eventKeys, laid, lay, layEvent, layEvents, noted, putRun, targets, tripKeys, walk}
+use Rattle.transfers.proofs.Lists.{flatten-append}
+use Rattle.transfers.proofs.Grouping.{lines-part}
 use Rattle.transfers.proofs.Laying.{events-append, events-n, lay-full, lay-n}
 
 -- getting off where nothing more is counted, and where drop-off is 1
@@ -35,7 +37,7 @@ alight-barred time p ti at s x e h =
     (eq-eqb (timeOf (p .t) at 5) 1 (sym e ∙ h)))
 
 -- getting off at a stop
-module _ (p : Prepared) (d at : ℕ) (sane : Sane (p .t) (p .c)) (l : RunsListed (p .c) (p .runs) d) (k : SortedRuns (p .c) (p .runs) (p .work) d) (u : at < p .c .times) (stop : ℕ) (e : stop ≡ timeOf (p .t) at 0) where
+module _ (p : Prepared) (ends : List ℕ) (d at : ℕ) (sane : Sane (p .t) (p .c)) (l : RunsListed (p .c) (p .runs) d) (k : SortedRuns (p .c) (p .runs) (p .work) ends d) (u : at < p .c .times) (stop : ℕ) (e : stop ≡ timeOf (p .t) at 0) where
   stop-below : stop < p .c .stops
   stop-below = omega (arith, e, sane .numbers .stop at u)
 
@@ -53,14 +55,31 @@ module _ (p : Prepared) (d at : ℕ) (sane : Sane (p .t) (p .c)) (l : RunsListed
   pub run-keys : (r : StopRun) → r ≡ runAt (p .runs) stop → Keys (take (r .first + r .length - r .first) (drop (r .first) (p .work)))
   run-keys r q = rw (stop-part r q) (k .keys stop stop-below)
 
+  pub run-lines : (r : StopRun) → r ≡ runAt (p .runs) stop
+      → Lines (take (r .first + r .length - r .first) (drop (r .first) (p .work))) (take (r .first + r .length - r .first) (drop (r .first) ends))
+  run-lines r q = lines-part (p .work) ends (r .first) (r .first + r .length - r .first) (k .lines) (omega (arith, run-inside r q))
+
+  open-keys : (ti x arrival : ℕ) (r : StopRun) → x ≡ timeOf (p .t) at 5 → (x ≡ 1 → ⊥) → arrival ≡ timeOf (p .t) at 1 → r ≡ runAt (p .runs) stop
+      → targets (take (r .first + r .length - r .first) (drop (r .first) (p .work))) ti (arrival + p .time) ≡ alightKeys p ti at
+  unfolding alightKeys
+  open-keys ti x arrival r f h a q =
+      ap₂ (λ (v : List ℕ) (w : ℕ). targets v ti (w + p .time))
+      (stop-part r q ∙ ap (λ (i : ℕ). slice (runFirst (p .runs) i) (runEnd (p .runs) i) (p .work)) e) a
+      ∙ sym (ap (λ (t : Bool). cond t [] (targets (slice (runFirst (p .runs) (timeOf (p .t) at 0)) (runEnd (p .runs) (timeOf (p .t) at 0)) (p .work)) ti (timeOf (p .t) at 1 + p .time)))
+      (ne-eqb (timeOf (p .t) at 5) 1 (λ z. h (f ∙ z))))
+
   pub alight-open : (time ti x arrival : ℕ) (r : StopRun) (s : Laid) → x ≡ timeOf (p .t) at 5 → (x ≡ 1 → ⊥) → arrival ≡ timeOf (p .t) at 1 → r ≡ runAt (p .runs) stop
       → lay time (targets (take (r .first + r .length - r .first) (drop (r .first) (p .work))) ti (arrival + p .time)) s ≡ lay time (alightKeys p ti at) s
-  unfolding alightKeys
-  alight-open time ti x arrival r s f h a q =
-      ap₂ (λ (v : List ℕ) (w : ℕ). lay time (targets v ti (w + p .time)) s)
-      (stop-part r q ∙ ap (λ (i : ℕ). slice (runFirst (p .runs) i) (runEnd (p .runs) i) (p .work)) e) a
-      ∙ sym (ap (λ (t : Bool). lay time (cond t [] (targets (slice (runFirst (p .runs) (timeOf (p .t) at 0)) (runEnd (p .runs) (timeOf (p .t) at 0)) (p .work)) ti (timeOf (p .t) at 1 + p .time))) s)
-      (ne-eqb (timeOf (p .t) at 5) 1 (λ z. h (f ∙ z))))
+  alight-open time ti x arrival r s f h a q = ap (λ (m : List ℕ). lay time m s) (open-keys ti x arrival r f h a q)
+
+  pub most-open : (x arrival : ℕ) (r : StopRun) (n m : ℕ) → x ≡ timeOf (p .t) at 5 → (x ≡ 1 → ⊥) → arrival ≡ timeOf (p .t) at 1 → r ≡ runAt (p .runs) stop → n ≤ 65536
+      → LinesAfter (take (r .first + r .length - r .first) (drop (r .first) (p .work))) (arrival + p .time) m → (ti : ℕ) → Most n (length (alightKeys p ti at)) (n + m) 0
+  most-open x arrival r n m f h a q b after ti =
+      record {
+        grows = omega arith;
+        few = omega (arith, after .few, length-take (r .first + r .length - r .first) (drop (r .first) (p .work)), l .run stop stop-below, l .few, ap (λ (y : StopRun). y .length) q);
+        most = λ u. omega (arith, after .most ti, ap length (open-keys ti x arrival r f h a q));
+      }
 
 -- one event
 pub event-time : (t : List ℕ) (c : Counts) (ti off first : ℕ) → Sane t c → ti < c .trips → off < countOf t c ti → first ≡ firstOf t c ti → first + off < c .times
@@ -134,3 +153,54 @@ pub trips-start : (time trips : ℕ) (g : ℕ → List (List ℕ)) (w : Walk) �
 trips-start time trips g w =
     let m : trips ≡ trips - 0 = omega arith in
     ap (λ (k : ℕ). layEvents time 0 (flatten (tabFrom g 0 k)) w) m
+
+-- HOW MANY AT MOST: drop-off is 1
+pub most-barred : (p : Prepared) (ti at n x : ℕ) → n ≤ 65536 → x ≡ timeOf (p .t) at 5 → x ≡ 1 → Most n (length (alightKeys p ti at)) n 0
+unfolding alightKeys
+most-barred p ti at n x u e h =
+    let z : length (alightKeys p ti at) ≡ 0 = ap (λ (t : Bool). length (cond t [] (targets (slice (runFirst (p .runs) (timeOf (p .t) at 0)) (runEnd (p .runs) (timeOf (p .t) at 0)) (p .work)) ti (timeOf (p .t) at 1 + p .time)))) (eq-eqb (timeOf (p .t) at 5) 1 (sym e ∙ h)) in
+    record { grows = omega arith; few = omega arith; most = λ v. omega (arith, z) }
+
+pub most-event : (p : Prepared) (ti off first m m' : ℕ) → first ≡ firstOf (p .t) (p .c) ti → Most m (length (alightKeys p ti (first + off))) m' 0 → Most m (length (eventKeys p ti off)) m' 0
+most-event p ti off first m m' e h = rw (sym e) h
+
+-- as the walk begins, one turn, the end
+tab-turn : (f : ℕ → List ℕ) (i count : ℕ) → i < count → length (flatten (tabFrom f i (count - i))) ≡ length (f i) + length (flatten (tabFrom f (i + 1) (count - (i + 1))))
+unfolding flatten tabFrom
+tab-turn f i count h =
+    let z : count - i ≡ suc (count - (i + 1)) = omega arith in
+    ap (λ (k : ℕ). length (flatten (tabFrom f i k))) z
+    ∙ length-append (f i) (flatten (tabFrom f (suc i) (count - (i + 1))))
+    ∙ ap (λ (k : ℕ). length (f i) + length (flatten (tabFrom f k (count - (i + 1))))) (sym (add-one i))
+
+pub most-again : (f : ℕ → List ℕ) (n whole i count m m' : ℕ) → Most n whole m (length (flatten (tabFrom f i (count - i)))) → Most m (length (f i)) m' 0 → i < count
+    → Most n whole m' (length (flatten (tabFrom f (i + 1) (count - (i + 1)))))
+most-again f n whole i count m m' a b h =
+    record { grows = omega (arith, a .grows, b .grows); few = b .few; most = λ u. omega (arith, a .most (omega (arith, b .grows)), b .most u, tab-turn f i count h) }
+
+pub most-start : (f : ℕ → List ℕ) (n k count : ℕ) → count ≡ k → n ≤ 131072 → Most n (length (flatten (tab f k))) n (length (flatten (tabFrom f 0 (count - 0))))
+most-start f n k count e h =
+    let z : k ≡ count - 0 = omega arith in
+    let q = ap (λ (k : ℕ). length (flatten (tabFrom f 0 k))) z in
+    record { grows = omega arith; few = h; most = λ u. omega (arith, q) }
+
+pub most-left : (f : ℕ → List ℕ) (n whole i count m : ℕ) → Most n whole m (length (flatten (tabFrom f i (count - i)))) → count ≤ i → Most n whole m 0
+unfolding flatten tabFrom
+most-left f n whole i count m a h =
+    let z : count - i ≡ 0 = omega arith in
+    let q = ap (λ (k : ℕ). length (flatten (tabFrom f i k))) z in
+    record { grows = a .grows; few = a .few; most = λ u. omega (arith, a .most u, q) }
+
+-- all trips' events, as one list a trip
+flatten-twice : {A : Type 0} (g : ℕ → List (List A)) (i n : ℕ) → flatten (flatten (tabFrom g i n)) ≡ flatten (tabFrom (λ k. flatten (g k)) i n)
+unfolding flatten tabFrom
+flatten-twice g i zero = refl
+flatten-twice {A} g i (suc n) = flatten-append (g i) (flatten (tabFrom g (suc i) n)) ∙ ap (λ (m : List A). flatten (g i) ++ m) (flatten-twice g (suc i) n)
+
+pub most-all-start : (p : Prepared) (trips : ℕ) → trips ≡ p .c .trips
+    → Most 0 (length (flatten (allKeys p))) 0 (length (flatten (tabFrom (λ k. flatten (tripKeys p k)) 0 (trips - 0))))
+most-all-start p trips e =
+    let q = ap length (flatten-twice (tripKeys p) 0 (p .c .trips)) in
+    let z : trips - 0 ≡ p .c .trips = omega arith in
+    let y = ap (λ (k : ℕ). length (flatten (tabFrom (λ k. flatten (tripKeys p k)) 0 k))) z in
+    record { grows = omega arith; few = omega arith; most = λ u. omega (arith, q, y) }

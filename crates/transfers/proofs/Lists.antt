@@ -1,7 +1,7 @@
 -- Laws of lists: what is kept, the first that passes, lists joined.
-use Rattle.loops.proofs.Search.{split}
+use Rattle.loops.proofs.Search.{halved-down, halved-start, halved-up, split}
 use Rattle.departures.proofs.Outcome.{joined}
-use Prim.Native.Nat.{ℕ, zero, suc, _+_, _*_, _-_, _<_, _≤_}
+use Prim.Native.Nat.{ℕ, zero, suc, _+_, _*_, _-_, _/_, _<_, _≤_}
 use mathlib.Core.Path.{_≡_, refl, sym, _∙_, ap, ap₂}
 use mathlib.Core.Bool.{Bool, true, false, cond}
 use mathlib.Core.List.{List, [], _∷_, _++_, append-assoc, append-nil, map, flatten}
@@ -12,7 +12,7 @@ use lib.ListN.{length, getD, take, drop, length-append, length-take, replicate, 
 use lib.Seq.{slice, take-at}
 use Rattle.loops.specs.Count.{tab, tabFrom}
 use Rattle.loops.proofs.Count.{tabFrom-ext}
-use Rattle.loops.specs.Order.{Halved}
+use Rattle.loops.specs.Order.{Halved, Stays}
 use Rattle.sorts.specs.Sort.{within, hi}
 use Rattle.sorts.specs.Orders.{All, Rising, cons, keep, nil}
 use Rattle.sorts.proofs.Places.{all-at, rising-all, rising-tail}
@@ -107,10 +107,34 @@ within-join {A} lo m e y z l h k u w =
     ∙ ap (λ (a : List A). take lo l ++ a) (sym (append-assoc y z (drop e l)))
     ∙ sym (within-is lo e (y ++ z) l)
 
--- nothing is left between
-pub halved-end : (f : ℕ → Bool) (n lo hi : ℕ) → Halved f n lo hi → hi ≤ lo → Halved f n lo lo
-halved-end f n lo hi h l =
-    record { order = omega arith; inside = omega (arith, h .order, h .inside); below = h .below; above = λ k a b. h .above k (omega arith) b }
+-- one halving, and what is left of one number
+module _ (f : ℕ → Bool) (n lo size : ℕ) (s : Stays f n) (h : Halved f n lo (lo + size)) where
+  pub half-up : 1 < size → f (lo + size / 2) ≡ false → Halved f n (lo + size / 2) (lo + size / 2 + (size - size / 2))
+  half-up u e =
+      let q = halved-up f n lo (lo + size) (lo + size / 2) s h e (omega arith) in
+      record { order = omega arith; inside = omega (arith, h .inside); below = λ k l. q .below k (omega arith); above = λ k a b. h .above k (omega arith) b }
+
+  pub half-down : 1 < size → f (lo + size / 2) ≡ true → Halved f n lo (lo + (size - size / 2))
+  half-down u e =
+      let q = halved-down f n lo (lo + size) (lo + size / 2) s h e (omega arith) (omega arith) in
+      record { order = omega arith; inside = omega (arith, h .inside); below = h .below; above = λ k a b. q .above k (omega arith) b }
+
+  pub last-up : size ≡ 1 → f lo ≡ false → Halved f n (lo + 1) (lo + 1)
+  last-up u e =
+      let q = halved-up f n lo (lo + size) lo s h e (omega arith) in
+      record { order = omega arith; inside = omega (arith, h .inside); below = q .below; above = λ k a b. q .above k (omega arith) b }
+
+  pub last-down : size ≡ 1 → f lo ≡ true → Halved f n lo lo
+  last-down u e = halved-down f n lo (lo + size) lo s h e (omega arith) (omega arith)
+
+-- all of them to begin with; none passes where the last does not
+pub halved-from : (f : ℕ → Bool) (n : ℕ) → Halved f n 0 (0 + n)
+halved-from f n = let z : 0 + n ≡ n = omega arith in rw z (halved-start f n)
+
+pub halved-none : (f : ℕ → Bool) (n : ℕ) → Stays f n → 0 < n → f (n - 1) ≡ false → Halved f n n n
+halved-none f n s u e =
+    let q = halved-up f n 0 n (n - 1) s (halved-start f n) e (omega arith) in
+    record { order = omega arith; inside = omega arith; below = λ k l. q .below k (omega arith); above = λ k a b. absurd (omega arith) }
 
 -- lists of values
 module _ {A B : Type 0} (f : A → B) where

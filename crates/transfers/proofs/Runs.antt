@@ -19,7 +19,7 @@ use Rattle.departures.proofs.Flat.{listed-slice}
 use Rattle.departures.proofs.Laws.{stops-apart}
 use Rattle.departures.proofs.Parts.{part-row, stop-known}
 use Rattle.departures.proofs.Sorting.{all-tab}
-use Rattle.transfers.specs.Packed.{Keys, SortedRuns, lineX, packLine, packedAt}
+use Rattle.transfers.specs.Packed.{Keys, Lines, SortedRuns, lineX, packLine, packedAt}
 use Rattle.transfers.specs.Call.{Admitted, Lent, inputOf}
 use Rattle.transfers.proofs.Lists.{all-imp, all-map, map-slice, rising-at}
 use Rattle.transfers.proofs.Packing.{Fits, pack-line, row-fits}
@@ -66,16 +66,13 @@ module _ (x : Lent) (n : ℕ) (a : Admitted x n) where
       (all-imp (RowFits x) (λ r. lineX (packOf x r) < 4096)
       (λ r k. omega (arith, k .line, a .lines .few, pack-line (x .t) (x .c) (x .lines) r (k .fits))) (listedAt (x .runs) (x .rows) s) (rows-fit s h)))
 
-  pub sorted-runs : SortedRuns (x .c) (x .runs) (workOf x) (x .d)
-  sorted-runs =
-      record {
-        size = sorted-length 0 hi (x .runs) (x .c .stops) (numbersOf x) apart ∙ size;
-        keys = λ s h. rw (run-is s h) (sorted-keys (sortBy hi (map (packOf x) (listedAt (x .runs) (x .rows) s))) s h);
-      }
-    where
-      sorted-keys : (v : List ℕ) (s : ℕ) → s < x .c .stops → Keys (sortBy hi (map (packOf x) (listedAt (x .runs) (x .rows) s)))
-      sorted-keys v s h =
-          record {
-            rising = record { rising = λ i j u l. rising-at hi 0 (sortBy hi (map (packOf x) (listedAt (x .runs) (x .rows) s))) i j (sort-rising hi (map (packOf x) (listedAt (x .runs) (x .rows) s))) u l };
-            fits = λ i u. all-at (λ y. lineX y < 4096) (sortBy hi (map (packOf x) (listedAt (x .runs) (x .rows) s))) i 0 (lines-fit s h) u;
-          }
+  pub run-sorted : (s : ℕ) → s < x .c .stops → Keys (slice (runFirst (x .runs) s) (runEnd (x .runs) s) (workOf x))
+  run-sorted s h =
+      rw (run-is s h)
+      (record {
+        rising = record { rising = λ i j u l. rising-at hi 0 (sortBy hi (map (packOf x) (listedAt (x .runs) (x .rows) s))) i j (sort-rising hi (map (packOf x) (listedAt (x .runs) (x .rows) s))) u l };
+        fits = λ i u. all-at (λ y. lineX y < 4096) (sortBy hi (map (packOf x) (listedAt (x .runs) (x .rows) s))) i 0 (lines-fit s h) u;
+      })
+
+  pub sorted-runs : (ends : List ℕ) → Lines (workOf x) ends → SortedRuns (x .c) (x .runs) (workOf x) ends (x .d)
+  sorted-runs ends l = record { size = sorted-length 0 hi (x .runs) (x .c .stops) (numbersOf x) apart ∙ size; lines = l; keys = run-sorted }

@@ -20,12 +20,13 @@ use Rattle.departures.specs.declared.DepartureRow.{DepartureRow}
 use Rattle.departures.specs.Departures.{sortStops}
 use Rattle.transfers.specs.declared.Built.the-variants.{Refused, Rows}
 use Rattle.transfers.specs.Transfers.{Input, allTransfers, builtTransfers, eventsBefore, eventsOf, runsFrom, transferOf, wordsOf}
-use Rattle.transfers.specs.Packed.{Laid, Prepared, SortedRuns, Walk, allKeys, laid, lay, layEvents, prepared, settledKeys, walk, walkAreas}
+use Rattle.transfers.specs.Packed.{Laid, Lines, Most, Prepared, SortedRuns, Walk, allKeys, laid, lay, layEvents, prepared, settledKeys, walk, walkAreas}
 use Rattle.transfers.specs.Call.{Admitted, Areas, Lent, Outcome, areaWith, areas, inputOf, outcomeOf, roomOk, settled, written}
 use Rattle.transfers.proofs.Lists.{all-flatten, flatten-map, length-map, within-is}
+use Rattle.transfers.proofs.Events.{total-is}
 use Rattle.transfers.proofs.Laying.{events-laid, events-runs, keyWords, lay-area}
 use Rattle.transfers.proofs.Packing.{pack-offset, pack-trip}
-use Rattle.transfers.proofs.Runs.{RowFits, numbersOf, packOf, sorted-runs}
+use Rattle.transfers.proofs.Runs.{RowFits, numbersOf, packOf, sorted-runs, workOf}
 use Rattle.transfers.proofs.Meaning.{all-keys, events-are, preparedOf, rowEvents, all-are, transfers-fit}
 
 -- the words and the runs of numbers
@@ -80,6 +81,10 @@ pub record Room (n area : ℕ) : Type 0 where
 pub room-yes : (n area : ℕ) → roomOk n area ≡ true → Room n area
 unfolding roomOk
 room-yes n area h = record { few = leb-true n 65536 (and-left (leb n 65536) (leb (n * 4) area) h); space = leb-true (n * 4) area (and-right (leb n 65536) (leb (n * 4) area) h) }
+
+yes-room : (n area : ℕ) → n ≤ 65536 → n * 4 ≤ area → roomOk n area ≡ true
+unfolding roomOk
+yes-room n area h k = ap₂ _&&_ (le-leb n 65536 h) (le-leb (n * 4) area k)
 
 -- THE OUTCOME of an admitted call
 module _ (x : Lent) (s : Areas) (a : Admitted x (length (s .transferRuns))) where
@@ -154,9 +159,19 @@ settle-yes p s n m b a' v' e f g h =
     let z : roomOk (min (length (flatten (allKeys p))) 65537) (length (s .area)) ≡ true = ap (λ (m : ℕ). roomOk m (length (s .area))) (sym e) ∙ sym f ∙ g in
     ap₂ (λ (k : ℕ) (w : Walk). outcomeOf (Rows k) (walkAreas w)) e h ∙ simp z
 
+-- written at once, where there is room for no fewer
+pub settle-most : (p : Prepared) (s : Areas) (most m : ℕ) (b : Bool) (a' v' : List ℕ) → Most 0 (length (flatten (allKeys p))) most 0 → b ≡ roomOk most (length (s .area)) → b ≡ true
+    → walk m a' v' ≡ layEvents (p .time) 0 (allKeys p) (walk 0 (s .area) (s .transferRuns)) → outcomeOf (Rows m) (areas a' v') ≡ settledKeys p s
+settle-most p s most m b a' v' k f g h =
+    let r = room-yes most (length (s .area)) (sym f ∙ g) in
+    let t = total-is (p .time) (allKeys p) m a' (s .area) v' (s .transferRuns) h in
+    settle-yes p s m m true a' v' t (sym (yes-room m (length (s .area)) (omega (arith, k .most (r .few), r .few)) (omega (arith, k .most (r .few), r .few, r .space)))) refl h
+
 -- the same, of the numbers as the code leaves them
-pub sorted-with : (x : Lent) (n : ℕ) → Admitted x n → (u w : List ℕ) → u ≡ numbersOf x → w ≡ sortStops hi (x .runs) (x .c .stops) u → SortedRuns (x .c) (x .runs) w (x .d)
-sorted-with x n a u w p q = rw (q ∙ ap (sortStops hi (x .runs) (x .c .stops)) p) (sorted-runs x n a)
+pub sorted-with : (x : Lent) (n : ℕ) → Admitted x n → (u w ends : List ℕ) → u ≡ numbersOf x → w ≡ sortStops hi (x .runs) (x .c .stops) u → Lines w ends → SortedRuns (x .c) (x .runs) w ends (x .d)
+sorted-with x n a u w ends p q l =
+    let e : w ≡ workOf x = q ∙ ap (sortStops hi (x .runs) (x .c .stops)) p in
+    rw e (sorted-runs x n a ends (rw e at l))
 
 pub settled-with : (x : Lent) (s : Areas) → Admitted x (length (s .transferRuns)) → (u w : List ℕ) → u ≡ numbersOf x → w ≡ sortStops hi (x .runs) (x .c .stops) u
     → settledKeys (prepared (x .t) (x .c) (x .runs) w (x .time)) s ≡ settled (inputOf x) s

@@ -38,6 +38,17 @@ pub record Keys (v : List ℕ) : Type 0 where
   pub rising : Rising (λ i. hi (getD v i 0)) (length v)
   pub fits : (i : ℕ) → i < length v → lineX (getD v i 0) < 4096
 
+-- e numbers from the i-th on are of its line, as far as there are so many, and the next one is not
+pub record Stretch (v : List ℕ) (i e : ℕ) : Type 0 where
+  pub some : 0 < e
+  pub same : (j : ℕ) → j < e → i + j < length v → lineX (getD v (i + j) 0) ≡ lineX (getD v i 0)
+  pub next : i + e < length v → lineX (getD v (i + e) 0) ≡ lineX (getD v i 0) → ⊥
+
+-- how many, beside each
+pub record Lines (v ends : List ℕ) : Type 0 where
+  pub size : length ends ≡ length v
+  pub at : (i : ℕ) → i < length v → Stretch v i (getD ends i 0)
+
 -- the first r are of the first one's line, the others of later lines
 pub record LineEnd (v : List ℕ) (r : ℕ) : Type 0 where
   pub some : 0 < r
@@ -57,6 +68,11 @@ toGroup g ti w = keep (λ x. not (eqb (unTrip x) ti)) (take 1 (keep (λ x. leb w
 
 unfoldable pub targets : List ℕ → ℕ → ℕ → List ℕ
 targets v ti w = flatten (tab (λ l. toGroup (keep (λ x. eqb (lineX x) l) v) ti w) 4096)
+
+-- r lines at most have a transfer at or after w
+pub record LinesAfter (v : List ℕ) (w r : ℕ) : Type 0 where
+  pub most : (ti : ℕ) → length (targets v ti w) ≤ r
+  pub few : r ≤ length v
 
 -- what the events are looked up in: the timetable, the stops' runs, the sorted numbers, the transfer time
 pub record Prepared : Type 0 where
@@ -127,9 +143,10 @@ unfoldable pub layEvents : ℕ → ℕ → List (List ℕ) → Walk → Walk
 layEvents time e [] w = w
 layEvents time e (l ∷ ls) w = layEvents time (e + 1) ls (layEvent time e l w)
 
--- each stop's run is sorted
-pub record SortedRuns (c : Counts) (runs work : List ℕ) (d : ℕ) : Type 0 where
+-- each stop's run is sorted, and beside each number stands how many are of its line
+pub record SortedRuns (c : Counts) (runs work ends : List ℕ) (d : ℕ) : Type 0 where
   pub size : length work ≡ d
+  pub lines : Lines work ends
   pub keys : (s : ℕ) → s < c .stops → Keys (slice (runFirst runs s) (runEnd runs s) work)
 
 -- where a walk stands: trip ti, offset off, event e of all, n transfers so far
@@ -144,6 +161,17 @@ pub record TripAt (c : Counts) (ti e n time : ℕ) : Type 0 where
   pub trip : ti < c .trips
   pub event : e ≤ ti * 65536
   pub few : n ≤ 65537
+  pub short : time ≤ 3600
+
+-- r is no less than n with the `whole` transfers to come, but for the `left` that are not yet looked at; past 65,536 it says no more
+pub record Most (n whole r left : ℕ) : Type 0 where
+  pub grows : n ≤ r
+  pub few : r ≤ 131072
+  pub most : r ≤ 65536 → n + whole ≤ r + left
+
+pub record MostAt (i count n time : ℕ) : Type 0 where
+  pub below : i < count
+  pub few : n ≤ 131072
   pub short : time ≤ 3600
 
 -- what is answered and written, from the numbers: counted no further than 65,537, then written

@@ -8,10 +8,10 @@
 ghost use mathlib.Core.Path.{_≡_};
 ghost use mathlib.Core.Bool.{_&&_};
 ghost use mathlib.Core.List.{flatten};
-ghost use Prim.Native.Nat.{_+_, _*_, _-_, _≤_, _<_, min};
-ghost use lib.ListN.{length, getD};
+ghost use Prim.Native.Nat.{ℕ, _+_, _*_, _-_, _/_, _≤_, _<_, min};
+ghost use lib.ListN.{length, getD, drop};
 ghost use lib.Dec.{leb};
-ghost use Rattle.loops.specs.Count.{tab};
+ghost use Rattle.loops.specs.Count.{one, tab};
 ghost use Rattle.loops.specs.Order.{Halved};
 ghost use Rattle.sorts.specs.Sort.{hi};
 ghost use Rattle.tables.specs.Timetable.{timetable};
@@ -19,7 +19,7 @@ ghost use Rattle.tables.specs.Door.{slicesOk};
 ghost use Rattle.tables.specs.Sane.{CountsOk, SlicesOk, Sane};
 ghost use Rattle.departures.specs.Listed.{RunsListed, RowKnown, RowsKnown};
 ghost use Rattle.transfers.specs.Transfers.{eventsBefore};
-ghost use Rattle.transfers.specs.Packed.{packLine, packedAt, Keys, LineEnd, Group, laid, lay, layRow, putRow, walk, putRun, layEvent, layEvents, toGroup, targets, prepared, alightKeys, eventKeys, tripKeys, allKeys, SortedRuns, EventAt, TripAt, settledKeys};
+ghost use Rattle.transfers.specs.Packed.{packLine, packedAt, Keys, Stretch, Lines, LineEnd, Group, laid, lay, layRow, putRow, walk, putRun, layEvent, layEvents, toGroup, targets, LinesAfter, Most, MostAt, depX, prepared, alightKeys, eventKeys, tripKeys, allKeys, SortedRuns, EventAt, TripAt, settledKeys};
 ghost use Rattle.transfers.specs.Call.{lent, inputOf, areas, linesOk, sizesOk, verdict, roomOk, settled, outcome, outcomeOf, Admitted, LinesBelow};
 use departures::DepartureRow;
 use tables::Counts;
@@ -30,31 +30,78 @@ pub enum Built {
     Rows(u32),
 }
 
-// The first number whose upper half is not below this key, by halving; the length where there is none.
-fn first_from(part: &[u64], key: u64) -> usize
-    requires { ⌜ Keys (now part) ⌝ }
-    ensures { λ r. ⌜ Halved (λ i. leb key (hi (getD (now (part .entry)) i 0))) (length (now (part .entry))) r r ⌝ }
+// One halving of a search: the middle where the number there is below the key, else the start.
+fn narrowed(part: &[u64], key: u64, lo: usize, size: usize) -> usize
+    requires { ⌜ Keys (now part) ⌝ ∗ ⌜ Halved (λ i. leb key (hi (getD (now part) i 0))) (length (now part)) lo (lo + size) ⌝ ∗ ⌜ 1 < size ⌝ }
+    ensures { λ r. ⌜ Halved (λ i. leb key (hi (getD (now (part .entry)) i 0))) (length (now (part .entry))) r (r + (size - size / 2)) ⌝ }
 {
-    let mut lo: usize = 0;
-    let mut hi = part.len();
-    while lo < hi {
-        let mid = lo + (hi - lo) / 2;
-        if part[mid] / 4294967296 < key {
-            lo = mid + 1;
-            continue;
-        }
-        hi = mid;
+    let mid = lo + size / 2;
+    if part[mid] / 4294967296 < key {
+        return mid;
     }
     lo
 }
 
-// How many of the departures, from the first on, are of the first one's line.
-fn line_end(rest: &[u64]) -> usize
-    requires { ⌜ Keys (now rest) ⌝ ∗ ⌜ 0 < length (now rest) ⌝ }
-    ensures { λ r. ⌜ LineEnd (now (rest .entry)) r ⌝ }
+// The first number whose upper half is not below this key, by halving; the length where there is none.
+fn first_from(part: &[u64], key: u64) -> usize
+    requires { ⌜ Keys (now part) ⌝ ∗ ⌜ 0 < length (now part) ⌝ }
+    ensures { λ r. ⌜ Halved (λ i. leb key (hi (getD (now (part .entry)) i 0))) (length (now (part .entry))) r r ⌝ }
 {
-    let line = rest[0] / 4503599627370496;
-    first_from(rest, (line + 1) * 1048576)
+    let n = part.len();
+    if part[n - 1] / 4294967296 < key {
+        return n;
+    }
+    let mut lo: usize = 0;
+    let mut size = n;
+    while 1 < size {
+        lo = narrowed(part, key, lo, size);
+        size -= size / 2;
+    }
+    if part[lo] / 4294967296 < key {
+        return lo + 1;
+    }
+    lo
+}
+
+// How many departures from the i-th on are of its line, where from the next one on `left` are of that one's.
+fn line_left(work: &[u64], i: usize, left: u64) -> u64
+    requires { ⌜ i < length (now work) ⌝ ∗ ⌜ (i + 1 < length (now work) → Stretch (now work) (i + 1) left) ⌝ ∗ ⌜ left < 4294967296 ⌝ }
+    ensures { λ r. ⌜ Stretch (now (work .entry)) i r ⌝ ∗ ⌜ r ≤ left + 1 ⌝ }
+{
+    if work.len() <= i + 1 {
+        return 1;
+    }
+    if work[i] / 4503599627370496 != work[i + 1] / 4503599627370496 {
+        return 1;
+    }
+    left + 1
+}
+
+// The same of every departure, from the last to the first.
+fn line_ends(work: &[u64], ends: &mut [u64])
+    requires { ⌜ length (now ends) ≡ length (now work) ⌝ ∗ ⌜ length (now work) ≤ 65536 ⌝ }
+    ensures { λ _. ⌜ Lines (now (work .entry)) (now (ends .exit)) ⌝ }
+{
+    let mut left: u64 = 0;
+    let mut i = work.len();
+    while 0 < i {
+        i -= 1;
+        left = line_left(work, i, left);
+        ends[i] = left;
+    }
+}
+
+// How many departures of a stop, from the k-th on, are of its line.
+fn line_end(run: &[u64], ends: &[u64], k: usize) -> usize
+    requires { ⌜ Keys (now run) ⌝ ∗ ⌜ Lines (now run) (now ends) ⌝ ∗ ⌜ k < length (now run) ⌝ }
+    ensures { λ r. ⌜ LineEnd (drop k (now (run .entry))) r ⌝ }
+{
+    let left = run.len() - k;
+    let e = ends[k] as usize;
+    if left <= e {
+        return left;
+    }
+    e
 }
 
 // A transfer is written at row n, where the area has that row.
@@ -101,15 +148,48 @@ fn to_line(group: &[u64], area: &mut [u32], time: usize, ti: usize, w: usize, n:
     lay_row(area, time, n, x)
 }
 
+// 1 where a departure is not before w, else 0.
+fn ready(x: u64, w: usize) -> usize
+    ensures { λ r. ⌜ r ≡ one (leb w (depX x)) ⌝ ∗ ⌜ r ≤ 1 ⌝ }
+{
+    if ((x / 4294967296 % 1048576) as usize) < w {
+        return 0;
+    }
+    1
+}
+
+// How many lines of a stop's sorted departures have one not before w: no fewer than there are transfers to them.
+fn lines_after(run: &[u64], ends: &[u64], w: usize) -> usize
+    requires { ⌜ Keys (now run) ⌝ ∗ ⌜ Lines (now run) (now ends) ⌝ }
+    ensures { λ r. ⌜ LinesAfter (now (run .entry)) w r ⌝ }
+{
+    let mut n: usize = 0;
+    let mut k: usize = 0;
+    while k < run.len() {
+        let q = k + line_end(run, ends, k);
+        n += ready(run[q - 1], w);
+        k = q;
+    }
+    n
+}
+
 // The transfers to every line of a stop's sorted departures, lines rising.
-fn to_lines(run: &[u64], area: &mut [u32], time: usize, ti: usize, w: usize, n: usize) -> usize
-    requires { ⌜ Keys (now run) ⌝ ∗ ⌜ time ≤ 3600 ⌝ ∗ ⌜ w < 4294967296 ⌝ }
+fn to_lines(
+    run: &[u64],
+    ends: &[u64],
+    area: &mut [u32],
+    time: usize,
+    ti: usize,
+    w: usize,
+    n: usize,
+) -> usize
+    requires { ⌜ Keys (now run) ⌝ ∗ ⌜ Lines (now run) (now ends) ⌝ ∗ ⌜ time ≤ 3600 ⌝ ∗ ⌜ w < 4294967296 ⌝ }
     ensures { λ r. ⌜ laid r (now (area .exit)) ≡ lay time (targets (now (run .entry)) ti w) (laid n (now (area .entry))) ⌝ }
 {
     let mut m = n;
     let mut k: usize = 0;
     while k < run.len() {
-        let q = k + line_end(&run[k..]);
+        let q = k + line_end(run, ends, k);
         m = to_line(&run[k..q], area, time, ti, w, m);
         k = q;
     }
@@ -123,13 +203,14 @@ fn alight(
     runs: &[u32],
     d: usize,
     work: &[u64],
+    ends: &[u64],
     area: &mut [u32],
     time: usize,
     ti: usize,
     at: usize,
     n: usize,
 ) -> usize
-    requires { ⌜ Sane (now t) c ⌝ ∗ ⌜ RunsListed c (now runs) d ⌝ ∗ ⌜ SortedRuns c (now runs) (now work) d ⌝ ∗ ⌜ at < c .times ⌝ ∗ ⌜ time ≤ 3600 ⌝ }
+    requires { ⌜ Sane (now t) c ⌝ ∗ ⌜ RunsListed c (now runs) d ⌝ ∗ ⌜ SortedRuns c (now runs) (now work) (now ends) d ⌝ ∗ ⌜ at < c .times ⌝ ∗ ⌜ time ≤ 3600 ⌝ }
     ensures { λ r. ⌜ laid r (now (area .exit)) ≡ lay time (alightKeys (prepared (now (t .entry)) c (now (runs .entry)) (now (work .entry)) time) ti at) (laid n (now (area .entry))) ⌝ }
 {
     if 65536 < n {
@@ -142,7 +223,7 @@ fn alight(
     let r = departures::stop_run(runs, tables::time(t, c, at, 0));
     let first = r.first;
     let end = first + r.length;
-    to_lines(&work[first..end], area, time, ti, w, n)
+    to_lines(&work[first..end], &ends[first..end], area, time, ti, w, n)
 }
 
 // The run of event e, where there is space for it: n transfers stand before it, r after it.
@@ -165,6 +246,7 @@ fn event(
     runs: &[u32],
     d: usize,
     work: &[u64],
+    ends: &[u64],
     area: &mut [u32],
     evs: &mut [u32],
     time: usize,
@@ -173,11 +255,11 @@ fn event(
     e: usize,
     n: usize,
 ) -> usize
-    requires { ⌜ Sane (now t) c ⌝ ∗ ⌜ RunsListed c (now runs) d ⌝ ∗ ⌜ SortedRuns c (now runs) (now work) d ⌝ ∗ ⌜ EventAt (now t) c ti off e n time ⌝ }
+    requires { ⌜ Sane (now t) c ⌝ ∗ ⌜ RunsListed c (now runs) d ⌝ ∗ ⌜ SortedRuns c (now runs) (now work) (now ends) d ⌝ ∗ ⌜ EventAt (now t) c ti off e n time ⌝ }
     ensures { λ r. ⌜ walk r (now (area .exit)) (now (evs .exit)) ≡ layEvent time e (eventKeys (prepared (now (t .entry)) c (now (runs .entry)) (now (work .entry)) time) ti off) (walk n (now (area .entry)) (now (evs .entry))) ⌝ ∗ ⌜ r ≤ 65537 ⌝ }
 {
     let at = tables::trip(t, c, ti, 0) + off;
-    let r = alight(t, c, runs, d, work, area, time, ti, at, n);
+    let r = alight(t, c, runs, d, work, ends, area, time, ti, at, n);
     put_run(evs, e, n, r);
     r
 }
@@ -189,6 +271,7 @@ fn trip_events(
     runs: &[u32],
     d: usize,
     work: &[u64],
+    ends: &[u64],
     area: &mut [u32],
     evs: &mut [u32],
     time: usize,
@@ -196,14 +279,28 @@ fn trip_events(
     e: usize,
     n: usize,
 ) -> usize
-    requires { ⌜ Sane (now t) c ⌝ ∗ ⌜ RunsListed c (now runs) d ⌝ ∗ ⌜ SortedRuns c (now runs) (now work) d ⌝ ∗ ⌜ TripAt c ti e n time ⌝ }
+    requires { ⌜ Sane (now t) c ⌝ ∗ ⌜ RunsListed c (now runs) d ⌝ ∗ ⌜ SortedRuns c (now runs) (now work) (now ends) d ⌝ ∗ ⌜ TripAt c ti e n time ⌝ }
     ensures { λ r. ⌜ walk r (now (area .exit)) (now (evs .exit)) ≡ layEvents time e (tripKeys (prepared (now (t .entry)) c (now (runs .entry)) (now (work .entry)) time) ti) (walk n (now (area .entry)) (now (evs .entry))) ⌝ ∗ ⌜ r ≤ 65537 ⌝ }
 {
     let count = tables::trip(t, c, ti, 1);
     let mut m = n;
     let mut off: usize = 0;
     while off < count {
-        m = event(t, c, runs, d, work, area, evs, time, ti, off, e + off, m);
+        m = event(
+            t,
+            c,
+            runs,
+            d,
+            work,
+            ends,
+            area,
+            evs,
+            time,
+            ti,
+            off,
+            e + off,
+            m,
+        );
         off += 1;
     }
     m
@@ -216,11 +313,12 @@ fn all_events(
     runs: &[u32],
     d: usize,
     work: &[u64],
+    ends: &[u64],
     area: &mut [u32],
     evs: &mut [u32],
     time: usize,
 ) -> usize
-    requires { ⌜ Sane (now t) c ⌝ ∗ ⌜ RunsListed c (now runs) d ⌝ ∗ ⌜ SortedRuns c (now runs) (now work) d ⌝ ∗ ⌜ time ≤ 3600 ⌝ }
+    requires { ⌜ Sane (now t) c ⌝ ∗ ⌜ RunsListed c (now runs) d ⌝ ∗ ⌜ SortedRuns c (now runs) (now work) (now ends) d ⌝ ∗ ⌜ time ≤ 3600 ⌝ }
     ensures { λ r. ⌜ walk r (now (area .exit)) (now (evs .exit)) ≡ layEvents time 0 (allKeys (prepared (now (t .entry)) c (now (runs .entry)) (now (work .entry)) time)) (walk 0 (now (area .entry)) (now (evs .entry))) ⌝ ∗ ⌜ r ≤ 65537 ⌝ }
 {
     let trips = c.trips;
@@ -228,50 +326,142 @@ fn all_events(
     let mut e: usize = 0;
     let mut ti: usize = 0;
     while ti < trips {
-        n = trip_events(t, c, runs, d, work, area, evs, time, ti, e, n);
+        n = trip_events(t, c, runs, d, work, ends, area, evs, time, ti, e, n);
         e += tables::trip(t, c, ti, 1);
         ti += 1;
     }
     n
 }
 
+// No fewer than the transfers of an event at a stop time, after n of others; past 65,536 no more are counted.
+fn most_alight(
+    t: &[u32],
+    c: Counts,
+    runs: &[u32],
+    d: usize,
+    work: &[u64],
+    ends: &[u64],
+    time: usize,
+    at: usize,
+    n: usize,
+) -> usize
+    requires { ⌜ Sane (now t) c ⌝ ∗ ⌜ RunsListed c (now runs) d ⌝ ∗ ⌜ SortedRuns c (now runs) (now work) (now ends) d ⌝ ∗ ⌜ MostAt at (c .times) n time ⌝ }
+    ensures { λ r. ⌜ ((ti : ℕ) → Most n (length (alightKeys (prepared (now (t .entry)) c (now (runs .entry)) (now (work .entry)) time) ti at)) r 0) ⌝ }
+{
+    if 65536 < n {
+        return n;
+    }
+    if tables::time(t, c, at, 5) == 1 {
+        return n;
+    }
+    let w = tables::time(t, c, at, 1) + time;
+    let r = departures::stop_run(runs, tables::time(t, c, at, 0));
+    let first = r.first;
+    let end = first + r.length;
+    n + lines_after(&work[first..end], &ends[first..end], w)
+}
+
+// Of a trip's events.
+fn most_trip(
+    t: &[u32],
+    c: Counts,
+    runs: &[u32],
+    d: usize,
+    work: &[u64],
+    ends: &[u64],
+    time: usize,
+    ti: usize,
+    n: usize,
+) -> usize
+    requires { ⌜ Sane (now t) c ⌝ ∗ ⌜ RunsListed c (now runs) d ⌝ ∗ ⌜ SortedRuns c (now runs) (now work) (now ends) d ⌝ ∗ ⌜ MostAt ti (c .trips) n time ⌝ }
+    ensures { λ r. ⌜ Most n (length (flatten (tripKeys (prepared (now (t .entry)) c (now (runs .entry)) (now (work .entry)) time) ti))) r 0 ⌝ }
+{
+    let first = tables::trip(t, c, ti, 0);
+    let count = tables::trip(t, c, ti, 1);
+    let mut m = n;
+    let mut off: usize = 0;
+    while off < count {
+        m = most_alight(t, c, runs, d, work, ends, time, first + off, m);
+        off += 1;
+    }
+    m
+}
+
+// Of all events.
+fn most_all(
+    t: &[u32],
+    c: Counts,
+    runs: &[u32],
+    d: usize,
+    work: &[u64],
+    ends: &[u64],
+    time: usize,
+) -> usize
+    requires { ⌜ Sane (now t) c ⌝ ∗ ⌜ RunsListed c (now runs) d ⌝ ∗ ⌜ SortedRuns c (now runs) (now work) (now ends) d ⌝ ∗ ⌜ time ≤ 3600 ⌝ }
+    ensures { λ r. ⌜ Most 0 (length (flatten (allKeys (prepared (now (t .entry)) c (now (runs .entry)) (now (work .entry)) time)))) r 0 ⌝ }
+{
+    let trips = c.trips;
+    let mut n: usize = 0;
+    let mut ti: usize = 0;
+    while ti < trips {
+        n = most_trip(t, c, runs, d, work, ends, time, ti, n);
+        ti += 1;
+    }
+    n
+}
+
 // How many transfers there are, counted no further than 65,537: the same walk with space for none.
-fn total(t: &[u32], c: Counts, runs: &[u32], d: usize, work: &[u64], time: usize) -> usize
-    requires { ⌜ Sane (now t) c ⌝ ∗ ⌜ RunsListed c (now runs) d ⌝ ∗ ⌜ SortedRuns c (now runs) (now work) d ⌝ ∗ ⌜ time ≤ 3600 ⌝ }
+fn total(
+    t: &[u32],
+    c: Counts,
+    runs: &[u32],
+    d: usize,
+    work: &[u64],
+    ends: &[u64],
+    time: usize,
+) -> usize
+    requires { ⌜ Sane (now t) c ⌝ ∗ ⌜ RunsListed c (now runs) d ⌝ ∗ ⌜ SortedRuns c (now runs) (now work) (now ends) d ⌝ ∗ ⌜ time ≤ 3600 ⌝ }
     ensures { λ r. ⌜ r ≡ min (length (flatten (allKeys (prepared (now (t .entry)) c (now (runs .entry)) (now (work .entry)) time)))) 65537 ⌝ }
 {
     let mut a = [0u32; 1];
     let mut v = [0u32; 1];
-    all_events(t, c, runs, d, work, &mut a, &mut v, time)
+    all_events(t, c, runs, d, work, ends, &mut a, &mut v, time)
 }
 
 // Question 7.
 fn room_ok(n: usize, area: usize) -> bool
-    requires { ⌜ n ≤ 65537 ⌝ }
+    requires { ⌜ n ≤ 131072 ⌝ }
     ensures { λ r. ⌜ r ≡ roomOk n area ⌝ }
 {
     door::both(n <= 65536, n * 4 <= area)
 }
 
-// The transfers, or 7, from the sorted departures: first counted, then written.
+// The transfers, or 7, from the sorted departures. Where there is room for one to each line that has a departure left, they
+// are written at once; else they are first counted.
 fn settle(
     t: &[u32],
     c: Counts,
     runs: &[u32],
     d: usize,
     work: &[u64],
+    ends: &[u64],
     area: &mut [u32],
     evs: &mut [u32],
     time: usize,
 ) -> Built
-    requires { ⌜ Sane (now t) c ⌝ ∗ ⌜ RunsListed c (now runs) d ⌝ ∗ ⌜ SortedRuns c (now runs) (now work) d ⌝ ∗ ⌜ time ≤ 3600 ⌝ }
+    requires { ⌜ Sane (now t) c ⌝ ∗ ⌜ RunsListed c (now runs) d ⌝ ∗ ⌜ SortedRuns c (now runs) (now work) (now ends) d ⌝ ∗ ⌜ time ≤ 3600 ⌝ }
     ensures { λ r. ⌜ outcomeOf r (areas (now (area .exit)) (now (evs .exit))) ≡ settledKeys (prepared (now (t .entry)) c (now (runs .entry)) (now (work .entry)) time) (areas (now (area .entry)) (now (evs .entry))) ⌝ }
 {
-    let n = total(t, c, runs, d, work, time);
+    let most = most_all(t, c, runs, d, work, ends, time);
+    if room_ok(most, area.len()) {
+        let m = all_events(t, c, runs, d, work, ends, area, evs, time);
+        return Built::Rows(m as u32);
+    }
+    let n = total(t, c, runs, d, work, ends, time);
     if !room_ok(n, area.len()) {
         return Built::Refused(7);
     }
-    all_events(t, c, runs, d, work, area, evs, time);
+    all_events(t, c, runs, d, work, ends, area, evs, time);
     Built::Rows(n as u32)
 }
 
@@ -434,7 +624,8 @@ fn build_in(
 {
     pack_lines(t, c, lines, rows, d, line_count, work);
     departures::sort_stops(c, runs, d, work, other);
-    settle(t, c, runs, d, work, area, evs, time)
+    line_ends(work, other);
+    settle(t, c, runs, d, work, other, area, evs, time)
 }
 
 // The same in the first d numbers of two longer slices.
