@@ -2,3 +2,4 @@ pub mod Tables
 pub mod Search
 pub mod Door
 pub mod Promise
+pub mod K
