@@ -41,3 +41,4 @@ pub mod Totals
 pub mod DayTests
 pub mod Examples
 pub mod PlainDays
+pub mod Bytes
