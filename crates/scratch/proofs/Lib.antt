@@ -1,0 +1,4 @@
+pub mod Part
+pub mod Labels
+pub mod Marking
+pub mod Steps

@@ -1,0 +1,4 @@
+pub mod Part
+pub mod Places
+pub mod View
+pub mod Step
