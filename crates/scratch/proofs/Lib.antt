@@ -2,3 +2,6 @@ pub mod Part
 pub mod Labels
 pub mod Marking
 pub mod Steps
+pub mod Queue
+pub mod Starts
+pub mod Filling

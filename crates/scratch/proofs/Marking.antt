@@ -12,7 +12,7 @@ use borrow.Author.Tests.{eq-eqb, ne-eqb}
 use Rattle.scratch.specs.declared.Lay.{Lay}
 use Rattle.scratch.specs.Part.{part, tally}
 use Rattle.scratch.specs.Places.{Sized, Same, Counted, Grown, restAt, workSize, earliestOf, stampsOf, reachOf}
-use Rattle.scratch.specs.Step.{Marked}
+use Rattle.scratch.specs.Step.{Entered, Marked}
 use Rattle.scratch.proofs.Part.{first-in, part-at, part-in, part-below, part-above, part-more, part-length, tally-le, tally-room, tally-set}
 
 pub same-refl : (lay : Lay) (w : List ℕ) → Same lay w w
@@ -39,6 +39,44 @@ same-list lay w ok i v h = record { size = length-set w (lay .list + i) v; list 
     go (inr r) = part-above w (lay .other) (lay .stops + 64) (lay .list + i) v (omega (arith, h, r))
 
 module _ (lay : Lay) (w : List ℕ) {b c : ℕ} (ok : Sized lay (length w) b c) where
+  -- the three stores of a stop that enters the list
+  module _ (stamp s v count : ℕ) (h : s < lay .stops) (room : count < lay .stops + 64) where
+    w1 : List ℕ
+    w1 = set w s v
+
+    w2 : List ℕ
+    w2 = set w1 (lay .stops + s) stamp
+
+    w3 : List ℕ
+    w3 = set w2 (lay .list + count) s
+
+    below-list : (a n : ℕ) → a + n ≤ lay .stops * 2 + lay .trips → part w3 a n ≡ part w2 a n
+    unfolding w3
+    below-list a n l = part-above w2 a n (lay .list + count) s (omega (arith, ok .first, l))
+
+    pub entered : Entered lay stamp s v w (set (set (set w s v) (lay .stops + s) stamp) (lay .list + count) s) count
+    unfolding w1 w2 w3
+    entered =
+        let ok1 : Sized lay (length w1) b c = rw (length-set w s v) ok in
+        let ok2 : Sized lay (length w2) b c = rw (length-set w1 (lay .stops + s) stamp) ok1 in
+        record {
+          earliest =
+              below-list 0 (lay .stops) (omega arith) ∙ part-above w1 0 (lay .stops) (lay .stops + s) stamp (omega arith) ∙ first-in w (lay .stops) s v h;
+          stamps =
+              below-list (lay .stops) (lay .stops) (omega arith) ∙ part-in w1 (lay .stops) (lay .stops) s stamp h
+              ∙ ap (λ (l : List ℕ). set l s stamp) (part-below w (lay .stops) (lay .stops) s v h);
+          reached =
+              part-more w2 (lay .list) count s (omega (arith, ok2 .words, ok .fits, room))
+              ∙ ap (λ (l : List ℕ). l ++ (s ∷ [])) (part-below w1 (lay .list) count (lay .stops + s) stamp (omega (arith, ok .first, h))
+              ∙ part-below w (lay .list) count s v (omega (arith, ok .first, h)));
+          segReach =
+              below-list (lay .stops * 2) (lay .trips) (omega arith)
+              ∙ part-below w1 (lay .stops * 2) (lay .trips) (lay .stops + s) stamp (omega (arith, h)) ∙ part-below w (lay .stops * 2) (lay .trips) s v (omega (arith, h));
+          same =
+              same-then (same-then (same-low lay w ok s v (omega (arith, h))) (same-low lay w1 ok1 (lay .stops + s) stamp (omega (arith, h))))
+              (same-list lay w2 ok2 count s room);
+        }
+
   pub stamps-length : length (stampsOf lay w) ≡ lay .stops
   stamps-length = part-length w (lay .stops) (lay .stops) (omega (arith, ok .words))
 
@@ -69,49 +107,17 @@ module _ (lay : Lay) (w : List ℕ) {b c : ℕ} (ok : Sized lay (length w) b c) 
       pub mark-room : count < lay .stops
       mark-room = omega (arith, stamps-length, k .fits, tally-room stamp (stampsOf lay w) s (omega (arith, stamps-length, h)) not-stamped)
 
-      w1 : List ℕ
-      w1 = set w s v
-
-      w2 : List ℕ
-      w2 = set w1 (lay .stops + s) stamp
-
-      w3 : List ℕ
-      w3 = set w2 (lay .list + count) s
-
-      below-list : (a n : ℕ) → a + n ≤ lay .stops * 2 + lay .trips → part w3 a n ≡ part w2 a n
-      unfolding w3
-      below-list a n l = part-above w2 a n (lay .list + count) s (omega (arith, ok .first, l))
-
-      stamps-new : stampsOf lay w3 ≡ set (stampsOf lay w) s stamp
-      unfolding w1 w2
-      stamps-new =
-          below-list (lay .stops) (lay .stops) (omega arith) ∙ part-in w1 (lay .stops) (lay .stops) s stamp h
-          ∙ ap (λ (l : List ℕ). set l s stamp) (part-below w (lay .stops) (lay .stops) s v h)
-
-      tally-new : tally stamp (stampsOf lay w3) ≡ suc (tally stamp (stampsOf lay w))
-      tally-new = ap (tally stamp) stamps-new ∙ tally-set stamp (stampsOf lay w) s (omega (arith, stamps-length, h)) not-stamped
-
-      pub mark-new : Marked lay stamp s v w (set (set (set w s v) (lay .stops + s) stamp) (lay .list + count) s) count (count + 1)
-      unfolding w1 w2 w3
-      mark-new =
+      pub mark-new : (w′ : List ℕ) → Entered lay stamp s v w w′ count → Marked lay stamp s v w w′ count (count + 1)
+      mark-new w′ p =
           let t : eqb (getD (stampsOf lay w) s 0) stamp ≡ false = ne-eqb _ _ not-stamped in
-          let ok1 : Sized lay (length w1) b c = rw (length-set w s v) ok in
-          let ok2 : Sized lay (length w2) b c = rw (length-set w1 (lay .stops + s) stamp) ok1 in
+          let n : tally stamp (stampsOf lay w′) ≡ suc (tally stamp (stampsOf lay w)) =
+          ap (tally stamp) (p .stamps) ∙ tally-set stamp (stampsOf lay w) s (omega (arith, stamps-length, h)) not-stamped in
           record {
-            earliest =
-                below-list 0 (lay .stops) (omega arith) ∙ part-above w1 0 (lay .stops) (lay .stops + s) stamp (omega arith) ∙ first-in w (lay .stops) s v h;
-            stamps = rw t stamps-new;
-            reached =
-                rw t
-                (part-more w2 (lay .list) count s (omega (arith, ok2 .words, ok .fits, mark-room))
-                ∙ ap (λ (l : List ℕ). l ++ (s ∷ [])) (part-below w1 (lay .list) count (lay .stops + s) stamp (omega (arith, ok .first, h))
-                ∙ part-below w (lay .list) count s v (omega (arith, ok .first, h))));
-            segReach =
-                below-list (lay .stops * 2) (lay .trips) (omega arith)
-                ∙ part-below w1 (lay .stops * 2) (lay .trips) (lay .stops + s) stamp (omega (arith, h)) ∙ part-below w (lay .stops * 2) (lay .trips) s v (omega (arith, h));
-            same =
-                same-then (same-then (same-low lay w ok s v (omega (arith, h))) (same-low lay w1 ok1 (lay .stops + s) stamp (omega (arith, h))))
-                (same-list lay w2 ok2 count s (omega (arith, mark-room)));
-            counted = record { fits = omega (arith, tally-new, k .fits) };
-            grown = record { by = omega (arith, tally-new) };
+            earliest = p .earliest;
+            stamps = rw t (p .stamps);
+            reached = rw t (p .reached);
+            segReach = p .segReach;
+            same = p .same;
+            counted = record { fits = omega (arith, n, k .fits) };
+            grown = record { by = omega (arith, n) };
           }

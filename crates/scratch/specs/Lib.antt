@@ -2,3 +2,4 @@ pub mod Part
 pub mod Places
 pub mod View
 pub mod Step
+pub mod Fill

@@ -1,7 +1,7 @@
 -- A query's state in memory, seen as the model's `Arrivals`. Definitions only.
 use Prim.Native.Nat.{ℕ, _+_, _*_}
 use mathlib.Core.List.{List}
-use lib.ListN.{getD}
+use lib.ListN.{getD, set}
 use lib.Ieee.{Float}
 use Rattle.loops.specs.Count.{tab}
 use Rattle.label.specs.declared.Label.{Label}
@@ -22,6 +22,10 @@ segmentAt q k = record { trip = getD q (4 * k) 0; offset = getD q (4 * k + 1) 0;
 
 unfoldable pub queueOf : List ℕ → ℕ → List Segment
 queueOf q n = tab (segmentAt q) n
+
+-- a queue with this segment at row k
+unfoldable pub putSegment : Segment → List ℕ → ℕ → List ℕ
+putSegment g q k = set (set (set (set q (4 * k) (g .trip)) (4 * k + 1) (g .offset)) (4 * k + 2) (g .stop)) (4 * k + 3) (g .shift)
 
 -- what an arrival changes in memory: the working numbers, the labels and their distances, the head by value
 pub record Memory : Type 0 where
