@@ -1,0 +1,7 @@
+pub mod Part
+pub mod Labels
+pub mod Marking
+pub mod Steps
+pub mod Queue
+pub mod Starts
+pub mod Filling

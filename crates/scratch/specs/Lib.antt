@@ -1,0 +1,5 @@
+pub mod Part
+pub mod Places
+pub mod View
+pub mod Step
+pub mod Fill

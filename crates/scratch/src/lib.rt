@@ -1,0 +1,377 @@
+// scratch: a query's state in memory (the Rust's TbrScratch), an arrival, a queued segment.
+// Specs: where the sections of the working numbers begin (Places), the state seen as the model's (View), what a call does to it
+// (Step).
+// Proves: each function is the model's function of the same name on the state seen so, for all tables and queries that agree with
+// what it reads; all else in memory is as it came.
+// Assumes nothing.
+ghost use mathlib.Core.Path.{_≡_};
+ghost use Prim.Native.Nat.{ℕ, _+_, _*_, _-_, _/_, _≤_, _<_};
+ghost use mathlib.Core.Bool.{cond, _&&_};
+ghost use mathlib.Core.List.{List, []};
+ghost use lib.ListN.{length, getD, set, replicate};
+ghost use lib.Ieee.{Float};
+ghost use Rattle.label.specs.Label.{noDistance};
+ghost use Rattle.tables.specs.Timetable.{timetable};
+ghost use Rattle.model.specs.Tables.{noWindows, stopAt};
+ghost use Rattle.model.specs.Search.{improve as improved, relax as relaxed, enqueue as enqueued, setOut};
+ghost use Rattle.scratch.specs.Places.{Sized, Same, Counted, Grown, Walks, EgressTable, restAt};
+ghost use Rattle.scratch.specs.View.{memory, putSegment};
+ghost use Rattle.scratch.specs.Step.{Stamp, Ready, Step, QueueStep, Starting, StartStep, Entered, Marked, bestBy, Alighting};
+ghost use Rattle.scratch.specs.Fill.{Filled, Fresh, EgressRows, Egressed, egressOf};
+use label::Label;
+use tables::Counts;
+
+// How many stops, trips and lines, and where the list of reached stops that is being filled and the other one begin.
+pub struct Lay {
+    pub stops: usize,
+    pub trips: usize,
+    pub lines: usize,
+    pub list: usize,
+    pub other: usize,
+}
+
+// The best total so far, how many stops the list has, how many segments the queue has, and whether one did not fit.
+pub struct Head {
+    pub best: u32,
+    pub count: usize,
+    pub queued: usize,
+    pub full: bool,
+}
+
+// The best total after an arrival at `v` at a stop with this number in the egress table.
+pub fn best_after(word: u32, v: u32, best: u32) -> u32
+    requires { ⌜ word ≤ 1048576 ⌝ ∗ ⌜ v < 134217728 ⌝ }
+    ensures { λ r. ⌜ r ≡ bestBy word v best ⌝ }
+{
+    if word == 0 {
+        return best;
+    }
+    let total = v + (word - 1);
+    if total < best { total } else { best }
+}
+
+// Stop `s`, reached at `v`, is stamped and put at the end of the list.
+fn enter(lay: Lay, stamp: u32, s: usize, v: u32, work: &mut [u32], count: usize)
+    requires { ⌜ Sized lay (length (now work)) (lay .stops * 104) (lay .stops * 13) ⌝ ∗ ⌜ s < lay .stops ⌝ ∗ ⌜ count < lay .stops + 64 ⌝ }
+    ensures { λ _. ⌜ Entered lay stamp s v (now (work .entry)) (now (work .exit)) count ⌝ }
+{
+    let at = lay.stops + s;
+    let end = lay.list + count;
+    work[s] = v;
+    work[at] = stamp;
+    work[end] = s as u32;
+}
+
+// Stop `s`, reached at `v`, among the working numbers. The answer is how many stops the list has then.
+fn mark(lay: Lay, stamp: u32, s: usize, v: u32, work: &mut [u32], count: usize) -> usize
+    requires { ⌜ Sized lay (length (now work)) (lay .stops * 104) (lay .stops * 13) ⌝ ∗ ⌜ Counted lay stamp (now work) count ⌝ ∗ ⌜ s < lay .stops ⌝ }
+    ensures { λ n. ⌜ Marked lay stamp s v (now (work .entry)) (now (work .exit)) count n ⌝ }
+{
+    let at = lay.stops + s;
+    if work[at] == stamp {
+        work[s] = v;
+        return count;
+    }
+    enter(lay, stamp, s, v, work, count);
+    count + 1
+}
+
+// An arrival at stop `s` at `v`, with its label.
+pub fn improve(
+    lay: Lay,
+    stamp: u32,
+    s: usize,
+    v: u32,
+    how: Label,
+    work: &mut [u32],
+    labels: &mut [u32],
+    distances: &mut [f64],
+    h: Head,
+) -> Head
+    requires { ⌜ Ready lay stamp (memory (now work) (now labels) (now distances) h) ⌝ ∗ ⌜ s < lay .stops ⌝ ∗ ⌜ v < 134217728 ⌝ }
+    ensures { λ x. ⌜ Step lay stamp (λ T Q. EgressTable (Q .egress) lay (now (work .entry))) (λ T Q. improved T Q stamp s v how) (memory (now (work .entry)) (now (labels .entry)) (now (distances .entry)) h) (memory (now (work .exit)) (now (labels .exit)) (now (distances .exit)) x) ⌝ }
+{
+    let at = lay.stops * 4 + lay.trips + 128 + s;
+    let best = best_after(work[at], v, h.best);
+    let row = 13 * s + (stamp - 1) as usize;
+    let count = mark(lay, stamp, s, v, work, h.count);
+    label::store_label(how, labels, distances, row);
+    Head {
+        best,
+        count,
+        queued: h.queued,
+        full: h.full,
+    }
+}
+
+// The same, where it is earlier than the stop's earliest arrival.
+pub fn relax(
+    lay: Lay,
+    stamp: u32,
+    s: usize,
+    v: u32,
+    how: Label,
+    work: &mut [u32],
+    labels: &mut [u32],
+    distances: &mut [f64],
+    h: Head,
+) -> Head
+    requires { ⌜ Ready lay stamp (memory (now work) (now labels) (now distances) h) ⌝ ∗ ⌜ s < lay .stops ⌝ ∗ ⌜ v < 134217728 ⌝ }
+    ensures { λ x. ⌜ Step lay stamp (λ T Q. EgressTable (Q .egress) lay (now (work .entry))) (λ T Q. relaxed T Q stamp s v how) (memory (now (work .entry)) (now (labels .entry)) (now (distances .entry)) h) (memory (now (work .exit)) (now (labels .exit)) (now (distances .exit)) x) ⌝ }
+{
+    if work[s] <= v {
+        return h;
+    }
+    improve(lay, stamp, s, v, how, work, labels, distances, h)
+}
+
+// A segment of a trip: where it is boarded, and its time shift as bits.
+pub struct Seg {
+    pub trip: u32,
+    pub offset: u32,
+    pub stop: u32,
+    pub shift: u32,
+}
+
+// A segment into row `k` of a queue.
+fn put_segment(seg: Seg, queue: &mut [u32], k: usize)
+    requires { ⌜ 4 * k + 4 ≤ length (now queue) ⌝ }
+    ensures { λ _. ⌜ now (queue .exit) ≡ putSegment (record { trip = seg .trip; offset = seg .offset; stop = seg .stop; shift = seg .shift }) (now (queue .entry)) k ⌝ }
+{
+    let at = 4 * k;
+    queue[at] = seg.trip;
+    queue[at + 1] = seg.offset;
+    queue[at + 2] = seg.stop;
+    queue[at + 3] = seg.shift;
+}
+
+// The least queued offset of a trip without windows.
+fn lower(plain: bool, at: usize, offset: u32, work: &mut [u32])
+    requires { ⌜ at < length (now work) ⌝ }
+    ensures { λ _. ⌜ now (work .exit) ≡ cond plain (set (now (work .entry)) at offset) (now (work .entry)) ⌝ }
+{
+    if !plain {
+        return;
+    }
+    work[at] = offset;
+}
+
+// A segment is queued; `plain`: its trip has no windows.
+pub fn enqueue(
+    lay: Lay,
+    plain: bool,
+    seg: Seg,
+    work: &mut [u32],
+    queue: &mut [u32],
+    h: Head,
+) -> Head
+    requires { ⌜ Sized lay (length (now work)) (lay .stops * 104) (lay .stops * 13) ⌝ ∗ ⌜ seg .trip < lay .trips ⌝ ∗ ⌜ h .queued ≤ length (now queue) / 4 ⌝ }
+    ensures { λ x. ⌜ ((stamp : ℕ) (l : List ℕ) (m : List Float) → Ready lay stamp (memory (now (work .entry)) l m h) → QueueStep lay stamp (λ T Q. noWindows T (seg .trip) ≡ plain) (λ T Q. enqueued T Q (seg .trip) (seg .offset) (seg .stop) (seg .shift)) (memory (now (work .entry)) l m h) (memory (now (work .exit)) l m x) (now (queue .entry)) (now (queue .exit))) ⌝ }
+{
+    let at = lay.stops * 2 + seg.trip as usize;
+    let offset = seg.offset;
+    let queued = h.queued;
+    if door::both(plain, work[at] <= offset) {
+        return Head {
+            best: h.best,
+            count: h.count,
+            queued,
+            full: false,
+        };
+    }
+    if queue.len() / 4 <= queued {
+        return Head {
+            best: h.best,
+            count: h.count,
+            queued,
+            full: true,
+        };
+    }
+    put_segment(seg, queue, queued);
+    lower(plain, at, offset, work);
+    Head {
+        best: h.best,
+        count: h.count,
+        queued: queued + 1,
+        full: false,
+    }
+}
+
+// An origin: its stop and access walk.
+pub fn set_out(
+    lay: Lay,
+    start: u32,
+    stop: u32,
+    duration: u32,
+    distance: f64,
+    work: &mut [u32],
+    labels: &mut [u32],
+    distances: &mut [f64],
+    h: Head,
+) -> Head
+    requires { ⌜ Starting lay (memory (now work) (now labels) (now distances) h) ⌝ ∗ ⌜ stop < lay .stops ⌝ ∗ ⌜ start + duration < 134217728 ⌝ }
+    ensures { λ x. ⌜ StartStep lay (λ T Q. EgressTable (Q .egress) lay (now (work .entry)) × (Q .start ≡ start)) (λ T Q. setOut T Q (record { stop = stop; duration = duration; distance = distance })) (memory (now (work .entry)) (now (labels .entry)) (now (distances .entry)) h) (memory (now (work .exit)) (now (labels .exit)) (now (distances .exit)) x) ⌝ }
+{
+    let v = start + duration;
+    let s = stop as usize;
+    let count = h.count;
+    let at = lay.stops * 4 + lay.trips + 128 + s;
+    let best = best_after(work[at], v, h.best);
+    if work[s] <= v {
+        return Head {
+            best,
+            count,
+            queued: h.queued,
+            full: h.full,
+        };
+    }
+    enter(lay, 1, s, v, work, count);
+    let how = Label::Access {
+        stop_idx: stop,
+        arrival_s: v,
+        walk_duration: duration,
+        walk_distance: distance,
+    };
+    label::store_label(how, labels, distances, label::record_of(stop, 0));
+    Head {
+        best,
+        count: count + 1,
+        queued: h.queued,
+        full: h.full,
+    }
+}
+
+// A ride: stamp, trip, boarding stop and offset, time shift.
+pub struct Ride {
+    pub stamp: u32,
+    pub trip: u32,
+    pub stop: u32,
+    pub offset: u32,
+    pub shift: u32,
+}
+
+// Alighting at `v` at the trip's stop time at offset `p`: one turn of the first loop of scan_trip_forward.
+pub fn alight(
+    t: &[u32],
+    c: Counts,
+    lay: Lay,
+    ride: Ride,
+    p: usize,
+    v: u32,
+    work: &mut [u32],
+    labels: &mut [u32],
+    distances: &mut [f64],
+    h: Head,
+) -> Head
+    requires { ⌜ Alighting (now t) c lay ride p ⌝ ∗ ⌜ Ready lay (ride .stamp) (memory (now work) (now labels) (now distances) h) ⌝ ∗ ⌜ v < 134217728 ⌝ }
+    ensures { λ x. ⌜ Step lay (ride .stamp) (λ T Q. EgressTable (Q .egress) lay (now (work .entry)) × (T .timetable ≡ timetable (now (t .entry)) c)) (λ T Q. relaxed T Q (ride .stamp) (stopAt T (ride .trip) p) v (Label.Transit v (ride .trip) (ride .stop) (ride .offset) p (ride .stamp - 2) (ride .shift))) (memory (now (work .entry)) (now (labels .entry)) (now (distances .entry)) h) (memory (now (work .exit)) (now (labels .exit)) (now (distances .exit)) x) ⌝ }
+{
+    let first = tables::trip(t, c, ride.trip as usize, 0);
+    let s = tables::time(t, c, first + p, 0);
+    let how = Label::Transit {
+        arrival_s: v,
+        trip_idx: ride.trip,
+        board_stop: ride.stop,
+        board_off: ride.offset,
+        alight_off: p as u32,
+        prev_round: ride.stamp - 2,
+        time_shift_s: ride.shift,
+    };
+    relax(lay, ride.stamp, s, v, how, work, labels, distances, h)
+}
+
+// The numbers from `from` up to `to` become `v`.
+pub fn fill(words: &mut [u32], from: usize, to: usize, v: u32)
+    requires { ⌜ from ≤ to ⌝ ∗ ⌜ to ≤ length (now words) ⌝ }
+    ensures { λ _. ⌜ Filled from to v (now (words .entry)) (now (words .exit)) ⌝ }
+{
+    let mut i = from;
+    while i < to {
+        words[i] = v;
+        i += 1;
+    }
+}
+
+// The numbers from `from` up to `to` become 0.
+pub fn clear(words: &mut [u32], from: usize, to: usize)
+    requires { ⌜ from ≤ to ⌝ ∗ ⌜ to ≤ length (now words) ⌝ }
+    ensures { λ _. ⌜ Filled from to 0 (now (words .entry)) (now (words .exit)) ⌝ }
+{
+    fill(words, from, to, 0);
+}
+
+// All numbers become 0.
+pub fn zero_words(words: &mut [u32])
+    ensures { λ _. ⌜ now (words .exit) ≡ replicate (length (now (words .entry))) 0 ⌝ }
+{
+    clear(words, 0, words.len());
+}
+
+// All distances become +0.0.
+pub fn zero_distances(distances: &mut [f64])
+    ensures { λ _. ⌜ now (distances .exit) ≡ replicate (length (now (distances .entry))) noDistance ⌝ }
+{
+    let mut i: usize = 0;
+    while i < distances.len() {
+        distances[i] = 0.0;
+        i += 1;
+    }
+}
+
+// Labels, their distances and the working numbers become 0.
+pub fn zero_all(work: &mut [u32], labels: &mut [u32], distances: &mut [f64])
+    ensures { λ _. ⌜ now (work .exit) ≡ replicate (length (now (work .entry))) 0 ⌝ ∗ ⌜ now (labels .exit) ≡ replicate (length (now (labels .entry))) 0 ⌝ ∗ ⌜ now (distances .exit) ≡ replicate (length (now (distances .entry))) noDistance ⌝ }
+{
+    zero_words(work);
+    zero_words(labels);
+    zero_distances(distances);
+}
+
+// A new query's state.
+pub fn reset(lay: Lay, work: &mut [u32], labels: &mut [u32], distances: &mut [f64]) -> Head
+    requires { ⌜ Sized lay (length (now work)) (length (now labels)) (length (now distances)) ⌝ }
+    ensures { λ x. ⌜ Fresh lay (memory (now (work .exit)) (now (labels .exit)) (now (distances .exit)) x) ⌝ ∗ ⌜ now (distances .exit) ≡ replicate (length (now (distances .entry))) noDistance ⌝ }
+{
+    zero_all(work, labels, distances);
+    let reach = lay.stops * 2;
+    fill(work, 0, lay.stops, 4294967295);
+    fill(work, reach, reach + lay.trips, 4294967295);
+    Head {
+        best: 4294967295,
+        count: 0,
+        queued: 0,
+        full: false,
+    }
+}
+
+// One egress stop of the query, its row at `at`, into the egress table.
+fn put_egress(lay: Lay, q: &[u32], at: usize, work: &mut [u32])
+    requires { ⌜ Sized lay (length (now work)) (lay .stops * 104) (lay .stops * 13) ⌝ ∗ ⌜ at + 1 < length (now q) ⌝ ∗ ⌜ getD (now q) at 0 < lay .stops ⌝ ∗ ⌜ getD (now q) (at + 1) 0 ≤ 1048575 ⌝ }
+    ensures { λ _. ⌜ now (work .exit) ≡ set (now (work .entry)) (restAt lay + getD (now (q .entry)) at 0) (getD (now (q .entry)) (at + 1) 0 + 1) ⌝ }
+{
+    let i = lay.stops * 4 + lay.trips + 128 + tables::field(q, at);
+    let d = q[at + 1];
+    work[i] = d + 1;
+}
+
+// All of them, into an empty egress table, the last row first.
+fn put_egresses(lay: Lay, q: &[u32], first: usize, n: usize, work: &mut [u32])
+    requires { ⌜ Sized lay (length (now work)) (lay .stops * 104) (lay .stops * 13) ⌝ ∗ ⌜ EgressRows lay (now q) first n ⌝ ∗ ⌜ Egressed [] lay (now work) (now work) ⌝ }
+    ensures { λ _. ⌜ Egressed (egressOf (now (q .entry)) first n) lay (now (work .entry)) (now (work .exit)) ⌝ }
+{
+    let mut k = n;
+    while 0 < k {
+        k -= 1;
+        put_egress(lay, q, first + 2 * k, work);
+    }
+}
+
+// The egress table: 0 for no egress stop, else its walk + 1.
+pub fn fill_egress(lay: Lay, q: &[u32], first: usize, n: usize, work: &mut [u32])
+    requires { ⌜ Sized lay (length (now work)) (lay .stops * 104) (lay .stops * 13) ⌝ ∗ ⌜ EgressRows lay (now q) first n ⌝ }
+    ensures { λ _. ⌜ Egressed (egressOf (now (q .entry)) first n) lay (now (work .entry)) (now (work .exit)) ⌝ }
+{
+    let rest = lay.stops * 4 + lay.trips + 128;
+    clear(work, rest, rest + lay.stops);
+    put_egresses(lay, q, first, n, work);
+}
