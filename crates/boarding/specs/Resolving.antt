@@ -14,6 +14,8 @@ use Rattle.frequency.specs.Gtfs.{windowOf, earliestFreqBoard}
 use Rattle.tables.specs.Timetable.{Timetable, timeAt}
 use Rattle.model.specs.Tables.{Tables, Query, trips, stopCount, departure, noPickup, noWindows, position, fifo, usable}
 use Rattle.model.specs.Search.{delayOf, skipped, marginOf, boardAt}
+use Rattle.tables.specs.declared.Counts.{Counts}
+use Rattle.transfers.specs.Transfers.{Transfer}
 use Rattle.boarding.specs.declared.Tried.{Tried}
 use Rattle.boarding.specs.declared.Tried.the-variants.{Next, Stop, Take}
 use Rattle.boarding.specs.declared.Resolved.{Resolved}
@@ -56,3 +58,40 @@ abbrev pub goOn : Tried → ℕ → Option (ℕ × Boarding) → Option (ℕ × 
 goOn Next t later = later
 goOn Stop t later = none
 goOn (Take b) t later = some (t, b)
+
+-- a transfer to this trip at this offset
+pub record Names (e : Transfer) (target off : ℕ) : Type 0 where
+  pub target : e .target ≡ target
+  pub offset : e .offset ≡ off
+
+-- WHERE THE LINES' TABLES STAND: in `built` each trip's line, then the lines' runs (two words each), then the entries; in `work`
+-- the positions and the FIFO flags
+abbrev pub linedOf : Counts → ℕ → Lined
+linedOf c lines =
+    record { lines = lines; runs = c .trips; entries = c .trips + lines * 2; positions = c .stops * 5 + c .trips + 128; fifo = c .stops * 5 + c .trips * 2 + 128 }
+
+-- the run of line l: its first entry, how many
+abbrev pub runFirst : Lined → List ℕ → ℕ → ℕ
+runFirst n built l = getD built (n .runs + l * 2) 0
+
+abbrev pub runCount : Lined → List ℕ → ℕ → ℕ
+runCount n built l = getD built (n .runs + l * 2 + 1) 0
+
+-- both slices have them
+pub record LinesHeld (c : Counts) (n : Lined) (built work : List ℕ) : Type 0 where
+  pub few : n .lines ≤ 4096
+  pub near : (n .runs < 4294967296) × (n .entries < 4294967296) × (n .positions < 4294967296) × (n .fifo < 4294967296)
+  pub trips : c .trips ≤ length built
+  pub runs : n .runs + n .lines * 2 ≤ length built
+  pub entries : (l : ℕ) → l < n .lines → n .entries + (runFirst n built l + runCount n built l) ≤ length built
+  pub positions : n .positions + c .trips ≤ length work
+  pub fifo : n .fifo + n .lines ≤ length work
+
+-- tables whose lines, positions and FIFO flags are these
+pub record LinesOf (T : Tables) (c : Counts) (n : Lined) (built work : List ℕ) : Type 0 where
+  pub lines : T .lines ≡ n .lines
+  pub lineOf : (i : ℕ) → i < c .trips → T .lineOf i ≡ getD built i 0
+  pub count : (l : ℕ) → l < n .lines → T .line l .count ≡ runCount n built l
+  pub entry : (l p : ℕ) → l < n .lines → p < runCount n built l → T .line l .trip p ≡ getD built (n .entries + runFirst n built l + p) 0
+  pub position : (i : ℕ) → i < c .trips → position T i ≡ getD work (n .positions + i) 0
+  pub fifo : (l : ℕ) → l < n .lines → one (fifo T l) ≡ getD work (n .fifo + l) 0

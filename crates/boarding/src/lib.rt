@@ -5,23 +5,24 @@
 // Proves: each function equal to the model's definition of the same name, for all tables and queries that agree.
 // Assumes nothing.
 ghost use mathlib.Core.Path.{_≡_};
-ghost use Prim.Native.Nat.{ℕ, _+_, _*_, _≤_, _<_};
+ghost use Prim.Native.Nat.{ℕ, _+_, _*_, _≤_, _<_, min};
 ghost use mathlib.Core.Bool.{Bool, _&&_, _||_, not};
 ghost use mathlib.Core.List.{List};
 ghost use lib.ListN.{length, getD};
-ghost use lib.Dec.{leb};
+ghost use lib.Dec.{ltb, leb, eqb};
 ghost use Rattle.door.specs.Door.{timeLimit};
 ghost use Rattle.realtime.specs.Times.{sizeOf};
 ghost use Rattle.realtime.specs.Door.{Bounded};
 ghost use Rattle.tables.specs.Tables.{timeOf, firstOf, tripOf};
 ghost use Rattle.tables.specs.Timetable.{timetable};
-ghost use Rattle.tables.specs.Sane.{Sane};
+ghost use Rattle.tables.specs.Sane.{CountsOk, Sane};
 ghost use Rattle.delays.specs.Flat.{delayCount, delayRowAt, delayTables};
 ghost use Rattle.delays.specs.Sane.{DelayRows};
 ghost use Rattle.model.specs.Tables.{Tables, Query, modeWanted, usable, permitted, noPickup, noWindows, departure};
-ghost use Rattle.model.specs.Search.{delayOf, delayAt, skipped, departureNow, arrivalNow, boardAt, marginOf, resolveIn};
+ghost use Rattle.model.specs.Search.{delayOf, delayAt, skipped, departureNow, arrivalNow, boardAt, marginOf, lineAt, resolveIn, resolve};
+ghost use Rattle.transfers.specs.Transfers.{Transfer};
 ghost use Rattle.boarding.specs.Reads.{hitOf, Known, Ground, Event, Agree, Asks};
-ghost use Rattle.boarding.specs.Resolving.{freqBoardAt, weighed, tried, resolvedOf, Listed};
+ghost use Rattle.boarding.specs.Resolving.{freqBoardAt, weighed, tried, resolvedOf, Listed, Names, linedOf, LinesHeld, LinesOf};
 use delays::Found;
 use frequency::Boarding;
 use frequency::FreqBoard;
@@ -344,4 +345,130 @@ fn resolve_in(
         }
     }
     Resolved::Unresolved
+}
+
+// The smaller of two.
+fn smaller(a: usize, b: usize) -> usize
+    ensures { λ r. ⌜ r ≡ min a b ⌝ }
+{
+    if a < b { a } else { b }
+}
+
+// The line of a trip; a trip past the table has none.
+pub fn line_at(c: Counts, built: &[u32], trip: usize) -> usize
+    requires { ⌜ c .trips ≤ length (now built) ⌝ }
+    ensures { λ r. ⌜ r < 4294967296 ⌝ ∗ ⌜ ((T : Tables) (n : Lined) (work : List ℕ) → T .timetable .trips ≡ c .trips → LinesOf T c n (now (built .entry)) work → r ≡ lineAt T trip) ⌝ }
+{
+    if c.trips <= trip {
+        return 4294967295;
+    }
+    tables::field(built, trip)
+}
+
+// Does the trip at place p of a run of `count` entries from `first` on exist, and is it the target?
+fn stands(built: &[u32], first: usize, count: usize, p: usize, target: usize) -> bool
+    requires { ⌜ first + count ≤ length (now built) ⌝ }
+    ensures { λ r. ⌜ r ≡ (ltb p count && eqb (getD (now (built .entry)) (first + p) 0) target) ⌝ }
+{
+    if count <= p {
+        return false;
+    }
+    tables::field(built, first + p) == target
+}
+
+// The target alone.
+fn resolve_alone(
+    t: &[u32],
+    c: Counts,
+    rows: &[u32],
+    stop_rows: &[u32],
+    w: Terms,
+    is_fifo: bool,
+    target: u32,
+    off: usize,
+    after: u32,
+    best: u32,
+) -> Resolved
+    requires { ⌜ Ground (now t) c (now rows) (now «stop_rows») ⌝ ∗ ⌜ after < 134217728 ⌝ }
+    ensures { λ r. ⌜ ((T : Tables) (Q : Query) → Agree T Q (now (t .entry)) c (now (rows .entry)) (now («stop_rows» .entry)) → Asks Q w → resolvedOf r ≡ resolveIn T Q «is_fifo» off after best (λ p. target) (min 1 (Q .settings .lineScan)) 0) ⌝ }
+{
+    if w.line_scan == 0 {
+        return Resolved::Unresolved;
+    }
+    let trip = target as usize;
+    let step = try_trip(t, c, rows, stop_rows, w, is_fifo, trip, off, after, best);
+    let Tried::Take(b) = step else {
+        return Resolved::Unresolved;
+    };
+    Resolved::Trip(target, b)
+}
+
+// A transfer to a trip of this line: at most line_scan trips of the line from the target's position on, or the target alone
+// where it does not stand there.
+fn resolve_line(
+    t: &[u32],
+    c: Counts,
+    rows: &[u32],
+    stop_rows: &[u32],
+    built: &[u32],
+    work: &[u32],
+    n: Lined,
+    w: Terms,
+    line: usize,
+    target: u32,
+    off: usize,
+    after: u32,
+    best: u32,
+) -> Resolved
+    requires { ⌜ Ground (now t) c (now rows) (now «stop_rows») ⌝ ∗ ⌜ after < 134217728 ⌝ ∗ ⌜ LinesHeld c n (now built) (now work) ⌝ ∗ ⌜ (line < n .lines) × (target < c .trips) ⌝ }
+    ensures { λ r. ⌜ ((T : Tables) (Q : Query) (e : Transfer) → Agree T Q (now (t .entry)) c (now (rows .entry)) (now («stop_rows» .entry)) → Asks Q w → LinesOf T c n (now (built .entry)) (now (work .entry)) → Names e target off → line ≡ lineAt T target → resolvedOf r ≡ resolve T Q e after best) ⌝ }
+{
+    let is_fifo = tables::field(work, n.fifo + line) == 1;
+    let first = n.entries + tables::field(built, n.runs + line * 2);
+    let count = tables::field(built, n.runs + line * 2 + 1);
+    let p = tables::field(work, n.positions + target as usize);
+    if !stands(built, first, count, p, target as usize) {
+        return resolve_alone(t, c, rows, stop_rows, w, is_fifo, target, off, after, best);
+    }
+    let k = smaller(count - p, w.line_scan as usize);
+    resolve_in(t, c, rows, stop_rows, built, w, is_fifo, first + p, k, off, after, best)
+}
+
+// What a transfer to a trip at an offset leads to, not before `after` and before the best total.
+pub fn resolve(
+    t: &[u32],
+    c: Counts,
+    rows: &[u32],
+    stop_rows: &[u32],
+    built: &[u32],
+    work: &[u32],
+    n: Lined,
+    w: Terms,
+    target: u32,
+    off: usize,
+    after: u32,
+    best: u32,
+) -> Resolved
+    requires { ⌜ Ground (now t) c (now rows) (now «stop_rows») ⌝ ∗ ⌜ after < 134217728 ⌝ ∗ ⌜ LinesHeld c n (now built) (now work) ⌝ }
+    ensures { λ r. ⌜ ((T : Tables) (Q : Query) (e : Transfer) → Agree T Q (now (t .entry)) c (now (rows .entry)) (now («stop_rows» .entry)) → Asks Q w → LinesOf T c n (now (built .entry)) (now (work .entry)) → Names e target off → resolvedOf r ≡ resolve T Q e after best) ⌝ }
+{
+    let line = line_at(c, built, target as usize);
+    if n.lines <= line {
+        return resolve_alone(t, c, rows, stop_rows, w, false, target, off, after, best);
+    }
+    resolve_line(t, c, rows, stop_rows, built, work, n, w, line, target, off, after, best)
+}
+
+// Where the tables of lines stand in a query's memory.
+pub fn lined(c: Counts, lines: usize) -> Lined
+    requires { ⌜ CountsOk c ⌝ ∗ ⌜ lines ≤ 4096 ⌝ }
+    ensures { λ r. ⌜ r ≡ linedOf c lines ⌝ }
+{
+    Lined {
+        lines: lines,
+        runs: c.trips,
+        entries: c.trips + lines * 2,
+        positions: c.stops * 5 + c.trips + 128,
+        fifo: c.stops * 5 + c.trips * 2 + 128,
+    }
 }

@@ -38,22 +38,15 @@ module _ (N : Net) where
   imp-filled r s v c b i F =
       record {
         held = λ x h l. ⊎-elim
-            (λ (e : x ≡ s). (
-              suc (suc r) - 1,
-              omega arith,
-              subst (λ (y : ℕ). getD (set (c .lab) (13 * s + (suc (suc r) - 1)) (suc v)) (13 * y + (suc (suc r) - 1)) 0 ≡ suc (getD (set (c .E) s v) y 0)) (sym e)
-                  (set-there (c .lab) (13 * s + (suc (suc r) - 1)) (suc v) (omega (arith, F .rows, i, b)) ∙ ap suc (sym (set-there (c .E) s v (omega (arith, F .stops, i))))),
-            ))
+            (λ (e : x ≡ s). (suc (suc r) - 1, omega arith,
+            subst (λ (y : ℕ). getD (set (c .lab) (13 * s + (suc (suc r) - 1)) (suc v)) (13 * y + (suc (suc r) - 1)) 0 ≡ suc (getD (set (c .E) s v) y 0)) (sym e)
+            (set-there (c .lab) (13 * s + (suc (suc r) - 1)) (suc v) (omega (arith, F .rows, i, b)) ∙ ap suc (sym (set-there (c .E) s v (omega (arith, F .stops, i)))))))
             (λ (n : x ≡ s → ⊥). ⊎-elim
             (λ p. absurd (n (p .0)))
-            (λ p. let f = F .held x h (omega (arith, l, p)) in (
-              f .0,
-              f .1,
-              ⊎-elim
-                  (λ q. absurd (n (omega (arith, q .0, f .1, b))))
-                  (λ q. q ∙ (f .2 ∙ ap suc (sym p)))
-                  (set-cases (c .lab) (13 * s + (suc (suc r) - 1)) (suc v) (13 * x + f .0) 0),
-            ))
+            (λ p. let f = F .held x h (omega (arith, l, p)) in (f .0, f .1, ⊎-elim
+            (λ q. absurd (n (omega (arith, q .0, f .1, b))))
+            (λ q. q ∙ (f .2 ∙ ap suc (sym p)))
+            (set-cases (c .lab) (13 * s + (suc (suc r) - 1)) (suc v) (13 * x + f .0) 0)))
             (set-cases (c .E) s v x 0))
             (same x s);
         stops = length-set (c .E) s v ∙ F .stops;
@@ -158,22 +151,15 @@ module _ (N : Net) where
       one true =
           record {
             held = λ x h l. ⊎-elim
-                (λ (e : x ≡ o .0). (
-                  0,
-                  zero-le,
-                  subst (λ (y : ℕ). getD (set (c .lab) (13 * o .0 + 0) (suc (N .start + o .1))) (13 * y + 0) 0 ≡ suc (getD (set (c .E) (o .0) (N .start + o .1)) y 0)) (sym e)
-                      (set-there (c .lab) (13 * o .0 + 0) (suc (N .start + o .1)) (omega (arith, F .rows, i)) ∙ ap suc (sym (set-there (c .E) (o .0) (N .start + o .1) (omega (arith, F .stops, i))))),
-                ))
+                (λ (e : x ≡ o .0). (0, zero-le,
+                subst (λ (y : ℕ). getD (set (c .lab) (13 * o .0 + 0) (suc (N .start + o .1))) (13 * y + 0) 0 ≡ suc (getD (set (c .E) (o .0) (N .start + o .1)) y 0)) (sym e)
+                (set-there (c .lab) (13 * o .0 + 0) (suc (N .start + o .1)) (omega (arith, F .rows, i)) ∙ ap suc (sym (set-there (c .E) (o .0) (N .start + o .1) (omega (arith, F .stops, i)))))))
                 (λ (n : x ≡ o .0 → ⊥). ⊎-elim
                 (λ p. absurd (n (p .0)))
-                (λ p. let f = F .held x h (omega (arith, l, p)) in (
-                  f .0,
-                  f .1,
-                  ⊎-elim
-                      (λ q. absurd (n (omega (arith, q .0, f .1))))
-                      (λ q. q ∙ (f .2 ∙ ap suc (sym p)))
-                      (set-cases (c .lab) (13 * o .0 + 0) (suc (N .start + o .1)) (13 * x + f .0) 0),
-                ))
+                (λ p. let f = F .held x h (omega (arith, l, p)) in (f .0, f .1, ⊎-elim
+                (λ q. absurd (n (omega (arith, q .0, f .1))))
+                (λ q. q ∙ (f .2 ∙ ap suc (sym p)))
+                (set-cases (c .lab) (13 * o .0 + 0) (suc (N .start + o .1)) (13 * x + f .0) 0)))
                 (set-cases (c .E) (o .0) (N .start + o .1) x 0))
                 (same x (o .0));
             stops = length-set (c .E) (o .0) (N .start + o .1) ∙ F .stops;
