@@ -61,8 +61,8 @@ goOn (Take b) t later = some (t, b)
 
 -- a transfer to this trip at this offset
 pub record Names (e : Transfer) (target off : ℕ) : Type 0 where
-  pub target : e .target ≡ target
-  pub offset : e .offset ≡ off
+  pub trip : e .target ≡ target
+  pub place : e .offset ≡ off
 
 -- WHERE THE LINES' TABLES STAND: in `built` each trip's line, then the lines' runs (two words each), then the entries; in `work`
 -- the positions and the FIFO flags

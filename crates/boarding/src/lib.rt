@@ -357,7 +357,7 @@ fn smaller(a: usize, b: usize) -> usize
 // The line of a trip; a trip past the table has none.
 pub fn line_at(c: Counts, built: &[u32], trip: usize) -> usize
     requires { ⌜ c .trips ≤ length (now built) ⌝ }
-    ensures { λ r. ⌜ r < 4294967296 ⌝ ∗ ⌜ ((T : Tables) (n : Lined) (work : List ℕ) → T .timetable .trips ≡ c .trips → LinesOf T c n (now (built .entry)) work → r ≡ lineAt T trip) ⌝ }
+    ensures { λ r. ⌜ (r < 4294967296) × (r < 4294967295 → trip < c .trips) ⌝ ∗ ⌜ ((T : Tables) (n : Lined) (work : List ℕ) → T .timetable .trips ≡ c .trips → LinesOf T c n (now (built .entry)) work → r ≡ lineAt T trip) ⌝ }
 {
     if c.trips <= trip {
         return 4294967295;
@@ -397,10 +397,17 @@ fn resolve_alone(
     }
     let trip = target as usize;
     let step = try_trip(t, c, rows, stop_rows, w, is_fifo, trip, off, after, best);
-    let Tried::Take(b) = step else {
-        return Resolved::Unresolved;
-    };
-    Resolved::Trip(target, b)
+    match step {
+        Tried::Next => {
+            return Resolved::Unresolved;
+        }
+        Tried::Stop => {
+            return Resolved::Unresolved;
+        }
+        Tried::Take(b) => {
+            return Resolved::Trip(target, b);
+        }
+    }
 }
 
 // A transfer to a trip of this line: at most line_scan trips of the line from the target's position on, or the target alone
@@ -431,7 +438,20 @@ fn resolve_line(
         return resolve_alone(t, c, rows, stop_rows, w, is_fifo, target, off, after, best);
     }
     let k = smaller(count - p, w.line_scan as usize);
-    resolve_in(t, c, rows, stop_rows, built, w, is_fifo, first + p, k, off, after, best)
+    resolve_in(
+        t,
+        c,
+        rows,
+        stop_rows,
+        built,
+        w,
+        is_fifo,
+        first + p,
+        k,
+        off,
+        after,
+        best,
+    )
 }
 
 // What a transfer to a trip at an offset leads to, not before `after` and before the best total.
@@ -456,11 +476,25 @@ pub fn resolve(
     if n.lines <= line {
         return resolve_alone(t, c, rows, stop_rows, w, false, target, off, after, best);
     }
-    resolve_line(t, c, rows, stop_rows, built, work, n, w, line, target, off, after, best)
+    resolve_line(
+        t,
+        c,
+        rows,
+        stop_rows,
+        built,
+        work,
+        n,
+        w,
+        line,
+        target,
+        off,
+        after,
+        best,
+    )
 }
 
 // Where the tables of lines stand in a query's memory.
-pub fn lined(c: Counts, lines: usize) -> Lined
+pub fn line_tables(c: Counts, lines: usize) -> Lined
     requires { ⌜ CountsOk c ⌝ ∗ ⌜ lines ≤ 4096 ⌝ }
     ensures { λ r. ⌜ r ≡ linedOf c lines ⌝ }
 {
