@@ -1,0 +1,25 @@
+use Rattle.realtime.specs.declared.StopDelay.{StopDelay}
+use Rattle.realtime.specs.Times.{skippedAt}
+use mathlib.Core.Path.{_∙_, ap}
+use borrow.Author.Needs.{needs}
+use Rattle.boarding.proofs.skipped.Statement.{statement}
+use Rattle.boarding.proofs.skipped.Tie as tie
+use Rattle.boarding.proofs.skipped.Reads as reads
+use Rattle.boarding.proofs.skipped.Lts as lts
+use Rattle.boarding.proofs.delay_at.Reads as delay-at-reads
+use Rattle.realtime.proofs.is_skipped.Reads as is-skipped-reads
+
+-- src/lib.rt:146:26
+delay-at-requires : tie.Need-delay-at-requires
+delay-at-requires c κs = search needs
+
+-- src/lib.rt:146:5
+is-skipped-requires : tie.Need-is-skipped-requires
+is-skipped-requires c κs = search needs
+
+-- src/lib.rt:134:1
+returns : tie.Need-returns
+returns c = λ T Q g. c .is-skipped .ensures ∙ ap (λ (d : StopDelay). skippedAt (d .flags)) (c .before .delay-at .ensures .1 T Q g)
+
+pub skipped-spec : {M : Type 1} → statement M
+skipped-spec = tie.close (tie.spec delay-at-requires is-skipped-requires returns)

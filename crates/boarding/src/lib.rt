@@ -1,0 +1,508 @@
+// boarding: boarding a trip and resolving a transfer, the parts of a query that only read.
+// Delay rows and stop rows are lent as two slices of their own; lines' tables in `built` and positions and FIFO flags in `work`
+// by where they begin (`Lined`).
+// Specs: what is read, and which tables and queries agree with it (Reads); one trip of a line tried (Resolving).
+// Proves: each function equal to the model's definition of the same name, for all tables and queries that agree.
+// Assumes nothing.
+ghost use mathlib.Core.Path.{_≡_};
+ghost use Prim.Native.Nat.{ℕ, _+_, _*_, _≤_, _<_, min};
+ghost use mathlib.Core.Bool.{Bool, _&&_, _||_, not};
+ghost use mathlib.Core.List.{List};
+ghost use lib.ListN.{length, getD};
+ghost use lib.Dec.{ltb, leb, eqb};
+ghost use Rattle.door.specs.Door.{timeLimit};
+ghost use Rattle.realtime.specs.Times.{sizeOf};
+ghost use Rattle.realtime.specs.Door.{Bounded};
+ghost use Rattle.tables.specs.Tables.{timeOf, firstOf, tripOf};
+ghost use Rattle.tables.specs.Timetable.{timetable};
+ghost use Rattle.tables.specs.Sane.{CountsOk, Sane};
+ghost use Rattle.delays.specs.Flat.{delayCount, delayRowAt, delayTables};
+ghost use Rattle.delays.specs.Sane.{DelayRows};
+ghost use Rattle.model.specs.Tables.{Tables, Query, modeWanted, usable, permitted, noPickup, noWindows, departure};
+ghost use Rattle.model.specs.Search.{delayOf, delayAt, skipped, departureNow, arrivalNow, boardAt, marginOf, lineAt, resolveIn, resolve};
+ghost use Rattle.transfers.specs.Transfers.{Transfer};
+ghost use Rattle.boarding.specs.Reads.{hitOf, Known, Ground, Event, Agree, Asks};
+ghost use Rattle.boarding.specs.Resolving.{freqBoardAt, weighed, tried, resolvedOf, Listed, Names, linedOf, LinesHeld, LinesOf};
+use delays::Found;
+use frequency::Boarding;
+use frequency::FreqBoard;
+use realtime::StopDelay;
+use tables::Counts;
+
+// What of a query boarding goes by: wanted modes (seven bits, 0 means all), wheelchair, the delay margin, and how many trips
+// of a line are tried for a transfer.
+pub struct Terms {
+    pub modes: u32,
+    pub wheelchair: bool,
+    pub margin: u32,
+    pub line_scan: u32,
+}
+
+// How a trip of a line was tried.
+pub enum Tried {
+    Next,
+    Stop,
+    Take(Boarding),
+}
+
+// What a transfer leads to: the trip that is boarded, and how.
+pub enum Resolved {
+    Unresolved,
+    Trip(u32, Boarding),
+}
+
+// Where the lines' tables stand: how many lines, each trip's line, the lines' runs and entries in `built`; positions and FIFO
+// flags in `work`.
+pub struct Lined {
+    pub lines: usize,
+    pub runs: usize,
+    pub entries: usize,
+    pub positions: usize,
+    pub fifo: usize,
+}
+
+// Trips
+
+// Is a mode wanted?
+pub fn mode_wanted(modes: u32, mode: u32) -> bool
+    requires { ⌜ mode < 32 ⌝ }
+    ensures { λ r. ⌜ r ≡ modeWanted modes mode ⌝ }
+{
+    door::either(modes == 0, (modes >> mode) % 2 == 1)
+}
+
+// Active, not excluded, and fit for a wheelchair where one is asked for.
+pub fn usable(t: &[u32], c: Counts, w: Terms, i: usize) -> bool
+    requires { ⌜ Sane (now t) c ⌝ ∗ ⌜ i < c .trips ⌝ }
+    ensures { λ r. ⌜ ((T : Tables) (Q : Query) → T .timetable ≡ timetable (now (t .entry)) c → Asks Q w → r ≡ usable T Q i) ⌝ }
+{
+    let active = door::both(tables::trip(t, c, i, 6) == 1, tables::trip(t, c, i, 7) == 0);
+    let barred = door::both(w.wheelchair, tables::trip(t, c, i, 3) == 2);
+    door::both(active, !barred)
+}
+
+// Usable, and of a wanted mode.
+pub fn permitted(t: &[u32], c: Counts, w: Terms, i: usize) -> bool
+    requires { ⌜ Sane (now t) c ⌝ ∗ ⌜ i < c .trips ⌝ }
+    ensures { λ r. ⌜ ((T : Tables) (Q : Query) → T .timetable ≡ timetable (now (t .entry)) c → Asks Q w → r ≡ permitted T Q i) ⌝ }
+{
+    let mode = tables::trip(t, c, i, 2) as u32;
+    door::both(usable(t, c, w, i), mode_wanted(w.modes, mode))
+}
+
+// Delays
+
+// The delay row of a trip.
+pub fn delay_of(rows: &[u32], trip: u32) -> Found
+    requires { ⌜ DelayRows (delayCount (now rows)) (delayRowAt (now rows)) ⌝ }
+    ensures { λ r. ⌜ Known (now (rows .entry)) r ⌝ ∗ ⌜ ((Q : Query) (stops : List ℕ) → Q .delays ≡ delayTables (now (rows .entry)) stops → hitOf r ≡ delayOf Q trip) ⌝ }
+{
+    delays::delay_row(rows, trip)
+}
+
+// Field k of a trip's stop time.
+fn event_word(t: &[u32], c: Counts, trip: usize, off: usize, k: usize) -> u32
+    requires { ⌜ Sane (now t) c ⌝ ∗ ⌜ Event (now t) c trip off ⌝ ∗ ⌜ k < 6 ⌝ }
+    ensures { λ r. ⌜ r ≡ timeOf (now (t .entry)) (firstOf (now (t .entry)) c trip + off) k ⌝ }
+{
+    tables::time(t, c, tables::trip(t, c, trip, 0) + off, k) as u32
+}
+
+// What the delay rows say of a trip's stop time, where the trip's delay row is this.
+pub fn delay_at(
+    t: &[u32],
+    c: Counts,
+    rows: &[u32],
+    stop_rows: &[u32],
+    adj: Found,
+    trip: usize,
+    off: usize,
+) -> StopDelay
+    requires { ⌜ Ground (now t) c (now rows) (now «stop_rows») ⌝ ∗ ⌜ Known (now rows) adj ⌝ ∗ ⌜ Event (now t) c trip off ⌝ }
+    ensures { λ r. ⌜ Bounded r ⌝ ∗ ⌜ ((T : Tables) (Q : Query) → Agree T Q (now (t .entry)) c (now (rows .entry)) (now («stop_rows» .entry)) → r ≡ delayAt T Q (hitOf adj) trip off) ⌝ }
+{
+    let sequence = event_word(t, c, trip, off, 3);
+    match adj {
+        Found::At(i) => delays::stop_delay(rows, stop_rows, i, sequence),
+        Found::Nothing => realtime::no_delay(),
+    }
+}
+
+// Is the stop skipped?
+pub fn skipped(
+    t: &[u32],
+    c: Counts,
+    rows: &[u32],
+    stop_rows: &[u32],
+    adj: Found,
+    trip: usize,
+    off: usize,
+) -> bool
+    requires { ⌜ Ground (now t) c (now rows) (now «stop_rows») ⌝ ∗ ⌜ Known (now rows) adj ⌝ ∗ ⌜ Event (now t) c trip off ⌝ }
+    ensures { λ r. ⌜ ((T : Tables) (Q : Query) → Agree T Q (now (t .entry)) c (now (rows .entry)) (now («stop_rows» .entry)) → r ≡ skipped T Q (hitOf adj) trip off) ⌝ }
+{
+    realtime::is_skipped(delay_at(t, c, rows, stop_rows, adj, trip, off))
+}
+
+// The effective departure of a stop time.
+pub fn departure_now(
+    t: &[u32],
+    c: Counts,
+    rows: &[u32],
+    stop_rows: &[u32],
+    adj: Found,
+    trip: usize,
+    off: usize,
+) -> u32
+    requires { ⌜ Ground (now t) c (now rows) (now «stop_rows») ⌝ ∗ ⌜ Known (now rows) adj ⌝ ∗ ⌜ Event (now t) c trip off ⌝ }
+    ensures { λ r. ⌜ r ≤ 2097150 ⌝ ∗ ⌜ ((T : Tables) (Q : Query) → Agree T Q (now (t .entry)) c (now (rows .entry)) (now («stop_rows» .entry)) → r ≡ departureNow T Q (hitOf adj) trip off) ⌝ }
+{
+    let d = delay_at(t, c, rows, stop_rows, adj, trip, off);
+    realtime::rt_effective_dep_s(event_word(t, c, trip, off, 2), d)
+}
+
+// The effective arrival of a stop time on a ride with this shift.
+pub fn arrival_now(
+    t: &[u32],
+    c: Counts,
+    rows: &[u32],
+    stop_rows: &[u32],
+    adj: Found,
+    shift: u32,
+    trip: usize,
+    off: usize,
+) -> u32
+    requires { ⌜ Ground (now t) c (now rows) (now «stop_rows») ⌝ ∗ ⌜ Known (now rows) adj ⌝ ∗ ⌜ Event (now t) c trip off ⌝ ∗ ⌜ sizeOf shift ≤ timeLimit ⌝ }
+    ensures { λ r. ⌜ r ≤ 2097150 ⌝ ∗ ⌜ ((T : Tables) (Q : Query) → Agree T Q (now (t .entry)) c (now (rows .entry)) (now («stop_rows» .entry)) → r ≡ arrivalNow T Q (hitOf adj) shift trip off) ⌝ }
+{
+    let d = delay_at(t, c, rows, stop_rows, adj, trip, off);
+    realtime::rt_effective_arr_s(event_word(t, c, trip, off, 1), shift, d)
+}
+
+// Boarding
+
+// The earliest run of a frequency trip that leaves a stop time, whose effective departure is dep, not before `after`.
+fn freq_board_at(t: &[u32], c: Counts, trip: usize, dep: u32, after: u32) -> FreqBoard
+    requires { ⌜ Sane (now t) c ⌝ ∗ ⌜ trip < c .trips ⌝ ∗ ⌜ dep ≤ 2097150 ⌝ ∗ ⌜ after < 134217728 ⌝ }
+    ensures { λ r. ⌜ r ≡ freqBoardAt (timetable (now (t .entry)) c) trip dep after ⌝ }
+{
+    let base = event_word(t, c, trip, 0, 2);
+    let from = c.times * 6 + c.trips * 8 + tables::trip(t, c, trip, 4) * 3;
+    let end = from + tables::trip(t, c, trip, 5) * 3;
+    frequency::earliest_freq_board(&t[from..end], base, dep, after)
+}
+
+// Boarding a trip at an offset, not before `after`.
+pub fn board_at(
+    t: &[u32],
+    c: Counts,
+    rows: &[u32],
+    stop_rows: &[u32],
+    adj: Found,
+    trip: usize,
+    off: usize,
+    after: u32,
+) -> FreqBoard
+    requires { ⌜ Ground (now t) c (now rows) (now «stop_rows») ⌝ ∗ ⌜ Known (now rows) adj ⌝ ∗ ⌜ Event (now t) c trip off ⌝ ∗ ⌜ after < 134217728 ⌝ }
+    ensures { λ r. ⌜ ((T : Tables) (Q : Query) → Agree T Q (now (t .entry)) c (now (rows .entry)) (now («stop_rows» .entry)) → r ≡ boardAt T Q (hitOf adj) trip off after) ⌝ }
+{
+    let dep = departure_now(t, c, rows, stop_rows, adj, trip, off);
+    if tables::trip(t, c, trip, 5) != 0 {
+        return freq_board_at(t, c, trip, dep, after);
+    }
+    if dep < after {
+        return FreqBoard::Nothing;
+    }
+    let planned = event_word(t, c, trip, off, 2);
+    FreqBoard::Board(Boarding {
+        departure: dep,
+        time_shift_s: signed::difference(dep, planned),
+        window: 0,
+        run: 0,
+    })
+}
+
+// Resolving a transfer
+
+// On a FIFO line: does the trip depart so late that no delay brings it before the best total?
+fn too_late(
+    t: &[u32],
+    c: Counts,
+    w: Terms,
+    is_fifo: bool,
+    trip: usize,
+    off: usize,
+    best: u32,
+) -> bool
+    requires { ⌜ Sane (now t) c ⌝ ∗ ⌜ Event (now t) c trip off ⌝ }
+    ensures { λ r. ⌜ ((T : Tables) (Q : Query) → T .timetable ≡ timetable (now (t .entry)) c → Asks Q w → r ≡ ((«is_fifo» && leb (best + marginOf T Q) (departure T trip off)) && noWindows T trip)) ⌝ }
+{
+    let dep = event_word(t, c, trip, off, 2) as u64;
+    let late = best as u64 + w.margin as u64 <= dep;
+    door::both(door::both(is_fifo, late), tables::trip(t, c, trip, 5) == 0)
+}
+
+// Is the trip not usable, without pickup at the offset, or skipping it? Modes are not asked.
+fn barred(
+    t: &[u32],
+    c: Counts,
+    rows: &[u32],
+    stop_rows: &[u32],
+    w: Terms,
+    adj: Found,
+    trip: usize,
+    off: usize,
+) -> bool
+    requires { ⌜ Ground (now t) c (now rows) (now «stop_rows») ⌝ ∗ ⌜ Known (now rows) adj ⌝ ∗ ⌜ Event (now t) c trip off ⌝ }
+    ensures { λ r. ⌜ ((T : Tables) (Q : Query) → Agree T Q (now (t .entry)) c (now (rows .entry)) (now («stop_rows» .entry)) → Asks Q w → r ≡ ((not (usable T Q trip) || noPickup T trip off) || skipped T Q (hitOf adj) trip off)) ⌝ }
+{
+    let unfit = door::either(!usable(t, c, w, trip), event_word(t, c, trip, off, 4) == 1);
+    door::either(unfit, skipped(t, c, rows, stop_rows, adj, trip, off))
+}
+
+// A boarding against the best total.
+fn weigh(is_fifo: bool, best: u32, b: FreqBoard) -> Tried
+    ensures { λ r. ⌜ r ≡ weighed «is_fifo» best b ⌝ }
+{
+    let FreqBoard::Board(x) = b else {
+        return Tried::Next;
+    };
+    if x.departure < best {
+        return Tried::Take(x);
+    }
+    if is_fifo {
+        return Tried::Stop;
+    }
+    Tried::Next
+}
+
+// One trip of a line. One past the table is passed over.
+fn try_trip(
+    t: &[u32],
+    c: Counts,
+    rows: &[u32],
+    stop_rows: &[u32],
+    w: Terms,
+    is_fifo: bool,
+    trip: usize,
+    off: usize,
+    after: u32,
+    best: u32,
+) -> Tried
+    requires { ⌜ Ground (now t) c (now rows) (now «stop_rows») ⌝ ∗ ⌜ after < 134217728 ⌝ }
+    ensures { λ r. ⌜ ((T : Tables) (Q : Query) → Agree T Q (now (t .entry)) c (now (rows .entry)) (now («stop_rows» .entry)) → Asks Q w → r ≡ tried T Q «is_fifo» off after best trip) ⌝ }
+{
+    if c.trips <= trip {
+        return Tried::Next;
+    }
+    if tables::trip(t, c, trip, 1) <= off {
+        return Tried::Next;
+    }
+    if too_late(t, c, w, is_fifo, trip, off, best) {
+        return Tried::Stop;
+    }
+    let adj = delay_of(rows, trip as u32);
+    if barred(t, c, rows, stop_rows, w, adj, trip, off) {
+        return Tried::Next;
+    }
+    let b = board_at(t, c, rows, stop_rows, adj, trip, off, after);
+    weigh(is_fifo, best, b)
+}
+
+// The trips at k places of `built` from `from` on, one after the other.
+fn resolve_in(
+    t: &[u32],
+    c: Counts,
+    rows: &[u32],
+    stop_rows: &[u32],
+    built: &[u32],
+    w: Terms,
+    is_fifo: bool,
+    from: usize,
+    k: usize,
+    off: usize,
+    after: u32,
+    best: u32,
+) -> Resolved
+    requires { ⌜ Ground (now t) c (now rows) (now «stop_rows») ⌝ ∗ ⌜ after < 134217728 ⌝ ∗ ⌜ from + k ≤ length (now built) ⌝ }
+    ensures { λ r. ⌜ ((T : Tables) (Q : Query) (trip : ℕ → ℕ) (p : ℕ) → Agree T Q (now (t .entry)) c (now (rows .entry)) (now («stop_rows» .entry)) → Asks Q w → Listed trip p (now (built .entry)) from k → resolvedOf r ≡ resolveIn T Q «is_fifo» off after best trip k p) ⌝ }
+{
+    let mut j: usize = 0;
+    while j < k {
+        let trip = tables::field(built, from + j);
+        let step = try_trip(t, c, rows, stop_rows, w, is_fifo, trip, off, after, best);
+        match step {
+            Tried::Next => {
+                j += 1;
+                continue;
+            }
+            Tried::Stop => {
+                return Resolved::Unresolved;
+            }
+            Tried::Take(b) => {
+                return Resolved::Trip(trip as u32, b);
+            }
+        }
+    }
+    Resolved::Unresolved
+}
+
+// The smaller of two.
+fn smaller(a: usize, b: usize) -> usize
+    ensures { λ r. ⌜ r ≡ min a b ⌝ }
+{
+    if a < b { a } else { b }
+}
+
+// The line of a trip; a trip past the table has none.
+pub fn line_at(c: Counts, built: &[u32], trip: usize) -> usize
+    requires { ⌜ c .trips ≤ length (now built) ⌝ }
+    ensures { λ r. ⌜ (r < 4294967296) × (r < 4294967295 → trip < c .trips) ⌝ ∗ ⌜ ((T : Tables) (n : Lined) (work : List ℕ) → T .timetable .trips ≡ c .trips → LinesOf T c n (now (built .entry)) work → r ≡ lineAt T trip) ⌝ }
+{
+    if c.trips <= trip {
+        return 4294967295;
+    }
+    tables::field(built, trip)
+}
+
+// Does the trip at place p of a run of `count` entries from `first` on exist, and is it the target?
+fn stands(built: &[u32], first: usize, count: usize, p: usize, target: usize) -> bool
+    requires { ⌜ first + count ≤ length (now built) ⌝ }
+    ensures { λ r. ⌜ r ≡ (ltb p count && eqb (getD (now (built .entry)) (first + p) 0) target) ⌝ }
+{
+    if count <= p {
+        return false;
+    }
+    tables::field(built, first + p) == target
+}
+
+// The target alone.
+fn resolve_alone(
+    t: &[u32],
+    c: Counts,
+    rows: &[u32],
+    stop_rows: &[u32],
+    w: Terms,
+    is_fifo: bool,
+    target: u32,
+    off: usize,
+    after: u32,
+    best: u32,
+) -> Resolved
+    requires { ⌜ Ground (now t) c (now rows) (now «stop_rows») ⌝ ∗ ⌜ after < 134217728 ⌝ }
+    ensures { λ r. ⌜ ((T : Tables) (Q : Query) → Agree T Q (now (t .entry)) c (now (rows .entry)) (now («stop_rows» .entry)) → Asks Q w → resolvedOf r ≡ resolveIn T Q «is_fifo» off after best (λ p. target) (min 1 (Q .settings .lineScan)) 0) ⌝ }
+{
+    if w.line_scan == 0 {
+        return Resolved::Unresolved;
+    }
+    let trip = target as usize;
+    let step = try_trip(t, c, rows, stop_rows, w, is_fifo, trip, off, after, best);
+    match step {
+        Tried::Next => {
+            return Resolved::Unresolved;
+        }
+        Tried::Stop => {
+            return Resolved::Unresolved;
+        }
+        Tried::Take(b) => {
+            return Resolved::Trip(target, b);
+        }
+    }
+}
+
+// A transfer to a trip of this line: at most line_scan trips of the line from the target's position on, or the target alone
+// where it does not stand there.
+fn resolve_line(
+    t: &[u32],
+    c: Counts,
+    rows: &[u32],
+    stop_rows: &[u32],
+    built: &[u32],
+    work: &[u32],
+    n: Lined,
+    w: Terms,
+    line: usize,
+    target: u32,
+    off: usize,
+    after: u32,
+    best: u32,
+) -> Resolved
+    requires { ⌜ Ground (now t) c (now rows) (now «stop_rows») ⌝ ∗ ⌜ after < 134217728 ⌝ ∗ ⌜ LinesHeld c n (now built) (now work) ⌝ ∗ ⌜ (line < n .lines) × (target < c .trips) ⌝ }
+    ensures { λ r. ⌜ ((T : Tables) (Q : Query) (e : Transfer) → Agree T Q (now (t .entry)) c (now (rows .entry)) (now («stop_rows» .entry)) → Asks Q w → LinesOf T c n (now (built .entry)) (now (work .entry)) → Names e target off → line ≡ lineAt T target → resolvedOf r ≡ resolve T Q e after best) ⌝ }
+{
+    let is_fifo = tables::field(work, n.fifo + line) == 1;
+    let first = n.entries + tables::field(built, n.runs + line * 2);
+    let count = tables::field(built, n.runs + line * 2 + 1);
+    let p = tables::field(work, n.positions + target as usize);
+    if !stands(built, first, count, p, target as usize) {
+        return resolve_alone(t, c, rows, stop_rows, w, is_fifo, target, off, after, best);
+    }
+    let k = smaller(count - p, w.line_scan as usize);
+    resolve_in(
+        t,
+        c,
+        rows,
+        stop_rows,
+        built,
+        w,
+        is_fifo,
+        first + p,
+        k,
+        off,
+        after,
+        best,
+    )
+}
+
+// What a transfer to a trip at an offset leads to, not before `after` and before the best total.
+pub fn resolve(
+    t: &[u32],
+    c: Counts,
+    rows: &[u32],
+    stop_rows: &[u32],
+    built: &[u32],
+    work: &[u32],
+    n: Lined,
+    w: Terms,
+    target: u32,
+    off: usize,
+    after: u32,
+    best: u32,
+) -> Resolved
+    requires { ⌜ Ground (now t) c (now rows) (now «stop_rows») ⌝ ∗ ⌜ after < 134217728 ⌝ ∗ ⌜ LinesHeld c n (now built) (now work) ⌝ }
+    ensures { λ r. ⌜ ((T : Tables) (Q : Query) (e : Transfer) → Agree T Q (now (t .entry)) c (now (rows .entry)) (now («stop_rows» .entry)) → Asks Q w → LinesOf T c n (now (built .entry)) (now (work .entry)) → Names e target off → resolvedOf r ≡ resolve T Q e after best) ⌝ }
+{
+    let line = line_at(c, built, target as usize);
+    if n.lines <= line {
+        return resolve_alone(t, c, rows, stop_rows, w, false, target, off, after, best);
+    }
+    resolve_line(
+        t,
+        c,
+        rows,
+        stop_rows,
+        built,
+        work,
+        n,
+        w,
+        line,
+        target,
+        off,
+        after,
+        best,
+    )
+}
+
+// Where the tables of lines stand in a query's memory.
+pub fn line_tables(c: Counts, lines: usize) -> Lined
+    requires { ⌜ CountsOk c ⌝ ∗ ⌜ lines ≤ 4096 ⌝ }
+    ensures { λ r. ⌜ r ≡ linedOf c lines ⌝ }
+{
+    Lined {
+        lines: lines,
+        runs: c.trips,
+        entries: c.trips + lines * 2,
+        positions: c.stops * 5 + c.trips + 128,
+        fifo: c.stops * 5 + c.trips * 2 + 128,
+    }
+}

@@ -1,0 +1,50 @@
+-- The answer's numbers over a query's memory, and which states of a query agree with it. Definitions only.
+use Prim.Native.Nat.{ℕ, _+_, _*_, _/_, _<_, _≤_}
+use mathlib.Core.Path.{_≡_}
+use mathlib.Core.Logic.{_⊎_}
+use mathlib.Core.List.{List}
+use mathlib.Core.Bool.{cond}
+use lib.ListN.{length, getD}
+use lib.Dec.{ltb, eqb}
+use lib.Ieee.{Float}
+use Rattle.loops.specs.Count.{tab}
+use Rattle.label.specs.declared.Label.{Label}
+use Rattle.label.specs.declared.Label.the-variants.{Empty}
+use Rattle.label.specs.Table.{recordOf, loaded}
+use Rattle.model.specs.Tables.{never}
+use Rattle.model.specs.Search.{Arrivals, reachedBy}
+use Rattle.totals.specs.declared.Target.{Target}
+
+-- egress rows: stop, duration of its walk
+abbrev pub egressAt : List ℕ → ℕ → ℕ × ℕ
+egressAt rows i = (getD rows (i * 2) 0, getD rows (i * 2 + 1) 0)
+
+abbrev pub egressRows : List ℕ → List (ℕ × ℕ)
+egressRows rows = tab (egressAt rows) (length rows / 2)
+
+-- every egress stop is below the count, every walk a time
+pub record EgressOk (stops : ℕ) (rows : List ℕ) : Type 0 where
+  pub few : length rows ≤ 8192
+  pub stop : (i : ℕ) → i < length rows / 2 → getD rows (i * 2) 0 < stops
+  pub walk : (i : ℕ) → i < length rows / 2 → getD rows (i * 2 + 1) 0 ≤ 1048575
+
+-- a total and its stop, as the model has them
+abbrev pub targetOf : Target → ℕ × ℕ
+targetOf b = (b .total, b .stop)
+
+-- the better of the best so far and a total over a stop; equal ones keep the first
+abbrev pub better : ℕ × ℕ → ℕ → ℕ → ℕ × ℕ
+better b total stop = cond (ltb total (b .0)) (total, stop) b
+
+-- the best so far after an egress stop reached at v
+abbrev pub withStop : ℕ × ℕ → ℕ → ℕ → ℕ → ℕ × ℕ
+withStop b v stop walk = cond (eqb v never) b (better b (v + walk) stop)
+
+-- the stops' earliest arrivals stand first in the workspace: each a time, or never
+pub record EarliestOk (stops : ℕ) (work : List ℕ) : Type 0 where
+  pub long : stops ≤ length work
+  pub small : (s : ℕ) → s < stops → (getD work s 0 ≡ never) ⊎ (getD work s 0 < 134217728)
+
+-- a state whose earliest arrivals are these
+pub record Reached (a : Arrivals) (stops : ℕ) (work : List ℕ) : Type 0 where
+  pub at : (s : ℕ) → s < stops → getD (a .earliest) s 0 ≡ getD work s 0
