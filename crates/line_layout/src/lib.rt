@@ -291,13 +291,14 @@ fn questions(
     if !door::both(tables::runs_ok(t, c), line_runs_ok(runs, lines, n)) {
         return 3;
     }
-    if !door::both(tables::numbers_ok(t, c), entries_ok(c, entries, n)) {
+    let known = entries_ok(c, entries, n);
+    if door::both(known, tables::rows_ok(t, c)) {
+        return 0;
+    }
+    if !door::both(tables::numbers_ok(t, c), known) {
         return 4;
     }
-    if !tables::ranges_ok(t, c) {
-        return 5;
-    }
-    0
+    5
 }
 
 // What an admitted call writes.

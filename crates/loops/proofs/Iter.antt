@@ -100,6 +100,18 @@ pub every-left : (f : ℕ → Bool) (i b : ℕ) {whole : Bool} → whole ≡ eve
 every-left f i b inv h = sym (inv ∙ every-done f i b h)
 
 -- A search, with the invariant `whole ≡ firstIn f i b`: a turn that goes on, one that finds it, the end.
+-- two tests at once
+pub every-both : (f g : ℕ → Bool) (i n : ℕ) → every (λ k. f k && g k) i n ≡ every f i n && every g i n
+unfolding every
+every-both f g i zero = refl
+every-both f g i (suc n) = ap (λ (x : Bool). (f i && g i) && x) (every-both f g (suc i) n) ∙ go (f i) (g i) (every f (suc i) n) (every g (suc i) n)
+  where
+    go : (a b x y : Bool) → (a && b) && (x && y) ≡ (a && x) && (b && y)
+    go true true x y = refl
+    go true false true y = refl
+    go true false false y = refl
+    go false b x y = refl
+
 pub first-again : (f : ℕ → Bool) (i b : ℕ) {whole : Hit} → whole ≡ firstIn f i b → f i ≡ false → i < b → whole ≡ firstIn f (i + 1) b
 first-again f i b inv e h =
     let n : b - i ≡ suc (b - (i + 1)) = omega arith in

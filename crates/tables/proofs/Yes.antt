@@ -10,10 +10,10 @@ use native.Mathlib.Numerals.{add-one}
 use lib.ListN.{length}
 use lib.Dec.{leb, ltb}
 use borrow.Author.Tests.{eqb-true, leb-true, ltb-true}
-use Rattle.loops.proofs.Iter.{and-left, and-right, everyIn-at}
+use Rattle.loops.proofs.Iter.{and-left, and-right, every-both, everyIn-at}
 use Rattle.tables.specs.declared.Counts.{Counts}
 use Rattle.tables.specs.declared.Check.{Check}
-use Rattle.tables.specs.declared.Check.the-variants.{TripRuns, StopTimeNumbers, EdgeNumbers, StopTimeRanges, TripRanges, WindowRanges, EdgeRanges, EdgeOrder}
+use Rattle.tables.specs.declared.Check.the-variants.{TripRuns, StopTimeNumbers, EdgeNumbers, StopTimeRanges, TripRanges, WindowRanges, EdgeRanges, EdgeOrder, StopTimes}
 use Rattle.tables.specs.Tables.{countOf, firstOf, sizeOf, tripOf, edgeOf, timeOf, windowOf, stopTimeAt, tripAt, windowAt, edgeAt}
 use Rattle.tables.specs.Door.{countsOk, slicesOk, tripRuns, stopTimeNumbers, edgeNumbers, stopTimeRanges, tripRanges, windowRanges, edgeRanges, edgeRises, rowsOf, rowOk, everyRow, runsOk, numbersOk, rangesOk, orderOk}
 use Rattle.tables.specs.Sane.{CountsOk, SlicesOk, RunsOk, NumbersOk, RangesOk, OrderOk, Sane}
@@ -25,6 +25,11 @@ pub record Two (a b : Bool) : Type 0 where
 
 pub two : (a b : Bool) → a && b ≡ true → Two a b
 two a b h = record { one = and-left a b h; two = and-right a b h }
+
+-- the first is yes, not both are: the second is no
+pub second-no : (a b : Bool) → a && b ≡ false → a ≡ true → b ≡ false
+second-no true b h e = h
+second-no false b h e = let z : _≡_ {A = ℕ} 0 1 = cc in absurd (omega arith)
 
 row : (t : List ℕ) (c : Counts) (k : Check) (i : ℕ) → everyRow t c k ≡ true → i < rowsOf k c → rowOk t c k i ≡ true
 row t c k i h l = everyIn-at (rowOk t c k) (rowsOf k c) i h l
@@ -131,3 +136,19 @@ order-yes t c h = record { rise = λ i l. rw add-one (leb-true (edgeOf t c i 0) 
 -- questions 1 to 5 together
 pub sane : (t : List ℕ) (c : Counts) → countsOk c ≡ true → slicesOk t c ≡ true → runsOk t c ≡ true → numbersOk t c ≡ true → rangesOk t c ≡ true → Sane t c
 sane t c a b d e f = record { counts = counts-yes c a; slices = slices-yes t c b; runs = runs-yes t c d; numbers = numbers-yes t c e; ranges = ranges-yes t c f }
+
+-- questions 4 and 5 at once
+pub rows-both : (t : List ℕ) (c : Counts)
+    → (everyRow t c StopTimes && (everyRow t c EdgeNumbers && everyRow t c TripRanges)) && (everyRow t c WindowRanges && everyRow t c EdgeRanges) ≡ numbersOk t c && rangesOk t c
+unfolding numbersOk rangesOk
+rows-both t c =
+    ap (λ (x : Bool). (x && (everyRow t c EdgeNumbers && everyRow t c TripRanges)) && (everyRow t c WindowRanges && everyRow t c EdgeRanges))
+    (every-both (rowOk t c StopTimeNumbers) (rowOk t c StopTimeRanges) 0 (c .times - 0))
+    ∙ go (everyRow t c StopTimeNumbers) (everyRow t c StopTimeRanges) (everyRow t c EdgeNumbers) (everyRow t c TripRanges) (everyRow t c WindowRanges && everyRow t c EdgeRanges)
+  where
+    go : (n s a b x : Bool) → ((n && s) && (a && b)) && x ≡ (n && a) && ((s && b) && x)
+    go true true true b x = refl
+    go true true false b x = refl
+    go true false true b x = refl
+    go true false false b x = refl
+    go false s a b x = refl

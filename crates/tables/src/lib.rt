@@ -67,6 +67,7 @@ pub enum Check {
     WindowRanges,
     EdgeRanges,
     EdgeOrder,
+    StopTimes,
 }
 
 // One number of a table.
@@ -238,6 +239,13 @@ pub fn edge_ranges(r: EdgeRow) -> bool
     both(r.duration <= 1048575, r.pathway <= 7)
 }
 
+// Questions 4 and 5 of one stop time.
+pub fn stop_time_ok(r: StopTimeRow, c: Counts) -> bool
+    ensures { λ b. ⌜ b ≡ stopTimeNumbers c r && stopTimeRanges r ⌝ }
+{
+    both(stop_time_numbers(r, c), stop_time_ranges(r))
+}
+
 // Question 6 of a walk edge: it does not leave a lower stop than the one before it.
 fn edge_rises(t: &[u32], c: Counts, i: usize) -> bool
     requires { ⌜ CountsOk c ⌝ ∗ ⌜ SlicesOk (now t) c ⌝ ∗ ⌜ i < c .edges ⌝ }
@@ -262,6 +270,7 @@ fn rows_of(k: Check, c: Counts) -> usize
         Check::WindowRanges => c.windows,
         Check::EdgeRanges => c.edges,
         Check::EdgeOrder => c.edges,
+        Check::StopTimes => c.times,
     }
 }
 
@@ -279,6 +288,7 @@ fn row_ok(t: &[u32], c: Counts, k: Check, i: usize) -> bool
         Check::WindowRanges => window_ranges(window_row(t, c, i)),
         Check::EdgeRanges => edge_ranges(edge_row(t, c, i)),
         Check::EdgeOrder => edge_rises(t, c, i),
+        Check::StopTimes => stop_time_ok(stop_time_row(t, c, i), c),
     }
 }
 
@@ -324,6 +334,19 @@ pub fn ranges_ok(t: &[u32], c: Counts) -> bool
     let d = every_row(t, c, Check::WindowRanges);
     let e = every_row(t, c, Check::EdgeRanges);
     both(both(a, b), both(d, e))
+}
+
+// Questions 4 and 5 at once, each stop time read once.
+pub fn rows_ok(t: &[u32], c: Counts) -> bool
+    requires { ⌜ CountsOk c ⌝ ∗ ⌜ SlicesOk (now t) c ⌝ }
+    ensures { λ r. ⌜ r ≡ numbersOk (now (t .entry)) c && rangesOk (now (t .entry)) c ⌝ }
+{
+    let x = every_row(t, c, Check::StopTimes);
+    let a = every_row(t, c, Check::EdgeNumbers);
+    let b = every_row(t, c, Check::TripRanges);
+    let d = every_row(t, c, Check::WindowRanges);
+    let e = every_row(t, c, Check::EdgeRanges);
+    both(both(x, both(a, b)), both(d, e))
 }
 
 pub fn order_ok(t: &[u32], c: Counts) -> bool

@@ -1,16 +1,18 @@
 -- Laws of lists: what is kept, the first that passes, lists joined.
+use lib.Dec.{leb, ltb}
+use borrow.Author.Tests.{le-leb, lt-leb, ltb-false, ltb-true}
 use Rattle.loops.proofs.Search.{halved-down, halved-start, halved-up, split}
 use Rattle.departures.proofs.Outcome.{joined}
 use Prim.Native.Nat.{ℕ, zero, suc, _+_, _*_, _-_, _/_, _<_, _≤_}
 use mathlib.Core.Path.{_≡_, refl, sym, _∙_, ap, ap₂}
-use mathlib.Core.Bool.{Bool, true, false, cond}
+use mathlib.Core.Bool.{Bool, true, false, not, cond}
 use mathlib.Core.List.{List, [], _∷_, _++_, append-assoc, append-nil, map, flatten}
 use mathlib.Core.Logic.{⊎-elim}
 use native.Mathlib.Nat.{eq-or-lt-of-le}
 use native.Mathlib.Omega.{arith}
 use lib.ListN.{length, getD, take, drop, length-append, length-take, replicate, length-replicate}
 use lib.Seq.{slice, take-at}
-use Rattle.loops.specs.Count.{tab, tabFrom}
+use Rattle.loops.specs.Count.{one, tab, tabFrom}
 use Rattle.loops.proofs.Count.{tabFrom-ext}
 use Rattle.loops.specs.Order.{Halved, Stays}
 use Rattle.sorts.specs.Sort.{within, hi}
@@ -109,15 +111,19 @@ within-join {A} lo m e y z l h k u w =
 
 -- one halving, and what is left of one number
 module _ (f : ℕ → Bool) (n lo size : ℕ) (s : Stays f n) (h : Halved f n lo (lo + size)) where
-  pub half-up : 1 < size → f (lo + size / 2) ≡ false → Halved f n (lo + size / 2) (lo + size / 2 + (size - size / 2))
+  half-up : 1 < size → f (lo + size / 2) ≡ false → Halved f n (lo + size / 2) (lo + size / 2 + (size - size / 2))
   half-up u e =
       let q = halved-up f n lo (lo + size) (lo + size / 2) s h e (omega arith) in
       record { order = omega arith; inside = omega (arith, h .inside); below = λ k l. q .below k (omega arith); above = λ k a b. h .above k (omega arith) b }
 
-  pub half-down : 1 < size → f (lo + size / 2) ≡ true → Halved f n lo (lo + (size - size / 2))
+  half-down : 1 < size → f (lo + size / 2) ≡ true → Halved f n lo (lo + (size - size / 2))
   half-down u e =
       let q = halved-down f n lo (lo + size) (lo + size / 2) s h e (omega arith) (omega arith) in
       record { order = omega arith; inside = omega (arith, h .inside); below = h .below; above = λ k a b. q .above k (omega arith) b }
+
+  pub halved-either : 1 < size → (b : Bool) → f (lo + size / 2) ≡ not b → (r : ℕ) → r ≡ lo + size / 2 * one b → Halved f n r (r + (size - size / 2))
+  halved-either u true e r q = let z : r ≡ lo + size / 2 = omega arith in rw z (half-up u e)
+  halved-either u false e r q = let z : r ≡ lo = omega arith in rw z (half-down u e)
 
   pub last-up : size ≡ 1 → f lo ≡ false → Halved f n (lo + 1) (lo + 1)
   last-up u e =
@@ -126,6 +132,30 @@ module _ (f : ℕ → Bool) (n lo size : ℕ) (s : Stays f n) (h : Halved f n lo
 
   pub last-down : size ≡ 1 → f lo ≡ true → Halved f n lo lo
   last-down u e = halved-down f n lo (lo + size) lo s h e (omega arith) (omega arith)
+
+-- a test and the opposite one
+pub leb-not : (a b : ℕ) → leb b a ≡ not (ltb a b)
+leb-not a b = go (ltb a b) refl
+  where
+    go : (t : Bool) → ltb a b ≡ t → leb b a ≡ not t
+    go true e = lt-leb b a (ltb-true a b e)
+    go false e = le-leb b a (ltb-false a b e)
+
+-- below or not, as a quotient
+pub below-is : (x key : ℕ) → x < 4294967296 → key ≤ 8589934592 → (1099511627775 + key - x) / 1099511627776 ≡ one (ltb x key)
+below-is x key h k = go (ltb x key) refl
+  where
+    go : (t : Bool) → ltb x key ≡ t → (1099511627775 + key - x) / 1099511627776 ≡ one t
+    go true e = let u = ltb-true x key e in omega arith
+    go false e = let u = ltb-false x key e in omega arith
+
+pub quotient-most : (x key : ℕ) → key ≤ 8589934592 → (1099511627775 + key - x) / 1099511627776 ≤ 1
+quotient-most x key k = omega arith
+
+pub at-most-once : (h d : ℕ) → d ≤ 1 → h * d ≤ h
+at-most-once h zero u = omega arith
+at-most-once h (suc zero) u = omega arith
+at-most-once h (suc (suc d)) u = absurd (omega arith)
 
 -- all of them to begin with; none passes where the last does not
 pub halved-from : (f : ℕ → Bool) (n : ℕ) → Halved f n 0 (0 + n)

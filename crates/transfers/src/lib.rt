@@ -10,7 +10,7 @@ ghost use mathlib.Core.Bool.{_&&_};
 ghost use mathlib.Core.List.{flatten};
 ghost use Prim.Native.Nat.{ℕ, _+_, _*_, _-_, _/_, _≤_, _<_, min};
 ghost use lib.ListN.{length, getD, drop};
-ghost use lib.Dec.{leb};
+ghost use lib.Dec.{ltb, leb};
 ghost use Rattle.loops.specs.Count.{one, tab};
 ghost use Rattle.loops.specs.Order.{Halved};
 ghost use Rattle.sorts.specs.Sort.{hi};
@@ -30,21 +30,26 @@ pub enum Built {
     Rows(u32),
 }
 
+// 1 where x is below the key, else 0. A division, so that no branch has to be foreseen.
+fn below(x: u64, key: u64) -> usize
+    requires { ⌜ x < 4294967296 ⌝ ∗ ⌜ key ≤ 8589934592 ⌝ }
+    ensures { λ r. ⌜ r ≡ one (ltb x key) ⌝ ∗ ⌜ r ≤ 1 ⌝ }
+{
+    ((1099511627775 + key - x) / 1099511627776) as usize
+}
+
 // One halving of a search: the middle where the number there is below the key, else the start.
 fn narrowed(part: &[u64], key: u64, lo: usize, size: usize) -> usize
-    requires { ⌜ Keys (now part) ⌝ ∗ ⌜ Halved (λ i. leb key (hi (getD (now part) i 0))) (length (now part)) lo (lo + size) ⌝ ∗ ⌜ 1 < size ⌝ }
+    requires { ⌜ Keys (now part) ⌝ ∗ ⌜ key ≤ 8589934592 ⌝ ∗ ⌜ Halved (λ i. leb key (hi (getD (now part) i 0))) (length (now part)) lo (lo + size) ⌝ ∗ ⌜ 1 < size ⌝ }
     ensures { λ r. ⌜ Halved (λ i. leb key (hi (getD (now (part .entry)) i 0))) (length (now (part .entry))) r (r + (size - size / 2)) ⌝ }
 {
-    let mid = lo + size / 2;
-    if part[mid] / 4294967296 < key {
-        return mid;
-    }
-    lo
+    let half = size / 2;
+    lo + half * below(part[lo + half] / 4294967296, key)
 }
 
 // The first number whose upper half is not below this key, by halving; the length where there is none.
 fn first_from(part: &[u64], key: u64) -> usize
-    requires { ⌜ Keys (now part) ⌝ ∗ ⌜ 0 < length (now part) ⌝ }
+    requires { ⌜ Keys (now part) ⌝ ∗ ⌜ key ≤ 8589934592 ⌝ ∗ ⌜ 0 < length (now part) ⌝ }
     ensures { λ r. ⌜ Halved (λ i. leb key (hi (getD (now (part .entry)) i 0))) (length (now (part .entry))) r r ⌝ }
 {
     let n = part.len();

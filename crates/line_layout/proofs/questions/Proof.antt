@@ -1,13 +1,13 @@
 use Rattle.line_layout.specs.Call.{sizesOk, verdict}
 use denote.Ref.{now}
-use borrow.Author.Tests.{not-false, not-true}
 use borrow.Author.Needs.{needs}
 use lib.ListN.{length}
 use lib.Dec.{leb}
 use Rattle.line_layout.specs.Listed.{entriesOk, lineRunsOk}
 use Rattle.tables.specs.Door.{countsOk, numbersOk, rangesOk, runsOk, slicesOk}
+use Rattle.tables.proofs.Yes.{second-no, two}
 use Rattle.door.proofs.Laws.{ask-no, ask-on}
-use mathlib.Core.Path.{_∙_, _≡_, refl, sym}
+use mathlib.Core.Path.{_∙_, _≡_, ap₂, refl, sym}
 use mathlib.Core.Bool.{Bool, _&&_, true}
 use Rattle.line_layout.proofs.Yes.{Limits, Sizes, found-no, found-yes, limits-yes, sizes-yes}
 use Rattle.line_layout.proofs.questions.Statement.{statement}
@@ -50,11 +50,8 @@ sizes c = sizes-yes _ _ _ _ _ _ _ _ (q2 c)
 q3 : (c : tie.Else3) → asked3 (c .before .before .before .before .before .before .before .before .before .before .before .before .before .before .before) ≡ true
 q3 c = found-yes (c .before .both4 .ensures) (c .before .before .before .runs-ok .ensures) (c .before .before .line-runs-ok .ensures) (c .if3 .left)
 
-q4 : (c : tie.Else4) → asked4 (c .before .before .before .before .before .before .before .before .before .before .before .before .before .before .before .before .before .before .before) ≡ true
-q4 c = found-yes (c .before .both5 .ensures) (c .before .before .before .numbers-ok .ensures) (c .before .before .entries-ok .ensures) (c .if4 .left)
-
-q5 : (c : tie.Else5) → asked5 (c .before .before .before .before .before .before .before .before .before .before .before .before .before .before .before .before .before .before .before .before .before) ≡ true
-q5 c = sym (c .before .ranges-ok .ensures) ∙ not-false _ (c .if5 .left)
+q4 : (c : tie.Else5) → asked4 (c .before .before .before .before .before .before .before .before .before .before .before .before .before .before .before .before .before .before .before .before .before .before) ≡ true
+q4 c = found-yes (c .before .both6 .ensures) (c .before .before .numbers-ok .ensures) (c .before .before .before .before .before .before .entries-ok .ensures) (c .if5 .left)
 
 counts-ok-requires : tie.Need-counts-ok-requires
 counts-ok-requires c κs = search needs
@@ -95,29 +92,44 @@ returns-3 : tie.Need-returns-3
 unfolding verdict
 returns-3 c = ask-on 1 _ (q1 (c .before .before .before .before .before .before .before .before)) (ask-on 2 _ (q2 (c .before .before .before .before)) (ask-no 3 _ _ (found-no (c .before .both4 .ensures) (c .before .before .before .runs-ok .ensures) (c .before .before .line-runs-ok .ensures) (c .if3 .taken))))
 
-numbers-ok-requires : tie.Need-numbers-ok-requires
-numbers-ok-requires c κs = ((limits (c .before .before .before .before .before .before .before .before)) .counts, (sizes (c .before .before .before .before)) .slices)
-
 entries-ok-requires : tie.Need-entries-ok-requires
-entries-ok-requires c κs = (sizes (c .before .before .before .before .before)) .entriesIs
+entries-ok-requires c κs = (sizes (c .before .before .before .before)) .entriesIs
+
+rows-ok-requires : tie.Need-rows-ok-requires
+rows-ok-requires c κs = ((limits (c .before .before .before .before .before .before .before .before .before)) .counts, (sizes (c .before .before .before .before .before)) .slices)
 
 both-requires-5 : tie.Need-both-requires-5
 both-requires-5 c κs = search needs
 
 returns-4 : tie.Need-returns-4
 unfolding verdict
-returns-4 c = ask-on 1 _ (q1 (c .before .before .before .before .before .before .before .before .before .before .before .before)) (ask-on 2 _ (q2 (c .before .before .before .before .before .before .before .before)) (ask-on 3 _ (q3 (c .before .before .before .before)) (ask-no 4 _ _ (found-no (c .before .both5 .ensures) (c .before .before .before .numbers-ok .ensures) (c .before .before .entries-ok .ensures) (c .if4 .taken)))))
+returns-4 c =
+    let s = c .before .before .before .before .before .before .before .before .before .before .before .before .before .before .before .before .before .before .before in
+    let n = numbersOk (now (s .args .t)) (s .args .c) in
+    let e = entriesOk (s .args .c) (now (s .args .entries)) (s .args .n) in
+    let x = two e (n && asked5 s) (sym (c .before .both5 .ensures ∙ ap₂ _&&_ (c .before .before .before .entries-ok .ensures) (c .before .before .rows-ok .ensures)) ∙ c .if4 .taken) in
+    let y = two n (asked5 s) (x .two) in
+    ask-on 1 _ (q1 (c .before .before .before .before .before .before .before .before .before .before .before .before)) (ask-on 2 _ (q2 (c .before .before .before .before .before .before .before .before)) (ask-on 3 _ (q3 (c .before .before .before .before)) (ask-on 4 _ (ap₂ _&&_ (y .one) (x .one)) (ask-on 5 _ (y .two) refl))))
 
-ranges-ok-requires : tie.Need-ranges-ok-requires
-ranges-ok-requires c κs = ((limits (c .before .before .before .before .before .before .before .before .before .before .before .before)) .counts, (sizes (c .before .before .before .before .before .before .before .before)) .slices)
+numbers-ok-requires : tie.Need-numbers-ok-requires
+numbers-ok-requires c κs = ((limits (c .before .before .before .before .before .before .before .before .before .before .before .before)) .counts, (sizes (c .before .before .before .before .before .before .before .before)) .slices)
+
+both-requires-6 : tie.Need-both-requires-6
+both-requires-6 c κs = search needs
 
 returns-5 : tie.Need-returns-5
 unfolding verdict
-returns-5 c = ask-on 1 _ (q1 (c .before .before .before .before .before .before .before .before .before .before .before .before .before .before)) (ask-on 2 _ (q2 (c .before .before .before .before .before .before .before .before .before .before)) (ask-on 3 _ (q3 (c .before .before .before .before .before .before)) (ask-on 4 _ (q4 (c .before .before)) (ask-no 5 _ _ (sym (c .before .ranges-ok .ensures) ∙ not-true _ (c .if5 .taken))))))
+returns-5 c = ask-on 1 _ (q1 (c .before .before .before .before .before .before .before .before .before .before .before .before .before .before .before)) (ask-on 2 _ (q2 (c .before .before .before .before .before .before .before .before .before .before .before)) (ask-on 3 _ (q3 (c .before .before .before .before .before .before .before)) (ask-no 4 _ _ (found-no (c .before .both6 .ensures) (c .before .before .numbers-ok .ensures) (c .before .before .before .before .before .before .entries-ok .ensures) (c .if5 .taken)))))
 
 returns-6 : tie.Need-returns-6
 unfolding verdict
-returns-6 c = ask-on 1 _ (q1 (c .before .before .before .before .before .before .before .before .before .before .before .before .before .before)) (ask-on 2 _ (q2 (c .before .before .before .before .before .before .before .before .before .before)) (ask-on 3 _ (q3 (c .before .before .before .before .before .before)) (ask-on 4 _ (q4 (c .before .before)) (ask-on 5 _ (q5 (c)) (refl)))))
+returns-6 c =
+    let s = c .before .before .before .before .before .before .before .before .before .before .before .before .before .before .before .before .before .before .before .before .before .before in
+    let n = numbersOk (now (s .args .t)) (s .args .c) in
+    let e = entriesOk (s .args .c) (now (s .args .entries)) (s .args .n) in
+    let x = two n e (q4 c) in
+    let y = second-no e (n && asked5 s) (sym (c .before .before .before .before .both5 .ensures ∙ ap₂ _&&_ (c .before .before .before .before .before .before .entries-ok .ensures) (c .before .before .before .before .before .rows-ok .ensures)) ∙ c .before .before .before .if4 .left) (x .two) in
+    ask-on 1 _ (q1 (c .before .before .before .before .before .before .before .before .before .before .before .before .before .before .before)) (ask-on 2 _ (q2 (c .before .before .before .before .before .before .before .before .before .before .before)) (ask-on 3 _ (q3 (c .before .before .before .before .before .before .before)) (ask-on 4 _ (q4 c) (ask-no 5 _ _ (second-no n (asked5 s) y (x .one))))))
 
 pub questions-spec : {M : Type 1} → statement M
 questions-spec =
@@ -135,10 +147,11 @@ questions-spec =
     line-runs-ok-requires
     both-requires-4
     returns-3
-    numbers-ok-requires
     entries-ok-requires
+    rows-ok-requires
     both-requires-5
     returns-4
-    ranges-ok-requires
+    numbers-ok-requires
+    both-requires-6
     returns-5
     returns-6)

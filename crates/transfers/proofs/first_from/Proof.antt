@@ -33,13 +33,13 @@ shared-slice-read-if1 c = omega arith
 
 returns : tie.Need-returns Inv-loop μ-loop
 unfolding hi
-returns c = halved-none _ _ (keys-stay (λ i. hi (getD (now (c .before .before .before .args .part)) i 0)) (c .before .before .before .args .key) _ (c .before .before .before .pre .0 .rising)) (c .before .before .before .pre .1) (lt-leb _ _ (c .if1 .taken))
+returns c = halved-none _ _ (keys-stay (λ i. hi (getD (now (c .before .before .before .args .part)) i 0)) (c .before .before .before .args .key) _ (c .before .before .before .pre .0 .rising)) (c .before .before .before .pre .1 .1) (lt-leb _ _ (c .if1 .taken))
 
 loop-holds : tie.Need-loop-holds Inv-loop μ-loop
 loop-holds c = (refl, omega arith, halved-from _ _)
 
 narrowed-requires : tie.Need-narrowed-requires Inv-loop μ-loop
-narrowed-requires c κs = (search needs, (c .before .loop .inv .2, omega arith))
+narrowed-requires c κs = (search needs, (search needs, (c .before .loop .inv .2, omega arith)))
 
 sub-size : tie.Need-sub-size Inv-loop μ-loop
 sub-size c = omega arith

@@ -22,7 +22,7 @@ add-first-from : tie.Need-add-first-from
 add-first-from c = omega (arith, c .shared-slice-known2 .given 0, c .before .before .before .pre .1 .1)
 
 first-from-requires : tie.Need-first-from-requires
-first-from-requires c κs = search needs
+first-from-requires c κs = (search needs, (omega (arith, c .shared-slice-known2 .given 0, c .before .before .before .pre .1 .1), search needs))
 
 returns : tie.Need-returns
 unfolding lineX
