@@ -11,7 +11,6 @@ use native.Mathlib.Numerals.{add-one}
 use lib.ListN.{length, take, drop, length-append, length-take}
 use lib.Seq.{slice}
 use lib.Dec.{eqb}
-use borrow.Author.Tests.{eq-eqb, ne-eqb}
 use Rattle.loops.specs.Count.{tab, tabFrom, count}
 use Rattle.loops.proofs.Count.{length-tabFrom}
 use Rattle.sorts.proofs.Within.{part-slice}
@@ -30,11 +29,14 @@ use Rattle.transfers.proofs.Laying.{events-append, events-n, lay-full, 
 pub alight-full : (time : ℕ) (p : Prepared) (ti at : ℕ) (s : Laid) → 65536 < s .n → s ≡ lay time (alightKeys p ti at) s
 alight-full time p ti at s h = sym (lay-full time (alightKeys p ti at) s h)
 
-pub alight-barred : (time : ℕ) (p : Prepared) (ti at : ℕ) (s : Laid) (x : ℕ) → x ≡ timeOf (p .t) at 5 → x ≡ 1 → s ≡ lay time (alightKeys p ti at) s
-unfolding alightKeys lay
-alight-barred time p ti at s x e h =
-    sym (ap (λ (t : Bool). lay time (cond t [] (targets (slice (runFirst (p .runs) (timeOf (p .t) at 0)) (runEnd (p .runs) (timeOf (p .t) at 0)) (p .work)) ti (timeOf (p .t) at 1 + p .time))) s)
-    (eq-eqb (timeOf (p .t) at 5) 1 (sym e ∙ h)))
+barred-keys : (p : Prepared) (ti at : ℕ) → eqb (timeOf (p .t) at 5) 1 ≡ true → alightKeys p ti at ≡ []
+unfolding alightKeys
+barred-keys p ti at e =
+    ap (λ (t : Bool). cond t [] (targets (slice (runFirst (p .runs) (timeOf (p .t) at 0)) (runEnd (p .runs) (timeOf (p .t) at 0)) (p .work)) ti (timeOf (p .t) at 1 + p .time))) e
+
+pub alight-barred : (time : ℕ) (p : Prepared) (ti at : ℕ) (s : Laid) → eqb (timeOf (p .t) at 5) 1 ≡ true → s ≡ lay time (alightKeys p ti at) s
+unfolding lay
+alight-barred time p ti at s e = sym (ap (λ (l : List ℕ). lay time l s) (barred-keys p ti at e))
 
 -- getting off at a stop
 module _ (p : Prepared) (ends : List ℕ) (d at : ℕ) (sane : Sane (p .t) (p .c)) (l : RunsListed (p .c) (p .runs) d) (k : SortedRuns (p .c) (p .runs) (p .work) ends d) (u : at < p .c .times) (stop : ℕ) (e : stop ≡ timeOf (p .t) at 0) where
@@ -59,26 +61,25 @@ module _ (p : Prepared) (ends : List ℕ) (d at : ℕ) (sane : Sane (p .t) (p .c
       → Lines (take (r .first + r .length - r .first) (drop (r .first) (p .work))) (take (r .first + r .length - r .first) (drop (r .first) ends))
   run-lines r q = lines-part (p .work) ends (r .first) (r .first + r .length - r .first) (k .lines) (omega (arith, run-inside r q))
 
-  open-keys : (ti x arrival : ℕ) (r : StopRun) → x ≡ timeOf (p .t) at 5 → (x ≡ 1 → ⊥) → arrival ≡ timeOf (p .t) at 1 → r ≡ runAt (p .runs) stop
+  open-keys : (ti arrival : ℕ) (r : StopRun) → eqb (timeOf (p .t) at 5) 1 ≡ false → arrival ≡ timeOf (p .t) at 1 → r ≡ runAt (p .runs) stop
       → targets (take (r .first + r .length - r .first) (drop (r .first) (p .work))) ti (arrival + p .time) ≡ alightKeys p ti at
   unfolding alightKeys
-  open-keys ti x arrival r f h a q =
+  open-keys ti arrival r f a q =
       ap₂ (λ (v : List ℕ) (w : ℕ). targets v ti (w + p .time))
       (stop-part r q ∙ ap (λ (i : ℕ). slice (runFirst (p .runs) i) (runEnd (p .runs) i) (p .work)) e) a
-      ∙ sym (ap (λ (t : Bool). cond t [] (targets (slice (runFirst (p .runs) (timeOf (p .t) at 0)) (runEnd (p .runs) (timeOf (p .t) at 0)) (p .work)) ti (timeOf (p .t) at 1 + p .time)))
-      (ne-eqb (timeOf (p .t) at 5) 1 (λ z. h (f ∙ z))))
+      ∙ sym (ap (λ (t : Bool). cond t [] (targets (slice (runFirst (p .runs) (timeOf (p .t) at 0)) (runEnd (p .runs) (timeOf (p .t) at 0)) (p .work)) ti (timeOf (p .t) at 1 + p .time))) f)
 
-  pub alight-open : (time ti x arrival : ℕ) (r : StopRun) (s : Laid) → x ≡ timeOf (p .t) at 5 → (x ≡ 1 → ⊥) → arrival ≡ timeOf (p .t) at 1 → r ≡ runAt (p .runs) stop
+  pub alight-open : (time ti arrival : ℕ) (r : StopRun) (s : Laid) → eqb (timeOf (p .t) at 5) 1 ≡ false → arrival ≡ timeOf (p .t) at 1 → r ≡ runAt (p .runs) stop
       → lay time (targets (take (r .first + r .length - r .first) (drop (r .first) (p .work))) ti (arrival + p .time)) s ≡ lay time (alightKeys p ti at) s
-  alight-open time ti x arrival r s f h a q = ap (λ (m : List ℕ). lay time m s) (open-keys ti x arrival r f h a q)
+  alight-open time ti arrival r s f a q = ap (λ (m : List ℕ). lay time m s) (open-keys ti arrival r f a q)
 
-  pub most-open : (x arrival : ℕ) (r : StopRun) (n m : ℕ) → x ≡ timeOf (p .t) at 5 → (x ≡ 1 → ⊥) → arrival ≡ timeOf (p .t) at 1 → r ≡ runAt (p .runs) stop → n ≤ 65536
+  pub most-open : (arrival : ℕ) (r : StopRun) (n m : ℕ) → eqb (timeOf (p .t) at 5) 1 ≡ false → arrival ≡ timeOf (p .t) at 1 → r ≡ runAt (p .runs) stop → n ≤ 65536
       → LinesAfter (take (r .first + r .length - r .first) (drop (r .first) (p .work))) (arrival + p .time) m → (ti : ℕ) → Most n (length (alightKeys p ti at)) (n + m) 0
-  most-open x arrival r n m f h a q b after ti =
+  most-open arrival r n m f a q b after ti =
       record {
         grows = omega arith;
         few = omega (arith, after .few, length-take (r .first + r .length - r .first) (drop (r .first) (p .work)), l .run stop stop-below, l .few, ap (λ (y : StopRun). y .length) q);
-        most = λ u. omega (arith, after .most ti, ap length (open-keys ti x arrival r f h a q));
+        most = λ u. omega (arith, after .most ti, ap length (open-keys ti arrival r f a q));
       }
 
 -- one event
@@ -155,11 +156,8 @@ trips-start time trips g w =
     ap (λ (k : ℕ). layEvents time 0 (flatten (tabFrom g 0 k)) w) m
 
 -- HOW MANY AT MOST: drop-off is 1
-pub most-barred : (p : Prepared) (ti at n x : ℕ) → n ≤ 65536 → x ≡ timeOf (p .t) at 5 → x ≡ 1 → Most n (length (alightKeys p ti at)) n 0
-unfolding alightKeys
-most-barred p ti at n x u e h =
-    let z : length (alightKeys p ti at) ≡ 0 = ap (λ (t : Bool). length (cond t [] (targets (slice (runFirst (p .runs) (timeOf (p .t) at 0)) (runEnd (p .runs) (timeOf (p .t) at 0)) (p .work)) ti (timeOf (p .t) at 1 + p .time)))) (eq-eqb (timeOf (p .t) at 5) 1 (sym e ∙ h)) in
-    record { grows = omega arith; few = omega arith; most = λ v. omega (arith, z) }
+pub most-barred : (p : Prepared) (ti at n : ℕ) → n ≤ 65536 → eqb (timeOf (p .t) at 5) 1 ≡ true → Most n (length (alightKeys p ti at)) n 0
+most-barred p ti at n u e = let z = ap length (barred-keys p ti at e) in record { grows = omega arith; few = omega arith; most = λ v. omega (arith, z) }
 
 pub most-event : (p : Prepared) (ti off first m m' : ℕ) → first ≡ firstOf (p .t) (p .c) ti → Most m (length (alightKeys p ti (first + off))) m' 0 → Most m (length (eventKeys p ti off)) m' 0
 most-event p ti off first m m' e h = rw (sym e) h

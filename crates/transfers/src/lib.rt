@@ -10,10 +10,11 @@ ghost use mathlib.Core.Bool.{_&&_};
 ghost use mathlib.Core.List.{flatten};
 ghost use Prim.Native.Nat.{ℕ, _+_, _*_, _-_, _/_, _≤_, _<_, min};
 ghost use lib.ListN.{length, getD, drop};
-ghost use lib.Dec.{ltb, leb};
+ghost use lib.Dec.{ltb, leb, eqb};
 ghost use Rattle.loops.specs.Count.{one, tab};
 ghost use Rattle.loops.specs.Order.{Halved};
 ghost use Rattle.sorts.specs.Sort.{hi};
+ghost use Rattle.tables.specs.Tables.{timeOf};
 ghost use Rattle.tables.specs.Timetable.{timetable};
 ghost use Rattle.tables.specs.Door.{slicesOk};
 ghost use Rattle.tables.specs.Sane.{CountsOk, SlicesOk, Sane};
@@ -201,6 +202,14 @@ fn to_lines(
     m
 }
 
+// Is getting off barred at a stop time? Only drop-off 1 bars.
+fn barred(t: &[u32], c: Counts, at: usize) -> bool
+    requires { ⌜ CountsOk c ⌝ ∗ ⌜ SlicesOk (now t) c ⌝ ∗ ⌜ at < c .times ⌝ }
+    ensures { λ b. ⌜ b ≡ eqb (timeOf (now (t .entry)) at 5) 1 ⌝ }
+{
+    tables::time(t, c, at, 5) == 1
+}
+
 // Getting off at a stop time: where drop-off is not 1, the transfers to every line at its stop.
 fn alight(
     t: &[u32],
@@ -221,7 +230,7 @@ fn alight(
     if 65536 < n {
         return n;
     }
-    if tables::time(t, c, at, 5) == 1 {
+    if barred(t, c, at) {
         return n;
     }
     let w = tables::time(t, c, at, 1) + time;
@@ -356,7 +365,7 @@ fn most_alight(
     if 65536 < n {
         return n;
     }
-    if tables::time(t, c, at, 5) == 1 {
+    if barred(t, c, at) {
         return n;
     }
     let w = tables::time(t, c, at, 1) + time;
