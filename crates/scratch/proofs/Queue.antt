@@ -140,13 +140,15 @@ queue-step q p n r =
     }
 
 -- one after the other, where all fit so far
-pub queue-then : {lay : Lay} {stamp : ℕ} {agree agree′ : Tables → Query → Type 0} {f g : Tables → Query → Arrivals → Arrivals} {a b c : Memory} {q r s : List ℕ}
-    → QueueStep lay stamp agree f a b q r → b .head .full ≡ false → QueueStep lay stamp agree′ g b c r s → ((T : Tables) (Q : Query) → agree T Q → agree′ T Q)
-    → QueueStep lay stamp agree (λ T Q x. g T Q (f T Q x)) a c q s
-queue-then {lay} {stamp} {agree} {agree′} {f} {g} {a} {b} {c} {q} {r} {s} p n z h =
+pub queue-then : {lay : Lay} {stamp : ℕ} {agree agree′ : Tables → Query → Type 0} (both : Tables → Query → Type 0) {f g : Tables → Query → Arrivals → Arrivals}
+    {a b c : Memory} {q r s : List ℕ} → QueueStep lay stamp agree f a b q r → b .head .full ≡ false → QueueStep lay stamp agree′ g b c r s
+    → ((T : Tables) (Q : Query) → both T Q → agree T Q × agree′ T Q) → QueueStep lay stamp both (λ T Q x. g T Q (f T Q x)) a c q s
+queue-then {lay} {stamp} {agree} {agree′} both {f} {g} {a} {b} {c} {q} {r} {s} p n z h =
     record {
-      view = λ u T Q y. z .view u T Q (h T Q y) ∙ ap (g T Q) (p .view n T Q y);
-      over = λ u T Q y. let e = ap (λ (x : Arrivals). length (g T Q x .segQueue)) (p .view n T Q y) in omega (arith, z .over u T Q (h T Q y), e, ap (λ (x : ℕ). x / 4) (p .size));
+      view = λ u T Q y. z .view u T Q (h T Q y .1) ∙ ap (g T Q) (p .view n T Q (h T Q y .0));
+      over = λ u T Q y.
+          let e = ap (λ (x : Arrivals). length (g T Q x .segQueue)) (p .view n T Q (h T Q y .0)) in
+          omega (arith, z .over u T Q (h T Q y .1), e, ap (λ (x : ℕ). x / 4) (p .size));
       same = same-then (p .same) (z .same);
       ready = z .ready;
       grown = grown-then (p .grown) (z .grown);
@@ -273,3 +275,20 @@ pick-no false x y e = refl
 pub pick-yes : (p : Bool) (x y : List ℕ) → not p ≡ false → x ≡ cond p x y
 pick-yes true x y e = refl
 pick-yes false x y e = absurd (clash refl e)
+
+-- what a call that changes no label needs of the slices' lengths
+pub sized-work : {lay : Lay} {a b c : ℕ} → Sized lay a b c → Sized lay a (lay .stops * 104) (lay .stops * 13)
+sized-work ok =
+    record {
+      stops = ok .stops;
+      trips = ok .trips;
+      lines = ok .lines;
+      words = ok .words;
+      rows = refl;
+      metres = refl;
+      first = ok .first;
+      fits = ok .fits;
+      other-first = ok .other-first;
+      other-fits = ok .other-fits;
+      apart = ok .apart;
+    }

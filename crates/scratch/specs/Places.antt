@@ -51,6 +51,10 @@ pub record Sized (lay : Lay) (work labels distances : ℕ) : Type 0 where
   pub other-fits : lay .other + (lay .stops + 64) ≤ restAt lay
   pub apart : (lay .list + (lay .stops + 64) ≤ lay .other) ⊎ (lay .other + (lay .stops + 64) ≤ lay .list)
 
+-- the same with the two lists exchanged, as from one phase to the next
+abbrev pub turned : Lay → Lay
+turned lay = record { stops = lay .stops; trips = lay .trips; lines = lay .lines; list = lay .other; other = lay .list }
+
 -- all else is as it came: the other list, the egress table and what follows it
 pub record Same (lay : Lay) (w w′ : List ℕ) : Type 0 where
   pub size : length w′ ≡ length w

@@ -1,12 +1,14 @@
-// scratch: a query's state in memory (the Rust's TbrScratch), an arrival, a queued segment.
+// scratch: a query's state in memory (the Rust's TbrScratch): an arrival, a queued segment, an origin, a new state.
 // Specs: where the sections of the working numbers begin (Places), the state seen as the model's (View), what a call does to it
-// (Step).
-// Proves: each function is the model's function of the same name on the state seen so, for all tables and queries that agree with
-// what it reads; all else in memory is as it came.
+// (Step), slices filled before a query (Fill).
+// Proves: best_after, improve, relax, enqueue and set_out are the model's functions on the state seen so, for all tables and queries
+// that agree with what they read, and all else in memory is as it came; reset is its new state; fill_egress its egress stops.
+// proofs/Steps, Queue: how calls compose (step-as, step-then, queue-step, queue-then, queue-over; alight and transfer are callers);
+// proofs/Turns: from one phase to the next.
 // Assumes nothing.
 ghost use mathlib.Core.Path.{_≡_};
 ghost use Prim.Native.Nat.{ℕ, _+_, _*_, _-_, _/_, _≤_, _<_};
-ghost use mathlib.Core.Bool.{cond, _&&_};
+ghost use mathlib.Core.Bool.{false, cond, _&&_};
 ghost use mathlib.Core.List.{List, []};
 ghost use lib.ListN.{length, getD, set, replicate};
 ghost use lib.Ieee.{Float};
@@ -278,6 +280,37 @@ pub fn alight(
         time_shift_s: ride.shift,
     };
     relax(lay, ride.stamp, s, v, how, work, labels, distances, h)
+}
+
+// A transfer taken: the stop where its trip is boarded at `v` is reached on foot from stop `from`, and its segment is queued.
+pub fn transfer(
+    lay: Lay,
+    stamp: u32,
+    plain: bool,
+    seg: Seg,
+    v: u32,
+    from: u32,
+    time: u32,
+    work: &mut [u32],
+    labels: &mut [u32],
+    distances: &mut [f64],
+    queue: &mut [u32],
+    h: Head,
+) -> Head
+    requires { ⌜ Ready lay stamp (memory (now work) (now labels) (now distances) h) ⌝ ∗ ⌜ (seg .trip < lay .trips) × (seg .stop < lay .stops) ⌝ ∗ ⌜ v < 134217728 ⌝ ∗ ⌜ (h .full ≡ false) × (h .queued ≤ length (now queue) / 4) ⌝ }
+    ensures { λ x. ⌜ QueueStep lay stamp (λ T Q. EgressTable (Q .egress) lay (now (work .entry)) × (noWindows T (seg .trip) ≡ plain)) (λ T Q a. enqueued T Q (seg .trip) (seg .offset) (seg .stop) (seg .shift) (relaxed T Q stamp (seg .stop) v (Label.Walk v from (seg .stop) time noDistance (stamp - 1)) a)) (memory (now (work .entry)) (now (labels .entry)) (now (distances .entry)) h) (memory (now (work .exit)) (now (labels .exit)) (now (distances .exit)) x) (now (queue .entry)) (now (queue .exit)) ⌝ }
+{
+    let how = Label::Walk {
+        arrival_s: v,
+        from_stop: from,
+        to_stop: seg.stop,
+        duration_s: time,
+        distance_m: 0.0,
+        prev_round: stamp - 1,
+    };
+    let s = seg.stop as usize;
+    let x = relax(lay, stamp, s, v, how, work, labels, distances, h);
+    enqueue(lay, plain, seg, work, queue, x)
 }
 
 // The numbers from `from` up to `to` become `v`.
