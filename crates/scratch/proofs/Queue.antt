@@ -18,7 +18,7 @@ use Rattle.model.specs.Search.{Arrivals, Segment, enqueue}
 use Rattle.scratch.specs.declared.Lay.{Lay}
 use Rattle.scratch.specs.declared.Head.{Head}
 use Rattle.scratch.specs.Part.{part}
-use Rattle.scratch.specs.Places.{Sized, Same, Counted, Grown, earliestOf, stampsOf, reachOf}
+use Rattle.scratch.specs.Places.{WorkSized, Sized, Same, Counted, Grown, earliestOf, stampsOf, reachOf}
 use Rattle.scratch.specs.View.{Memory, memory, arrivalsOf, segmentAt, queueOf, putSegment}
 use Rattle.scratch.specs.Step.{Ready, Step, QueueStep}
 use Rattle.scratch.proofs.Part.{part-at, part-in, part-above, part-below}
@@ -179,7 +179,7 @@ record Lowered (lay : Lay) (p : Bool) (t o count : ℕ) (w w′ : List ℕ) : Ty
   pub reach : reachOf lay w′ ≡ elim p [ true ↦ set (reachOf lay w) t o | false ↦ reachOf lay w ]
   pub same : Same lay w w′
 
-lowered : (lay : Lay) (p : Bool) (t o count : ℕ) (w : List ℕ) {b c : ℕ} → Sized lay (length w) b c → t < lay .trips
+lowered : (lay : Lay) (p : Bool) (t o count : ℕ) (w : List ℕ) → WorkSized lay (length w) → t < lay .trips
     → Lowered lay p t o count w (cond p (set w (lay .stops * 2 + t) o) w)
 lowered lay false t o count w ok h = record { earliest = refl; stamps = refl; reached = refl; reach = refl; same = same-refl lay w }
 lowered lay true t o count w ok h =
@@ -241,7 +241,7 @@ module _ (lay : Lay) (stamp : ℕ) (w l : List ℕ) (m : List Float) (h : Head) 
       → QueueStep lay stamp agreed queuing (memory w l m h) (memory w′ l m (now-head (h .queued + 1) false)) q q′
   queue-put w′ q′ e f x y =
       let g : Segment = record { trip = t; offset = o; stop = s; shift = shift } in
-      let d : Lowered lay p t o (h .count) w w′ = rw y (lowered lay p t o (h .count) w (ok .sized) in-trips) in
+      let d : Lowered lay p t o (h .count) w w′ = rw y (lowered lay p t o (h .count) w (ok .sized .sections) in-trips) in
       let k : length q′ ≡ length q = ap length x ∙ put-length g q (h .queued) (omega (arith, f)) in
       record {
         view = λ u T Q z.
@@ -275,20 +275,3 @@ pick-no false x y e = refl
 pub pick-yes : (p : Bool) (x y : List ℕ) → not p ≡ false → x ≡ cond p x y
 pick-yes true x y e = refl
 pick-yes false x y e = absurd (clash refl e)
-
--- what a call that changes no label needs of the slices' lengths
-pub sized-work : {lay : Lay} {a b c : ℕ} → Sized lay a b c → Sized lay a (lay .stops * 104) (lay .stops * 13)
-sized-work ok =
-    record {
-      stops = ok .stops;
-      trips = ok .trips;
-      lines = ok .lines;
-      words = ok .words;
-      rows = refl;
-      metres = refl;
-      first = ok .first;
-      fits = ok .fits;
-      other-first = ok .other-first;
-      other-fits = ok .other-fits;
-      apart = ok .apart;
-    }

@@ -16,7 +16,7 @@ use Rattle.label.specs.declared.Label.{Label}
 use Rattle.scratch.specs.declared.Lay.{Lay}
 use Rattle.scratch.specs.declared.Head.{Head}
 use Rattle.scratch.specs.Part.{part, tally}
-use Rattle.scratch.specs.Places.{Sized, Same, Counted, Walks, EgressTable, turned, restAt, stampsOf}
+use Rattle.scratch.specs.Places.{WorkSized, Sized, Same, Counted, Walks, EgressTable, turned, restAt, stampsOf}
 use Rattle.scratch.specs.View.{Memory, memory, arrivalsOf, queueOf}
 use Rattle.scratch.specs.Step.{Ready, Starting, Stamp}
 use Rattle.scratch.specs.Fill.{Egressed}
@@ -29,7 +29,7 @@ part-same-at w w′ a n e r h =
     ∙ sym (tab-is (λ k. getD w (a + k) 0) n (part w a n) (part-length w a n r) (λ k u. part-at w a n k u))
 
 -- the first numbers of the other list are as they came
-pub other-kept : {lay : Lay} {w w′ : List ℕ} {b c : ℕ} → Sized lay (length w) b c → Same lay w w′ → (n : ℕ) → n ≤ lay .stops + 64 → part w′ (lay .other) n ≡ part w (lay .other) n
+pub other-kept : {lay : Lay} {w w′ : List ℕ} → WorkSized lay (length w) → Same lay w w′ → (n : ℕ) → n ≤ lay .stops + 64 → part w′ (lay .other) n ≡ part w (lay .other) n
 other-kept {lay} {w} {w′} ok p n h =
     part-same-at w w′ (lay .other) n (p .size) (omega (arith, ok .words, ok .other-fits, h))
     (λ i l u.
@@ -39,7 +39,7 @@ other-kept {lay} {w} {w′} ok p n h =
     ∙ part-at w (lay .other) (lay .stops + 64) (i - lay .other) (omega (arith, u, h))))
 
 -- the egress table filled changes nothing of the state
-pub egressed-view : (lay : Lay) (es : List (ℕ × ℕ)) (w w′ l : List ℕ) (m : List Float) (h : Head) (q : List ℕ) {b c : ℕ} → Sized lay (length w) b c
+pub egressed-view : (lay : Lay) (es : List (ℕ × ℕ)) (w w′ l : List ℕ) (m : List Float) (h : Head) (q : List ℕ) → WorkSized lay (length w)
     → h .count ≤ lay .stops + 64 → Egressed es lay w w′ → arrivalsOf lay (memory w′ l m h) q ≡ arrivalsOf lay (memory w l m h) q
 egressed-view lay es w w′ l m h q ok few p =
     let low : (a n : ℕ) → a + n ≤ restAt lay → part w′ a n ≡ part w a n =
@@ -60,15 +60,13 @@ pub egressed-starting : (lay : Lay) (es : List (ℕ × ℕ)) (w w′ l : List �
 egressed-starting lay es w w′ l m h ok e p = record { sized = rw (p .size) ok; walks = p .walks; room = omega (arith, e) }
 
 -- THE LISTS EXCHANGED, the new one empty: the model's state with no stop reached
-pub turned-sized : {lay : Lay} {a b c : ℕ} → Sized lay a b c → Sized (turned lay) a b c
-turned-sized {lay} ok =
+pub turned-sections : {lay : Lay} {a : ℕ} → WorkSized lay a → WorkSized (turned lay) a
+turned-sections {lay} ok =
     record {
       stops = ok .stops;
       trips = ok .trips;
       lines = ok .lines;
       words = ok .words;
-      rows = ok .rows;
-      metres = ok .metres;
       first = ok .other-first;
       fits = ok .other-fits;
       other-first = ok .first;
@@ -80,6 +78,9 @@ turned-sized {lay} ok =
         → (lay .other + (lay .stops + 64) ≤ lay .list) ⊎ (lay .list + (lay .stops + 64) ≤ lay .other)
     go (inl x) = inr x
     go (inr x) = inl x
+
+pub turned-sized : {lay : Lay} {a b c : ℕ} → Sized lay a b c → Sized (turned lay) a b c
+turned-sized ok = record { sections = turned-sections (ok .sections); rows = ok .rows; metres = ok .metres }
 
 abbrev pub emptiedHead : ℕ → Head → Head
 emptiedHead queued h = record { best = h .best; count = 0; queued = queued; full = h .full }
@@ -111,15 +112,17 @@ pub small-sized : Sized small 150 208 26
 unfolding small
 small-sized =
     record {
-      stops = omega arith;
-      trips = omega arith;
-      lines = omega arith;
-      words = refl;
+      sections = record {
+        stops = omega arith;
+        trips = omega arith;
+        lines = omega arith;
+        words = refl;
+        first = omega arith;
+        fits = omega arith;
+        other-first = omega arith;
+        other-fits = omega arith;
+        apart = inl (omega arith);
+      };
       rows = refl;
       metres = refl;
-      first = omega arith;
-      fits = omega arith;
-      other-first = omega arith;
-      other-fits = omega arith;
-      apart = inl (omega arith);
     }

@@ -16,7 +16,7 @@ ghost use Rattle.label.specs.Label.{noDistance};
 ghost use Rattle.tables.specs.Timetable.{timetable};
 ghost use Rattle.model.specs.Tables.{noWindows, stopAt};
 ghost use Rattle.model.specs.Search.{improve as improved, relax as relaxed, enqueue as enqueued, setOut};
-ghost use Rattle.scratch.specs.Places.{Sized, Same, Counted, Grown, Walks, EgressTable, restAt};
+ghost use Rattle.scratch.specs.Places.{WorkSized, Sized, Same, Counted, Grown, Walks, EgressTable, restAt};
 ghost use Rattle.scratch.specs.View.{memory, putSegment};
 ghost use Rattle.scratch.specs.Step.{Stamp, Ready, Step, QueueStep, Starting, StartStep, Entered, Marked, bestBy, Alighting};
 ghost use Rattle.scratch.specs.Fill.{Filled, Fresh, EgressRows, Egressed, egressOf};
@@ -54,7 +54,7 @@ pub fn best_after(word: u32, v: u32, best: u32) -> u32
 
 // Stop `s`, reached at `v`, is stamped and put at the end of the list.
 fn enter(lay: Lay, stamp: u32, s: usize, v: u32, work: &mut [u32], count: usize)
-    requires { ⌜ Sized lay (length (now work)) (lay .stops * 104) (lay .stops * 13) ⌝ ∗ ⌜ s < lay .stops ⌝ ∗ ⌜ count < lay .stops + 64 ⌝ }
+    requires { ⌜ WorkSized lay (length (now work)) ⌝ ∗ ⌜ s < lay .stops ⌝ ∗ ⌜ count < lay .stops + 64 ⌝ }
     ensures { λ _. ⌜ Entered lay stamp s v (now (work .entry)) (now (work .exit)) count ⌝ }
 {
     let at = lay.stops + s;
@@ -66,7 +66,7 @@ fn enter(lay: Lay, stamp: u32, s: usize, v: u32, work: &mut [u32], count: usize)
 
 // Stop `s`, reached at `v`, among the working numbers. The answer is how many stops the list has then.
 fn mark(lay: Lay, stamp: u32, s: usize, v: u32, work: &mut [u32], count: usize) -> usize
-    requires { ⌜ Sized lay (length (now work)) (lay .stops * 104) (lay .stops * 13) ⌝ ∗ ⌜ Counted lay stamp (now work) count ⌝ ∗ ⌜ s < lay .stops ⌝ }
+    requires { ⌜ WorkSized lay (length (now work)) ⌝ ∗ ⌜ Counted lay stamp (now work) count ⌝ ∗ ⌜ s < lay .stops ⌝ }
     ensures { λ n. ⌜ Marked lay stamp s v (now (work .entry)) (now (work .exit)) count n ⌝ }
 {
     let at = lay.stops + s;
@@ -167,7 +167,7 @@ pub fn enqueue(
     queue: &mut [u32],
     h: Head,
 ) -> Head
-    requires { ⌜ Sized lay (length (now work)) (lay .stops * 104) (lay .stops * 13) ⌝ ∗ ⌜ seg .trip < lay .trips ⌝ ∗ ⌜ h .queued ≤ length (now queue) / 4 ⌝ }
+    requires { ⌜ WorkSized lay (length (now work)) ⌝ ∗ ⌜ seg .trip < lay .trips ⌝ ∗ ⌜ h .queued ≤ length (now queue) / 4 ⌝ }
     ensures { λ x. ⌜ ((stamp : ℕ) (l : List ℕ) (m : List Float) → Ready lay stamp (memory (now (work .entry)) l m h) → QueueStep lay stamp (λ T Q. noWindows T (seg .trip) ≡ plain) (λ T Q. enqueued T Q (seg .trip) (seg .offset) (seg .stop) (seg .shift)) (memory (now (work .entry)) l m h) (memory (now (work .exit)) l m x) (now (queue .entry)) (now (queue .exit))) ⌝ }
 {
     let at = lay.stops * 2 + seg.trip as usize;
@@ -379,7 +379,7 @@ pub fn reset(lay: Lay, work: &mut [u32], labels: &mut [u32], distances: &mut [f6
 
 // One egress stop of the query, its row at `at`, into the egress table.
 fn put_egress(lay: Lay, q: &[u32], at: usize, work: &mut [u32])
-    requires { ⌜ Sized lay (length (now work)) (lay .stops * 104) (lay .stops * 13) ⌝ ∗ ⌜ at + 1 < length (now q) ⌝ ∗ ⌜ getD (now q) at 0 < lay .stops ⌝ ∗ ⌜ getD (now q) (at + 1) 0 ≤ 1048575 ⌝ }
+    requires { ⌜ WorkSized lay (length (now work)) ⌝ ∗ ⌜ at + 1 < length (now q) ⌝ ∗ ⌜ getD (now q) at 0 < lay .stops ⌝ ∗ ⌜ getD (now q) (at + 1) 0 ≤ 1048575 ⌝ }
     ensures { λ _. ⌜ now (work .exit) ≡ set (now (work .entry)) (restAt lay + getD (now (q .entry)) at 0) (getD (now (q .entry)) (at + 1) 0 + 1) ⌝ }
 {
     let i = lay.stops * 4 + lay.trips + 128 + tables::field(q, at);
@@ -389,7 +389,7 @@ fn put_egress(lay: Lay, q: &[u32], at: usize, work: &mut [u32])
 
 // All of them, into an empty egress table, the last row first.
 fn put_egresses(lay: Lay, q: &[u32], first: usize, n: usize, work: &mut [u32])
-    requires { ⌜ Sized lay (length (now work)) (lay .stops * 104) (lay .stops * 13) ⌝ ∗ ⌜ EgressRows lay (now q) first n ⌝ ∗ ⌜ Egressed [] lay (now work) (now work) ⌝ }
+    requires { ⌜ WorkSized lay (length (now work)) ⌝ ∗ ⌜ EgressRows lay (now q) first n ⌝ ∗ ⌜ Egressed [] lay (now work) (now work) ⌝ }
     ensures { λ _. ⌜ Egressed (egressOf (now (q .entry)) first n) lay (now (work .entry)) (now (work .exit)) ⌝ }
 {
     let mut k = n;
@@ -401,7 +401,7 @@ fn put_egresses(lay: Lay, q: &[u32], first: usize, n: usize, work: &mut [u32])
 
 // The egress table: 0 for no egress stop, else its walk + 1.
 pub fn fill_egress(lay: Lay, q: &[u32], first: usize, n: usize, work: &mut [u32])
-    requires { ⌜ Sized lay (length (now work)) (lay .stops * 104) (lay .stops * 13) ⌝ ∗ ⌜ EgressRows lay (now q) first n ⌝ }
+    requires { ⌜ WorkSized lay (length (now work)) ⌝ ∗ ⌜ EgressRows lay (now q) first n ⌝ }
     ensures { λ _. ⌜ Egressed (egressOf (now (q .entry)) first n) lay (now (work .entry)) (now (work .exit)) ⌝ }
 {
     let rest = lay.stops * 4 + lay.trips + 128;

@@ -4,7 +4,7 @@ use mathlib.Core.Path.{_≡_, _∙_}
 use denote.Ref.{now}
 use Rattle.model.specs.Tables.{noWindows}
 use Rattle.scratch.specs.Places.{EgressTable}
-use Rattle.scratch.proofs.Queue.{sized-work, queue-step, queue-then}
+use Rattle.scratch.proofs.Queue.{queue-step, queue-then}
 use borrow.Author.Needs.{needs}
 use Rattle.scratch.proofs.transfer.Statement.{statement}
 use Rattle.scratch.proofs.transfer.Tie as tie
@@ -23,7 +23,7 @@ relax-requires : tie.Need-relax-requires
 relax-requires c κs = search needs
 
 enqueue-requires : tie.Need-enqueue-requires
-enqueue-requires c κs = let a = c .before .before .before .before .before .before .before .before .before .before .before .before .before .before .before .before .before in let x = a .args in let r = c .before .before .before .before .before .before .before .before .relax .ensures in (sized-work (r .ready .sized), (a .pre .1 .0 .0, omega (arith, r .queued, a .pre .1 .1 .1 .1)))
+enqueue-requires c κs = let a = c .before .before .before .before .before .before .before .before .before .before .before .before .before .before .before .before .before in let x = a .args in let r = c .before .before .before .before .before .before .before .before .relax .ensures in (r .ready .sized .sections, (a .pre .1 .0 .0, omega (arith, r .queued, a .pre .1 .1 .1 .1)))
 
 same-length : tie.Need-same-length
 same-length c = search needs
