@@ -20,7 +20,7 @@ use Rattle.model.specs.Search.{Arrivals, newArrivals}
 use Rattle.scratch.specs.declared.Lay.{Lay}
 use Rattle.scratch.specs.declared.Head.{Head}
 use Rattle.scratch.specs.Part.{part}
-use Rattle.scratch.specs.Places.{Sized, EgressTable, Walks, egressWord, tableWord, restAt, listsAt}
+use Rattle.scratch.specs.Places.{WorkSized, EgressTable, Walks, egressWord, tableWord, restAt, listsAt}
 use Rattle.scratch.specs.View.{Memory, memory, arrivalsOf, labelsOf, queueOf}
 use Rattle.scratch.specs.Fill.{Filled, newHead, Fresh, egressAt, egressOf, EgressRows, Egressed}
 use Rattle.scratch.proofs.Part.{part-at, part-length}
@@ -89,7 +89,7 @@ zero-at (suc n) zero = refl
 zero-at (suc n) (suc i) = zero-at n i
 
 -- TbrScratch::new
-module _ (lay : Lay) (w w1 w2 w3 l : List ℕ) (m : List Float) {b c : ℕ} (ok : Sized lay (length w) b c) (z : w1 ≡ replicate (length w) 0)
+module _ (lay : Lay) (w w1 w2 w3 l : List ℕ) (m : List Float) (ok : WorkSized lay (length w)) (z : w1 ≡ replicate (length w) 0)
     (f : Filled 0 (lay .stops) never w1 w2) (g : Filled (lay .stops * 2) (lay .stops * 2 + lay .trips) never w2 w3) (e : l ≡ replicate (lay .stops * 104) 0) where
   zeros : (i : ℕ) → getD w1 i 0 ≡ 0
   zeros i = ap (λ (x : List ℕ). getD x i 0) z ∙ zero-at (length w) i
@@ -204,5 +204,5 @@ egress-again lay q first k n w w′ w″ ok r l h p e =
     rw (rows-more q first k n l h, e)
     (egress-more lay w w′ (tabFrom (egressAt q first) k (n - k)) (getD q (first + 2 * (k - 1)) 0) (getD q (first + 2 * (k - 1) + 1) 0) p (ok .stop (k - 1) u) (ok .walk (k - 1) u) r)
 
-pub sized-same : {lay : Lay} {b c m n : ℕ} → Sized lay m b c → n ≡ m → Sized lay n b c
+pub sized-same : {lay : Lay} {m n : ℕ} → WorkSized lay m → n ≡ m → WorkSized lay n
 sized-same ok e = rw e ok

@@ -5,3 +5,4 @@ pub mod Steps
 pub mod Queue
 pub mod Starts
 pub mod Filling
+pub mod Turns

@@ -11,7 +11,7 @@ use lib.Dec.{eqb}
 use borrow.Author.Tests.{eq-eqb, ne-eqb}
 use Rattle.scratch.specs.declared.Lay.{Lay}
 use Rattle.scratch.specs.Part.{part, tally}
-use Rattle.scratch.specs.Places.{Sized, Same, Counted, Grown, restAt, workSize, earliestOf, stampsOf, reachOf}
+use Rattle.scratch.specs.Places.{WorkSized, Same, Counted, Grown, restAt, workSize, earliestOf, stampsOf, reachOf}
 use Rattle.scratch.specs.Step.{Entered, Marked}
 use Rattle.scratch.proofs.Part.{first-in, part-at, part-in, part-below, part-above, part-more, part-length, tally-le, tally-room, tally-set}
 
@@ -22,7 +22,7 @@ pub same-then : {lay : Lay} {a b c : List ℕ} → Same lay a b → Same lay b c
 same-then p q = record { size = q .size ∙ p .size; list = q .list ∙ p .list; rest = q .rest ∙ p .rest }
 
 -- a store in the first three sections, or in the list being filled, changes nothing else
-pub same-low : (lay : Lay) (w : List ℕ) {b c : ℕ} → Sized lay (length w) b c → (i v : ℕ) → i < lay .stops * 2 + lay .trips → Same lay w (set w i v)
+pub same-low : (lay : Lay) (w : List ℕ) → WorkSized lay (length w) → (i v : ℕ) → i < lay .stops * 2 + lay .trips → Same lay w (set w i v)
 same-low lay w ok i v h =
     record {
       size = length-set w i v;
@@ -30,7 +30,7 @@ same-low lay w ok i v h =
       rest = drop-set-lt (restAt lay) w i v (omega (arith, h));
     }
 
-pub same-list : (lay : Lay) (w : List ℕ) {b c : ℕ} → Sized lay (length w) b c → (i v : ℕ) → i < lay .stops + 64 → Same lay w (set w (lay .list + i) v)
+pub same-list : (lay : Lay) (w : List ℕ) → WorkSized lay (length w) → (i v : ℕ) → i < lay .stops + 64 → Same lay w (set w (lay .list + i) v)
 same-list lay w ok i v h = record { size = length-set w (lay .list + i) v; list = go (ok .apart); rest = drop-set-lt (restAt lay) w (lay .list + i) v (omega (arith, h, ok .fits)) }
   where
     go : (lay .list + (lay .stops + 64) ≤ lay .other) ⊎ (lay .other + (lay .stops + 64) ≤ lay .list)
@@ -38,7 +38,7 @@ same-list lay w ok i v h = record { size = length-set w (lay .list + i) v; list 
     go (inl l) = part-below w (lay .other) (lay .stops + 64) (lay .list + i) v (omega (arith, h, l))
     go (inr r) = part-above w (lay .other) (lay .stops + 64) (lay .list + i) v (omega (arith, h, r))
 
-module _ (lay : Lay) (w : List ℕ) {b c : ℕ} (ok : Sized lay (length w) b c) where
+module _ (lay : Lay) (w : List ℕ) (ok : WorkSized lay (length w)) where
   -- the three stores of a stop that enters the list
   module _ (stamp s v count : ℕ) (h : s < lay .stops) (room : count < lay .stops + 64) where
     w1 : List ℕ
@@ -57,8 +57,8 @@ module _ (lay : Lay) (w : List ℕ) {b c : ℕ} (ok : Sized lay (length w) b c) 
     pub entered : Entered lay stamp s v w (set (set (set w s v) (lay .stops + s) stamp) (lay .list + count) s) count
     unfolding w1 w2 w3
     entered =
-        let ok1 : Sized lay (length w1) b c = rw (length-set w s v) ok in
-        let ok2 : Sized lay (length w2) b c = rw (length-set w1 (lay .stops + s) stamp) ok1 in
+        let ok1 : WorkSized lay (length w1) = rw (length-set w s v) ok in
+        let ok2 : WorkSized lay (length w2) = rw (length-set w1 (lay .stops + s) stamp) ok1 in
         record {
           earliest =
               below-list 0 (lay .stops) (omega arith) ∙ part-above w1 0 (lay .stops) (lay .stops + s) stamp (omega arith) ∙ first-in w (lay .stops) s v h;

@@ -18,7 +18,7 @@ use Rattle.model.specs.Search.{Arrivals, Segment, enqueue}
 use Rattle.scratch.specs.declared.Lay.{Lay}
 use Rattle.scratch.specs.declared.Head.{Head}
 use Rattle.scratch.specs.Part.{part}
-use Rattle.scratch.specs.Places.{Sized, Same, Counted, Grown, earliestOf, stampsOf, reachOf}
+use Rattle.scratch.specs.Places.{WorkSized, Sized, Same, Counted, Grown, earliestOf, stampsOf, reachOf}
 use Rattle.scratch.specs.View.{Memory, memory, arrivalsOf, segmentAt, queueOf, putSegment}
 use Rattle.scratch.specs.Step.{Ready, Step, QueueStep}
 use Rattle.scratch.proofs.Part.{part-at, part-in, part-above, part-below}
@@ -140,13 +140,15 @@ queue-step q p n r =
     }
 
 -- one after the other, where all fit so far
-pub queue-then : {lay : Lay} {stamp : ℕ} {agree agree′ : Tables → Query → Type 0} {f g : Tables → Query → Arrivals → Arrivals} {a b c : Memory} {q r s : List ℕ}
-    → QueueStep lay stamp agree f a b q r → b .head .full ≡ false → QueueStep lay stamp agree′ g b c r s → ((T : Tables) (Q : Query) → agree T Q → agree′ T Q)
-    → QueueStep lay stamp agree (λ T Q x. g T Q (f T Q x)) a c q s
-queue-then {lay} {stamp} {agree} {agree′} {f} {g} {a} {b} {c} {q} {r} {s} p n z h =
+pub queue-then : {lay : Lay} {stamp : ℕ} {agree agree′ : Tables → Query → Type 0} (both : Tables → Query → Type 0) {f g : Tables → Query → Arrivals → Arrivals}
+    {a b c : Memory} {q r s : List ℕ} → QueueStep lay stamp agree f a b q r → b .head .full ≡ false → QueueStep lay stamp agree′ g b c r s
+    → ((T : Tables) (Q : Query) → both T Q → agree T Q × agree′ T Q) → QueueStep lay stamp both (λ T Q x. g T Q (f T Q x)) a c q s
+queue-then {lay} {stamp} {agree} {agree′} both {f} {g} {a} {b} {c} {q} {r} {s} p n z h =
     record {
-      view = λ u T Q y. z .view u T Q (h T Q y) ∙ ap (g T Q) (p .view n T Q y);
-      over = λ u T Q y. let e = ap (λ (x : Arrivals). length (g T Q x .segQueue)) (p .view n T Q y) in omega (arith, z .over u T Q (h T Q y), e, ap (λ (x : ℕ). x / 4) (p .size));
+      view = λ u T Q y. z .view u T Q (h T Q y .1) ∙ ap (g T Q) (p .view n T Q (h T Q y .0));
+      over = λ u T Q y.
+          let e = ap (λ (x : Arrivals). length (g T Q x .segQueue)) (p .view n T Q (h T Q y .0)) in
+          omega (arith, z .over u T Q (h T Q y .1), e, ap (λ (x : ℕ). x / 4) (p .size));
       same = same-then (p .same) (z .same);
       ready = z .ready;
       grown = grown-then (p .grown) (z .grown);
@@ -177,7 +179,7 @@ record Lowered (lay : Lay) (p : Bool) (t o count : ℕ) (w w′ : List ℕ) : Ty
   pub reach : reachOf lay w′ ≡ elim p [ true ↦ set (reachOf lay w) t o | false ↦ reachOf lay w ]
   pub same : Same lay w w′
 
-lowered : (lay : Lay) (p : Bool) (t o count : ℕ) (w : List ℕ) {b c : ℕ} → Sized lay (length w) b c → t < lay .trips
+lowered : (lay : Lay) (p : Bool) (t o count : ℕ) (w : List ℕ) → WorkSized lay (length w) → t < lay .trips
     → Lowered lay p t o count w (cond p (set w (lay .stops * 2 + t) o) w)
 lowered lay false t o count w ok h = record { earliest = refl; stamps = refl; reached = refl; reach = refl; same = same-refl lay w }
 lowered lay true t o count w ok h =
@@ -239,7 +241,7 @@ module _ (lay : Lay) (stamp : ℕ) (w l : List ℕ) (m : List Float) (h : Head) 
       → QueueStep lay stamp agreed queuing (memory w l m h) (memory w′ l m (now-head (h .queued + 1) false)) q q′
   queue-put w′ q′ e f x y =
       let g : Segment = record { trip = t; offset = o; stop = s; shift = shift } in
-      let d : Lowered lay p t o (h .count) w w′ = rw y (lowered lay p t o (h .count) w (ok .sized) in-trips) in
+      let d : Lowered lay p t o (h .count) w w′ = rw y (lowered lay p t o (h .count) w (ok .sized .sections) in-trips) in
       let k : length q′ ≡ length q = ap length x ∙ put-length g q (h .queued) (omega (arith, f)) in
       record {
         view = λ u T Q z.

@@ -1,4 +1,4 @@
--- An origin in memory is the model's; alighting reads the stop that the model names. Assumes nothing.
+-- An origin in memory is the model's. Assumes nothing.
 use Prim.Native.Nat.{ℕ, zero, suc, _+_, _*_, _-_, _≤_, _<_}
 use mathlib.Core.Path.{_≡_, refl, sym, ap, ap₂, _∙_}
 use mathlib.Core.Bool.{Bool, true, false}

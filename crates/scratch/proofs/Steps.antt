@@ -82,12 +82,12 @@ step-none {lay} {stamp} {agree} f a ok e =
     record { view = e; same = same-refl lay (a .work); ready = ok; grown = record { by = omega arith }; queued = refl; full = refl }
 
 -- one after the other
-pub step-then : {lay : Lay} {stamp : ℕ} {agree agree′ : Tables → Query → Type 0} {f g : Tables → Query → Arrivals → Arrivals} {a b c : Memory}
-    → Step lay stamp agree f a b → Step lay stamp agree′ g b c → ((T : Tables) (Q : Query) → agree T Q → agree′ T Q)
-    → Step lay stamp agree (λ T Q x. g T Q (f T Q x)) a c
-step-then {lay} {stamp} {agree} {agree′} {f} {g} p r h =
+pub step-then : {lay : Lay} {stamp : ℕ} {agree agree′ : Tables → Query → Type 0} (both : Tables → Query → Type 0) {f g : Tables → Query → Arrivals → Arrivals} {a b c : Memory}
+    → Step lay stamp agree f a b → Step lay stamp agree′ g b c → ((T : Tables) (Q : Query) → both T Q → agree T Q × agree′ T Q)
+    → Step lay stamp both (λ T Q x. g T Q (f T Q x)) a c
+step-then {lay} {stamp} {agree} {agree′} both {f} {g} p r h =
     record {
-      view = λ T Q y q. r .view T Q (h T Q y) q ∙ ap (g T Q) (p .view T Q y q);
+      view = λ T Q y q. r .view T Q (h T Q y .1) q ∙ ap (g T Q) (p .view T Q (h T Q y .0) q);
       same = same-then (p .same) (r .same);
       ready = r .ready;
       grown = grown-then (p .grown) (r .grown);

@@ -37,19 +37,27 @@ stampsOf lay w = part w (stampsAt lay) (lay .stops)
 abbrev pub reachOf : Lay → List ℕ → List ℕ
 reachOf lay w = part w (reachAt lay) (lay .trips)
 
--- the slices are as long as the counts say, and the list being filled and the other one are the two lists
-pub record Sized (lay : Lay) (work labels distances : ℕ) : Type 0 where
+-- so many working numbers as the counts say, and the list being filled and the other one are the two lists
+pub record WorkSized (lay : Lay) (work : ℕ) : Type 0 where
   pub stops : lay .stops ≤ 4096
   pub trips : lay .trips ≤ 4096
   pub lines : lay .lines ≤ 4096
   pub words : work ≡ workSize lay
-  pub rows : labels ≡ lay .stops * 104
-  pub metres : distances ≡ lay .stops * 13
   pub first : listsAt lay ≤ lay .list
   pub fits : lay .list + (lay .stops + 64) ≤ restAt lay
   pub other-first : listsAt lay ≤ lay .other
   pub other-fits : lay .other + (lay .stops + 64) ≤ restAt lay
   pub apart : (lay .list + (lay .stops + 64) ≤ lay .other) ⊎ (lay .other + (lay .stops + 64) ≤ lay .list)
+
+-- and 13 records a stop: eight words of labels and a distance each
+pub record Sized (lay : Lay) (work labels distances : ℕ) : Type 0 where
+  pub sections : WorkSized lay work
+  pub rows : labels ≡ lay .stops * 104
+  pub metres : distances ≡ lay .stops * 13
+
+-- the same with the two lists exchanged, as from one phase to the next
+abbrev pub turned : Lay → Lay
+turned lay = record { stops = lay .stops; trips = lay .trips; lines = lay .lines; list = lay .other; other = lay .list }
 
 -- all else is as it came: the other list, the egress table and what follows it
 pub record Same (lay : Lay) (w w′ : List ℕ) : Type 0 where

@@ -1,12 +1,14 @@
-// scratch: a query's state in memory (the Rust's TbrScratch), an arrival, a queued segment.
+// scratch: a query's state in memory (the Rust's TbrScratch): an arrival, a queued segment, an origin, a new state.
 // Specs: where the sections of the working numbers begin (Places), the state seen as the model's (View), what a call does to it
-// (Step).
-// Proves: each function is the model's function of the same name on the state seen so, for all tables and queries that agree with
-// what it reads; all else in memory is as it came.
+// (Step), slices filled before a query (Fill).
+// Proves: best_after, improve, relax, enqueue and set_out are the model's functions on the state seen so, for all tables and queries
+// that agree with what they read, and all else in memory is as it came; reset is its new state; fill_egress its egress stops.
+// proofs/Steps, Queue: how calls compose (step-as, step-then, queue-step, queue-then, queue-over; alight and transfer are callers);
+// proofs/Turns: from one phase to the next.
 // Assumes nothing.
 ghost use mathlib.Core.Path.{_≡_};
 ghost use Prim.Native.Nat.{ℕ, _+_, _*_, _-_, _/_, _≤_, _<_};
-ghost use mathlib.Core.Bool.{cond, _&&_};
+ghost use mathlib.Core.Bool.{false, cond, _&&_};
 ghost use mathlib.Core.List.{List, []};
 ghost use lib.ListN.{length, getD, set, replicate};
 ghost use lib.Ieee.{Float};
@@ -14,7 +16,7 @@ ghost use Rattle.label.specs.Label.{noDistance};
 ghost use Rattle.tables.specs.Timetable.{timetable};
 ghost use Rattle.model.specs.Tables.{noWindows, stopAt};
 ghost use Rattle.model.specs.Search.{improve as improved, relax as relaxed, enqueue as enqueued, setOut};
-ghost use Rattle.scratch.specs.Places.{Sized, Same, Counted, Grown, Walks, EgressTable, restAt};
+ghost use Rattle.scratch.specs.Places.{WorkSized, Sized, Same, Counted, Grown, Walks, EgressTable, restAt};
 ghost use Rattle.scratch.specs.View.{memory, putSegment};
 ghost use Rattle.scratch.specs.Step.{Stamp, Ready, Step, QueueStep, Starting, StartStep, Entered, Marked, bestBy, Alighting};
 ghost use Rattle.scratch.specs.Fill.{Filled, Fresh, EgressRows, Egressed, egressOf};
@@ -52,7 +54,7 @@ pub fn best_after(word: u32, v: u32, best: u32) -> u32
 
 // Stop `s`, reached at `v`, is stamped and put at the end of the list.
 fn enter(lay: Lay, stamp: u32, s: usize, v: u32, work: &mut [u32], count: usize)
-    requires { ⌜ Sized lay (length (now work)) (lay .stops * 104) (lay .stops * 13) ⌝ ∗ ⌜ s < lay .stops ⌝ ∗ ⌜ count < lay .stops + 64 ⌝ }
+    requires { ⌜ WorkSized lay (length (now work)) ⌝ ∗ ⌜ s < lay .stops ⌝ ∗ ⌜ count < lay .stops + 64 ⌝ }
     ensures { λ _. ⌜ Entered lay stamp s v (now (work .entry)) (now (work .exit)) count ⌝ }
 {
     let at = lay.stops + s;
@@ -64,7 +66,7 @@ fn enter(lay: Lay, stamp: u32, s: usize, v: u32, work: &mut [u32], count: usize)
 
 // Stop `s`, reached at `v`, among the working numbers. The answer is how many stops the list has then.
 fn mark(lay: Lay, stamp: u32, s: usize, v: u32, work: &mut [u32], count: usize) -> usize
-    requires { ⌜ Sized lay (length (now work)) (lay .stops * 104) (lay .stops * 13) ⌝ ∗ ⌜ Counted lay stamp (now work) count ⌝ ∗ ⌜ s < lay .stops ⌝ }
+    requires { ⌜ WorkSized lay (length (now work)) ⌝ ∗ ⌜ Counted lay stamp (now work) count ⌝ ∗ ⌜ s < lay .stops ⌝ }
     ensures { λ n. ⌜ Marked lay stamp s v (now (work .entry)) (now (work .exit)) count n ⌝ }
 {
     let at = lay.stops + s;
@@ -165,7 +167,7 @@ pub fn enqueue(
     queue: &mut [u32],
     h: Head,
 ) -> Head
-    requires { ⌜ Sized lay (length (now work)) (lay .stops * 104) (lay .stops * 13) ⌝ ∗ ⌜ seg .trip < lay .trips ⌝ ∗ ⌜ h .queued ≤ length (now queue) / 4 ⌝ }
+    requires { ⌜ WorkSized lay (length (now work)) ⌝ ∗ ⌜ seg .trip < lay .trips ⌝ ∗ ⌜ h .queued ≤ length (now queue) / 4 ⌝ }
     ensures { λ x. ⌜ ((stamp : ℕ) (l : List ℕ) (m : List Float) → Ready lay stamp (memory (now (work .entry)) l m h) → QueueStep lay stamp (λ T Q. noWindows T (seg .trip) ≡ plain) (λ T Q. enqueued T Q (seg .trip) (seg .offset) (seg .stop) (seg .shift)) (memory (now (work .entry)) l m h) (memory (now (work .exit)) l m x) (now (queue .entry)) (now (queue .exit))) ⌝ }
 {
     let at = lay.stops * 2 + seg.trip as usize;
@@ -280,6 +282,37 @@ pub fn alight(
     relax(lay, ride.stamp, s, v, how, work, labels, distances, h)
 }
 
+// A transfer taken: the stop where its trip is boarded at `v` is reached on foot from stop `from`, and its segment is queued.
+pub fn transfer(
+    lay: Lay,
+    stamp: u32,
+    plain: bool,
+    seg: Seg,
+    v: u32,
+    from: u32,
+    time: u32,
+    work: &mut [u32],
+    labels: &mut [u32],
+    distances: &mut [f64],
+    queue: &mut [u32],
+    h: Head,
+) -> Head
+    requires { ⌜ Ready lay stamp (memory (now work) (now labels) (now distances) h) ⌝ ∗ ⌜ (seg .trip < lay .trips) × (seg .stop < lay .stops) ⌝ ∗ ⌜ v < 134217728 ⌝ ∗ ⌜ (h .full ≡ false) × (h .queued ≤ length (now queue) / 4) ⌝ }
+    ensures { λ x. ⌜ QueueStep lay stamp (λ T Q. EgressTable (Q .egress) lay (now (work .entry)) × (noWindows T (seg .trip) ≡ plain)) (λ T Q a. enqueued T Q (seg .trip) (seg .offset) (seg .stop) (seg .shift) (relaxed T Q stamp (seg .stop) v (Label.Walk v from (seg .stop) time noDistance (stamp - 1)) a)) (memory (now (work .entry)) (now (labels .entry)) (now (distances .entry)) h) (memory (now (work .exit)) (now (labels .exit)) (now (distances .exit)) x) (now (queue .entry)) (now (queue .exit)) ⌝ }
+{
+    let how = Label::Walk {
+        arrival_s: v,
+        from_stop: from,
+        to_stop: seg.stop,
+        duration_s: time,
+        distance_m: 0.0,
+        prev_round: stamp - 1,
+    };
+    let s = seg.stop as usize;
+    let x = relax(lay, stamp, s, v, how, work, labels, distances, h);
+    enqueue(lay, plain, seg, work, queue, x)
+}
+
 // The numbers from `from` up to `to` become `v`.
 pub fn fill(words: &mut [u32], from: usize, to: usize, v: u32)
     requires { ⌜ from ≤ to ⌝ ∗ ⌜ to ≤ length (now words) ⌝ }
@@ -346,7 +379,7 @@ pub fn reset(lay: Lay, work: &mut [u32], labels: &mut [u32], distances: &mut [f6
 
 // One egress stop of the query, its row at `at`, into the egress table.
 fn put_egress(lay: Lay, q: &[u32], at: usize, work: &mut [u32])
-    requires { ⌜ Sized lay (length (now work)) (lay .stops * 104) (lay .stops * 13) ⌝ ∗ ⌜ at + 1 < length (now q) ⌝ ∗ ⌜ getD (now q) at 0 < lay .stops ⌝ ∗ ⌜ getD (now q) (at + 1) 0 ≤ 1048575 ⌝ }
+    requires { ⌜ WorkSized lay (length (now work)) ⌝ ∗ ⌜ at + 1 < length (now q) ⌝ ∗ ⌜ getD (now q) at 0 < lay .stops ⌝ ∗ ⌜ getD (now q) (at + 1) 0 ≤ 1048575 ⌝ }
     ensures { λ _. ⌜ now (work .exit) ≡ set (now (work .entry)) (restAt lay + getD (now (q .entry)) at 0) (getD (now (q .entry)) (at + 1) 0 + 1) ⌝ }
 {
     let i = lay.stops * 4 + lay.trips + 128 + tables::field(q, at);
@@ -356,7 +389,7 @@ fn put_egress(lay: Lay, q: &[u32], at: usize, work: &mut [u32])
 
 // All of them, into an empty egress table, the last row first.
 fn put_egresses(lay: Lay, q: &[u32], first: usize, n: usize, work: &mut [u32])
-    requires { ⌜ Sized lay (length (now work)) (lay .stops * 104) (lay .stops * 13) ⌝ ∗ ⌜ EgressRows lay (now q) first n ⌝ ∗ ⌜ Egressed [] lay (now work) (now work) ⌝ }
+    requires { ⌜ WorkSized lay (length (now work)) ⌝ ∗ ⌜ EgressRows lay (now q) first n ⌝ ∗ ⌜ Egressed [] lay (now work) (now work) ⌝ }
     ensures { λ _. ⌜ Egressed (egressOf (now (q .entry)) first n) lay (now (work .entry)) (now (work .exit)) ⌝ }
 {
     let mut k = n;
@@ -368,7 +401,7 @@ fn put_egresses(lay: Lay, q: &[u32], first: usize, n: usize, work: &mut [u32])
 
 // The egress table: 0 for no egress stop, else its walk + 1.
 pub fn fill_egress(lay: Lay, q: &[u32], first: usize, n: usize, work: &mut [u32])
-    requires { ⌜ Sized lay (length (now work)) (lay .stops * 104) (lay .stops * 13) ⌝ ∗ ⌜ EgressRows lay (now q) first n ⌝ }
+    requires { ⌜ WorkSized lay (length (now work)) ⌝ ∗ ⌜ EgressRows lay (now q) first n ⌝ }
     ensures { λ _. ⌜ Egressed (egressOf (now (q .entry)) first n) lay (now (work .entry)) (now (work .exit)) ⌝ }
 {
     let rest = lay.stops * 4 + lay.trips + 128;

@@ -5,7 +5,7 @@ use denote.Ref.{now}
 use lib.ListN.{length, getD, set, replicate}
 use lib.ListN.{length-set}
 use Rattle.loops.specs.Count.{tabFrom}
-use Rattle.scratch.specs.Places.{Sized}
+use Rattle.scratch.specs.Places.{WorkSized}
 use Rattle.scratch.specs.Fill.{EgressRows, Egressed, egressAt}
 use Rattle.scratch.proofs.Filling.{egress-again, sized-same, rows-end, all-rows}
 use Rattle.scratch.proofs.put_egresses.Statement.{statement}
@@ -15,7 +15,7 @@ use Rattle.scratch.proofs.put_egresses.Lts as lts
 use Rattle.scratch.proofs.put_egress.Reads as put-egress-reads
 
 abbrev Inv-loop : tie.InvT-loop
-Inv-loop lay q first n work₀ k₀ work k = (k ≤ n) × Sized lay (length work) (lay .stops * 104) (lay .stops * 13) × EgressRows lay q first n × Egressed (tabFrom (egressAt q first) k (n - k)) lay work₀ work
+Inv-loop lay q first n work₀ k₀ work k = (k ≤ n) × WorkSized lay (length work) × EgressRows lay q first n × Egressed (tabFrom (egressAt q first) k (n - k)) lay work₀ work
 
 abbrev μ-loop : tie.MeasureT-loop
 μ-loop lay q first n work₀ k₀ work k = k

@@ -1,4 +1,5 @@
 use denote.Ref.{now}
+use native.Mathlib.Omega.{arith}
 use Rattle.scratch.proofs.Starts.{start-late, start-early}
 use borrow.Author.Needs.{needs}
 use Rattle.scratch.proofs.set_out.Statement.{statement}
@@ -53,7 +54,7 @@ store-label-requires : tie.Need-store-label-requires
 store-label-requires c κs = search needs
 
 add-t17 : tie.Need-add-t17
-add-t17 c = search needs
+add-t17 c = let a = c .before .before .before .before .before .before .before .before .before .before .before .before .before .before .before .before .before .before .before .before .before in omega (arith, a .pre .0 .room, a .pre .0 .sized .sections .stops)
 
 same-length : tie.Need-same-length
 same-length c = search needs
