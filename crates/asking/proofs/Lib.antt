@@ -1,0 +1,4 @@
+pub mod Parts
+pub mod Yes
+pub mod Asking
+pub mod Laws
