@@ -2,3 +2,4 @@ pub mod Parts
 pub mod Yes
 pub mod Asking
 pub mod Laws
+pub mod Examples

@@ -219,7 +219,11 @@ pub fn transfer_rows(n: QueryCounts, area: usize) -> usize
     ensures { λ r. ⌜ r ≡ transferRows n area ⌝ }
 {
     let whole = area / 4;
-    if n.transfers < whole { n.transfers } else { whole }
+    if n.transfers < whole {
+        n.transfers
+    } else {
+        whole
+    }
 }
 
 // Transfer run e.
@@ -284,11 +288,7 @@ fn line_numbers(built: &[u32], n: QueryCounts) -> bool
     ensures { λ r. ⌜ r ≡ lineNumbers (now (built .entry)) n ⌝ }
 {
     let lines = column_below(built, 0, 1, n.timetable.trips, n.lines);
-    let entries = line_layout::entries_ok(
-        n.timetable,
-        line_entries(built, n),
-        n.entries,
-    );
+    let entries = line_layout::entries_ok(n.timetable, line_entries(built, n), n.entries);
     both(lines, entries)
 }
 
@@ -392,7 +392,10 @@ fn ranges_ok(
     );
     both(
         tables,
-        both(setting_ranges(q), both(walk_ranges(q, n), delays_ok(5, q, n))),
+        both(
+            setting_ranges(q),
+            both(walk_ranges(q, n), delays_ok(5, q, n)),
+        ),
     )
 }
 
@@ -520,7 +523,15 @@ pub fn questions(
     if !counts_ok(n) {
         return 1;
     }
-    if !sizes_ok(t, n, built.len(), patterns.len(), distances.len(), q.len(), l) {
+    if !sizes_ok(
+        t,
+        n,
+        built.len(),
+        patterns.len(),
+        distances.len(),
+        q.len(),
+        l,
+    ) {
         return 2;
     }
     let rows = transfer_rows(n, transfers.len());
