@@ -3,3 +3,4 @@ pub mod Yes
 pub mod Asking
 pub mod Laws
 pub mod Examples
+pub mod Converse
