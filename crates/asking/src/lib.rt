@@ -1,8 +1,9 @@
 // asking: what a query is lent to read, and its door (document 01, questions 1 to 6).
 // Specs: where each section stands, the tables and the query that the lent slices say (Lent); each question as a test of the
 // lists and the verdict (Door); what a yes gives (Sane).
-// Proves: `questions` answers the verdict on every input. In proofs/Laws: a verdict of 0 gives the model's door of the tables and
-// the query that the slices say.
+// Proves: `questions` answers the verdict on every input. In proofs/Yes: what each yes gives. In proofs/Laws: a verdict of 0 gives
+// the model's door of the tables and the query that the slices say; in proofs/Converse: question 6 finds departures and egress
+// stops in order where the model's door has them so. In proofs/Examples: Timetable K passes, damaged copies are refused.
 // Assumes nothing.
 ghost use mathlib.Core.Path.{_≡_};
 ghost use mathlib.Core.Bool.{_&&_};
