@@ -510,7 +510,7 @@ fn pack_lines(
 }
 
 // How many stop events the trips have.
-fn event_count(t: &[u32], c: Counts) -> usize
+pub fn event_count(t: &[u32], c: Counts) -> usize
     requires { ⌜ CountsOk c ⌝ ∗ ⌜ SlicesOk (now t) c ⌝ }
     ensures { λ r. ⌜ r ≡ eventsBefore (timetable (now (t .entry)) c) (c .trips) ⌝ ∗ ⌜ r ≤ 17592186044416 ⌝ }
 {

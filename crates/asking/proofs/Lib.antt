@@ -1,0 +1,6 @@
+pub mod Parts
+pub mod Yes
+pub mod Asking
+pub mod Laws
+pub mod Examples
+pub mod Converse

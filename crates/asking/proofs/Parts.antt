@@ -1,0 +1,49 @@
+-- How long the sections are, and what stands in them.
+use Prim.Native.Nat.{ℕ, _+_, _*_, _-_, _<_, _≤_}
+use mathlib.Core.Path.{_≡_, _∙_}
+use mathlib.Core.List.{List}
+use native.Mathlib.Omega.{arith}
+use lib.ListN.{length, getD}
+use lib.Seq.{length-slice}
+use Rattle.departures.proofs.Parts.{getD-slice}
+use Rattle.asking.specs.declared.QueryCounts.{QueryCounts}
+use Rattle.asking.specs.Lent.{part, marksAt, transferRunsAt, querySize, entriesAt, lineRunsAt, stopRunsAt, rowsAt, delaysAt, stopRowsAt, lineRuns, lineEntries, stopRuns, departureRows, delayRows, stopRows}
+use Rattle.asking.specs.Sane.{Sized}
+
+pub part-size : (l : List ℕ) (first count : ℕ) → first + count ≤ length l → length (part l first count) ≡ count
+part-size l first count h = length-slice first (first + count) l h ∙ omega arith
+
+-- number i of a part is number first + i of the list
+pub part-at : (l : List ℕ) (first count i : ℕ) → i < count → getD (part l first count) i 0 ≡ getD l (first + i) 0
+part-at l first count i h = getD-slice first (first + count) l i 0 (omega arith)
+
+module _ (built : List ℕ) (n : QueryCounts) (h : marksAt n ≤ length built) where
+  pub line-runs-size : length (lineRuns built n) ≡ n .lines * 2
+  line-runs-size = part-size built (lineRunsAt n) (n .lines * 2) (omega arith)
+
+  pub entries-size : length (lineEntries built n) ≡ n .entries
+  entries-size = part-size built (entriesAt n) (n .entries) (omega arith)
+
+  pub stop-runs-size : length (stopRuns built n) ≡ n .timetable .stops * 2
+  stop-runs-size = part-size built (stopRunsAt n) (n .timetable .stops * 2) (omega arith)
+
+  pub rows-size : length (departureRows built n) ≡ n .departures * 2
+  rows-size = part-size built (rowsAt n) (n .departures * 2) (omega arith)
+
+module _ (q : List ℕ) (n : QueryCounts) (h : querySize n ≤ length q) where
+  pub delay-rows-size : length (delayRows q n) ≡ n .delays * 2
+  delay-rows-size = part-size q (delaysAt n) (n .delays * 2) (omega arith)
+
+  pub stop-rows-size : length (stopRows q n) ≡ n .«stop_rows» * 5
+  stop-rows-size = part-size q (stopRowsAt n) (n .«stop_rows» * 5) (omega arith)
+
+-- a slice as long as its counts say has all its sections
+module _ {t : List ℕ} {n : QueryCounts} {b q : ℕ} (h : Sized t n b q) where
+  pub marks-room : marksAt n ≤ b
+  marks-room = omega (arith, h .builtIs)
+
+  pub runs-room : transferRunsAt n ≤ b
+  runs-room = omega (arith, h .builtIs)
+
+  pub query-room : querySize n ≤ q
+  query-room = omega (arith, h .queryIs)

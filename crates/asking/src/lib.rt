@@ -1,0 +1,552 @@
+// asking: what a query is lent to read, and its door (document 01, questions 1 to 6).
+// Specs: where each section stands, the tables and the query that the lent slices say (Lent); each question as a test of the
+// lists and the verdict (Door); what a yes gives (Sane).
+// Proves: `questions` answers the verdict on every input. In proofs/Yes: what each yes gives. In proofs/Laws: a verdict of 0 gives
+// the model's door of the tables and the query that the slices say; in proofs/Converse: question 6 finds departures and egress
+// stops in order where the model's door has them so. In proofs/Examples: Timetable K passes, damaged copies are refused.
+// Assumes nothing.
+ghost use mathlib.Core.Path.{_≡_};
+ghost use mathlib.Core.Bool.{_&&_};
+ghost use Prim.Native.Nat.{_+_, _*_, _-_, _≤_, _<_};
+ghost use lib.ListN.{length, getD};
+ghost use lib.Dec.{ltb};
+ghost use Rattle.tables.specs.Timetable.{timetable};
+ghost use Rattle.tables.specs.Sane.{CountsOk, SlicesOk, RunsOk};
+ghost use Rattle.departures.specs.Departures.{rowDeparture, departuresOf, runLength};
+ghost use Rattle.departures.specs.Listed.{RunsListed, RowKnown, RowsKnown, RowsListed};
+ghost use Rattle.asking.specs.Lent.{marksAt, transferRunsAt, builtSize, querySize, delaysOf, part, lineRuns, lineEntries, stopRuns, departureRows, delayRows, stopRows, transferRunAt, transferRows, lent};
+ghost use Rattle.asking.specs.Door.{question1, readOk, workSize, columnAt, writtenOk, question2, transferRunsOk, question3, columnBelow, lineNumbers, queryNumbers, question4, markRanges, transferRanges, settingRanges, walkRanges, question5, notEarlier, partOrder, departureOrder, columnRises, question6, verdict};
+ghost use Rattle.asking.specs.Sane.{Limits, Sized, Placed, Column};
+ghost use Rattle.delays.specs.Asked.{rowsAsked};
+use departures::DepartureRow;
+use departures::StopRun;
+use door::both;
+use tables::Counts;
+
+// How many there are of each.
+pub struct QueryCounts {
+    pub timetable: Counts,
+    pub cells: usize,
+    pub patterns: usize,
+    pub lines: usize,
+    pub entries: usize,
+    pub departures: usize,
+    pub transfers: usize,
+    pub delays: usize,
+    pub stop_rows: usize,
+    pub origins: usize,
+    pub egress: usize,
+}
+
+// How long each slice is that a query writes.
+pub struct Lengths {
+    pub labels: usize,
+    pub label_distances: usize,
+    pub work: usize,
+    pub queue_a: usize,
+    pub queue_b: usize,
+    pub candidates: usize,
+}
+
+// Sections as parts of their slice.
+fn part(s: &[u32], first: usize, count: usize) -> &[u32]
+    requires { ⌜ first + count ≤ length (now s) ⌝ }
+    ensures { λ r. ⌜ now r ≡ part (now (s .entry)) first count ⌝ }
+{
+    &s[first..first + count]
+}
+
+pub fn line_runs(built: &[u32], n: QueryCounts) -> &[u32]
+    requires { ⌜ Limits n ⌝ ∗ ⌜ marksAt n ≤ length (now built) ⌝ }
+    ensures { λ r. ⌜ now r ≡ lineRuns (now (built .entry)) n ⌝ }
+{
+    part(built, n.timetable.trips, n.lines * 2)
+}
+
+pub fn line_entries(built: &[u32], n: QueryCounts) -> &[u32]
+    requires { ⌜ Limits n ⌝ ∗ ⌜ marksAt n ≤ length (now built) ⌝ }
+    ensures { λ r. ⌜ now r ≡ lineEntries (now (built .entry)) n ⌝ }
+{
+    part(built, n.timetable.trips + n.lines * 2, n.entries)
+}
+
+pub fn stop_runs(built: &[u32], n: QueryCounts) -> &[u32]
+    requires { ⌜ Limits n ⌝ ∗ ⌜ marksAt n ≤ length (now built) ⌝ }
+    ensures { λ r. ⌜ now r ≡ stopRuns (now (built .entry)) n ⌝ }
+{
+    part(
+        built,
+        n.timetable.trips + n.lines * 2 + n.entries,
+        n.timetable.stops * 2,
+    )
+}
+
+pub fn departure_rows(built: &[u32], n: QueryCounts) -> &[u32]
+    requires { ⌜ Limits n ⌝ ∗ ⌜ marksAt n ≤ length (now built) ⌝ }
+    ensures { λ r. ⌜ now r ≡ departureRows (now (built .entry)) n ⌝ }
+{
+    part(
+        built,
+        n.timetable.trips + n.lines * 2 + n.entries + n.timetable.stops * 2,
+        n.departures * 2,
+    )
+}
+
+pub fn delay_rows(q: &[u32], n: QueryCounts) -> &[u32]
+    requires { ⌜ Limits n ⌝ ∗ ⌜ querySize n ≤ length (now q) ⌝ }
+    ensures { λ r. ⌜ now r ≡ delayRows (now (q .entry)) n ⌝ }
+{
+    part(q, 7 + n.origins * 2 + n.egress * 2, n.delays * 2)
+}
+
+pub fn stop_rows(q: &[u32], n: QueryCounts) -> &[u32]
+    requires { ⌜ Limits n ⌝ ∗ ⌜ querySize n ≤ length (now q) ⌝ }
+    ensures { λ r. ⌜ now r ≡ stopRows (now (q .entry)) n ⌝ }
+{
+    part(
+        q,
+        7 + n.origins * 2 + n.egress * 2 + n.delays * 2,
+        n.stop_rows * 5,
+    )
+}
+
+// Where the marks and the transfer runs begin, how many numbers a query has, and the workspace.
+pub fn marks_at(n: QueryCounts) -> usize
+    requires { ⌜ Limits n ⌝ }
+    ensures { λ r. ⌜ r ≡ marksAt n ⌝ ∗ ⌜ r ≤ 200000 ⌝ }
+{
+    n.timetable.trips + n.lines * 2 + n.entries + n.timetable.stops * 2 + n.departures * 2
+}
+
+pub fn transfer_runs_at(n: QueryCounts) -> usize
+    requires { ⌜ Limits n ⌝ }
+    ensures { λ r. ⌜ r ≡ transferRunsAt n ⌝ ∗ ⌜ r ≤ 300000 ⌝ }
+{
+    marks_at(n) + n.timetable.stops
+}
+
+pub fn query_size(n: QueryCounts) -> usize
+    requires { ⌜ Limits n ⌝ }
+    ensures { λ r. ⌜ r ≡ querySize n ⌝ }
+{
+    7 + n.origins * 2 + n.egress * 2 + n.delays * 2 + n.stop_rows * 5
+}
+
+pub fn work_size(n: QueryCounts) -> usize
+    requires { ⌜ Limits n ⌝ }
+    ensures { λ r. ⌜ r ≡ workSize n ⌝ }
+{
+    n.timetable.stops * 5 + n.timetable.trips * 9 + n.lines * 3 + 128
+}
+
+// Question 1.
+fn counts_ok(n: QueryCounts) -> bool
+    ensures { λ r. ⌜ r ≡ question1 n ⌝ }
+{
+    let a = both(
+        tables::counts_ok(n.timetable),
+        both(n.cells <= 512, n.patterns <= 4096),
+    );
+    let b = both(
+        both(n.lines <= 4096, n.entries <= 4096),
+        both(n.departures <= 65536, n.transfers <= 65536),
+    );
+    let c = both(
+        both(n.delays <= 4096, n.stop_rows <= 4096),
+        both(n.origins <= 64, n.egress <= 64),
+    );
+    both(a, both(b, c))
+}
+
+// Question 2 of what is read, but for the timetable's slice, whose numbers the others are measured by.
+fn read_ok(
+    t: &[u32],
+    n: QueryCounts,
+    built: usize,
+    patterns: usize,
+    distances: usize,
+    q: usize,
+) -> bool
+    requires { ⌜ Limits n ⌝ ∗ ⌜ SlicesOk (now t) (n .timetable) ⌝ }
+    ensures { λ r. ⌜ r ≡ readOk (now (t .entry)) n built patterns distances q ⌝ }
+{
+    let events = transfers::event_count(t, n.timetable);
+    let a = built == transfer_runs_at(n) + events * 2;
+    let b = distances == n.timetable.edges + n.origins;
+    both(
+        both(a, patterns == n.patterns * 64),
+        both(b, q == query_size(n)),
+    )
+}
+
+// Question 2 of what is written.
+fn written_ok(n: QueryCounts, l: Lengths) -> bool
+    requires { ⌜ Limits n ⌝ }
+    ensures { λ r. ⌜ r ≡ writtenOk n l ⌝ }
+{
+    let labels = both(
+        l.labels == n.timetable.stops * 13 * 8,
+        l.label_distances == n.timetable.stops * 13,
+    );
+    both(
+        both(labels, l.work == work_size(n)),
+        both(l.queue_a == l.queue_b, l.candidates == 39),
+    )
+}
+
+fn sizes_ok(
+    t: &[u32],
+    n: QueryCounts,
+    built: usize,
+    patterns: usize,
+    distances: usize,
+    q: usize,
+    l: Lengths,
+) -> bool
+    requires { ⌜ Limits n ⌝ }
+    ensures { λ r. ⌜ r ≡ question2 (now (t .entry)) n built patterns distances q l ⌝ }
+{
+    if !tables::slices_ok(t, n.timetable) {
+        return false;
+    }
+    both(
+        read_ok(t, n, built, patterns, distances, q),
+        written_ok(n, l),
+    )
+}
+
+// How many transfers the area of this length holds.
+pub fn transfer_rows(n: QueryCounts, area: usize) -> usize
+    ensures { λ r. ⌜ r ≡ transferRows n area ⌝ }
+{
+    let whole = area / 4;
+    if n.transfers < whole {
+        n.transfers
+    } else {
+        whole
+    }
+}
+
+// Transfer run e.
+pub fn transfer_run(built: &[u32], n: QueryCounts, e: usize) -> StopRun
+    requires { ⌜ Limits n ⌝ ∗ ⌜ transferRunsAt n + e * 2 + 1 < length (now built) ⌝ }
+    ensures { λ r. ⌜ r ≡ transferRunAt (now (built .entry)) n e ⌝ ∗ ⌜ (r .first < 4294967296) × (r .length < 4294967296) ⌝ }
+{
+    let at = transfer_runs_at(n) + e * 2;
+    StopRun {
+        first: tables::field(built, at),
+        length: tables::field(built, at + 1),
+    }
+}
+
+// Question 3 of every event's transfer run.
+fn transfer_runs_ok(built: &[u32], n: QueryCounts, events: usize, rows: usize) -> bool
+    requires { ⌜ Limits n ⌝ ∗ ⌜ transferRunsAt n + events * 2 ≤ length (now built) ⌝ }
+    ensures { λ r. ⌜ r ≡ transferRunsOk (now (built .entry)) n events rows ⌝ }
+{
+    let mut e: usize = 0;
+    while e < events {
+        if !departures::run_in(transfer_run(built, n, e), rows) {
+            return false;
+        }
+        e += 1;
+    }
+    true
+}
+
+// Question 3.
+fn runs_ok(t: &[u32], built: &[u32], n: QueryCounts, rows: usize) -> bool
+    requires { ⌜ Limits n ⌝ ∗ ⌜ SlicesOk (now t) (n .timetable) ⌝ ∗ ⌜ length (now built) ≡ builtSize (now t) n ⌝ }
+    ensures { λ r. ⌜ r ≡ question3 (now (t .entry)) (now (built .entry)) n rows ⌝ }
+{
+    let lines = line_layout::line_runs_ok(line_runs(built, n), n.lines, n.entries);
+    let stops = departures::stop_runs_ok(stop_runs(built, n), n.timetable, n.departures);
+    let events = transfers::event_count(t, n.timetable);
+    both(
+        both(tables::runs_ok(t, n.timetable), lines),
+        both(stops, transfer_runs_ok(built, n, events, rows)),
+    )
+}
+
+// Are so many numbers of a column below the bound?
+fn column_below(s: &[u32], first: usize, stride: usize, count: usize, bound: usize) -> bool
+    requires { ⌜ Column (length (now s)) first stride count ⌝ }
+    ensures { λ r. ⌜ r ≡ columnBelow (now (s .entry)) first stride count bound ⌝ }
+{
+    let mut i: usize = 0;
+    while i < count {
+        if bound <= tables::field(s, first + i * stride) {
+            return false;
+        }
+        i += 1;
+    }
+    true
+}
+
+// Question 4 of the lines.
+fn line_numbers(built: &[u32], n: QueryCounts) -> bool
+    requires { ⌜ Limits n ⌝ ∗ ⌜ marksAt n ≤ length (now built) ⌝ }
+    ensures { λ r. ⌜ r ≡ lineNumbers (now (built .entry)) n ⌝ }
+{
+    let lines = column_below(built, 0, 1, n.timetable.trips, n.lines);
+    let entries = line_layout::entries_ok(n.timetable, line_entries(built, n), n.entries);
+    both(lines, entries)
+}
+
+// Question 4 of origins and egress.
+fn query_numbers(q: &[u32], n: QueryCounts) -> bool
+    requires { ⌜ Limits n ⌝ ∗ ⌜ querySize n ≤ length (now q) ⌝ }
+    ensures { λ r. ⌜ r ≡ queryNumbers (now (q .entry)) n ⌝ }
+{
+    let stops = n.timetable.stops;
+    let origins = column_below(q, 7, 2, n.origins, stops);
+    let egress = column_below(q, 7 + n.origins * 2, 2, n.egress, stops);
+    both(origins, egress)
+}
+
+// Question 4, 5 or 6 of the delay tables.
+fn delays_ok(question: u32, q: &[u32], n: QueryCounts) -> bool
+    requires { ⌜ Limits n ⌝ ∗ ⌜ querySize n ≤ length (now q) ⌝ }
+    ensures { λ r. ⌜ r ≡ rowsAsked question (n .timetable .trips) (delaysOf (now (q .entry)) n) ⌝ }
+{
+    delays::rows_asked(
+        question,
+        n.timetable.trips as u32,
+        delay_rows(q, n),
+        stop_rows(q, n),
+    )
+}
+
+// Question 4.
+fn numbers_ok(t: &[u32], built: &[u32], q: &[u32], n: QueryCounts, rows: usize) -> bool
+    requires { ⌜ Limits n ⌝ ∗ ⌜ Sized (now t) n (length (now built)) (length (now q)) ⌝ ∗ ⌜ Placed (now t) (now built) n rows ⌝ }
+    ensures { λ r. ⌜ r ≡ question4 (now (t .entry)) (now (built .entry)) (now (q .entry)) n ⌝ }
+{
+    let c = n.timetable;
+    let listed = departures::listed_ok(
+        t,
+        c,
+        stop_runs(built, n),
+        departure_rows(built, n),
+        n.departures,
+    );
+    both(
+        both(tables::numbers_ok(t, c), line_numbers(built, n)),
+        both(listed, both(query_numbers(q, n), delays_ok(4, q, n))),
+    )
+}
+
+// Question 5 of the marks.
+fn mark_ranges(built: &[u32], n: QueryCounts) -> bool
+    requires { ⌜ Limits n ⌝ ∗ ⌜ transferRunsAt n ≤ length (now built) ⌝ }
+    ensures { λ r. ⌜ r ≡ markRanges (now (built .entry)) n ⌝ }
+{
+    column_below(built, marks_at(n), 1, n.timetable.stops, 2)
+}
+
+// Question 5 of the transfers.
+fn transfer_ranges(transfers: &[u32], rows: usize) -> bool
+    requires { ⌜ rows * 4 ≤ length (now transfers) ⌝ }
+    ensures { λ r. ⌜ r ≡ transferRanges (now (transfers .entry)) rows ⌝ }
+{
+    column_below(transfers, 2, 4, rows, 1048576)
+}
+
+// Question 5 of the query's settings.
+fn setting_ranges(q: &[u32]) -> bool
+    requires { ⌜ 7 ≤ length (now q) ⌝ }
+    ensures { λ r. ⌜ r ≡ settingRanges (now (q .entry)) ⌝ }
+{
+    let times = both(
+        tables::field(q, 0) <= 1048575,
+        tables::field(q, 1) <= 1048575,
+    );
+    let switches = both(tables::field(q, 5) <= 1, tables::field(q, 6) <= 1);
+    both(times, both(tables::field(q, 4) <= 127, switches))
+}
+
+// Question 5 of origins and egress.
+fn walk_ranges(q: &[u32], n: QueryCounts) -> bool
+    requires { ⌜ Limits n ⌝ ∗ ⌜ querySize n ≤ length (now q) ⌝ }
+    ensures { λ r. ⌜ r ≡ walkRanges (now (q .entry)) n ⌝ }
+{
+    let origins = column_below(q, 8, 2, n.origins, 1048576);
+    let egress = column_below(q, 7 + n.origins * 2 + 1, 2, n.egress, 1048576);
+    both(origins, egress)
+}
+
+// Question 5.
+fn ranges_ok(
+    t: &[u32],
+    built: &[u32],
+    transfers: &[u32],
+    q: &[u32],
+    n: QueryCounts,
+    rows: usize,
+) -> bool
+    requires { ⌜ Limits n ⌝ ∗ ⌜ Sized (now t) n (length (now built)) (length (now q)) ⌝ ∗ ⌜ rows * 4 ≤ length (now transfers) ⌝ }
+    ensures { λ r. ⌜ r ≡ question5 (now (t .entry)) (now (built .entry)) (now (transfers .entry)) (now (q .entry)) n rows ⌝ }
+{
+    let tables = both(
+        tables::ranges_ok(t, n.timetable),
+        both(mark_ranges(built, n), transfer_ranges(transfers, rows)),
+    );
+    both(
+        tables,
+        both(
+            setting_ranges(q),
+            both(walk_ranges(q, n), delays_ok(5, q, n)),
+        ),
+    )
+}
+
+// When a listed departure leaves.
+pub fn row_departure(t: &[u32], c: Counts, r: DepartureRow) -> usize
+    requires { ⌜ CountsOk c ⌝ ∗ ⌜ SlicesOk (now t) c ⌝ ∗ ⌜ RunsOk (now t) c ⌝ ∗ ⌜ RowKnown (now t) c r ⌝ }
+    ensures { λ b. ⌜ b ≡ rowDeparture (timetable (now (t .entry)) c) r ⌝ }
+{
+    tables::time(t, c, tables::trip(t, c, r.trip, 0) + r.offset, 2)
+}
+
+// Question 6 of row k of a stop's part: is it not earlier than the one before it?
+fn not_earlier(t: &[u32], c: Counts, rows: &[u32], count: usize, k: usize) -> bool
+    requires { ⌜ RowsKnown (now t) c (now rows) count ⌝ ∗ ⌜ 0 < k ⌝ ∗ ⌜ k < count ⌝ }
+    ensures { λ b. ⌜ b ≡ notEarlier (timetable (now (t .entry)) c) (now (rows .entry)) k ⌝ }
+{
+    let a = row_departure(t, c, departures::departure_row(rows, k - 1));
+    let b = row_departure(t, c, departures::departure_row(rows, k));
+    a <= b
+}
+
+// Of a stop's part.
+fn part_order(t: &[u32], c: Counts, rows: &[u32], count: usize) -> bool
+    requires { ⌜ RowsKnown (now t) c (now rows) count ⌝ }
+    ensures { λ b. ⌜ b ≡ partOrder (timetable (now (t .entry)) c) (now (rows .entry)) count ⌝ }
+{
+    let mut k: usize = 1;
+    while k < count {
+        if !not_earlier(t, c, rows, count, k) {
+            return false;
+        }
+        k += 1;
+    }
+    true
+}
+
+// Of a stop.
+fn stop_order(t: &[u32], c: Counts, runs: &[u32], rows: &[u32], d: usize, s: usize) -> bool
+    requires { ⌜ RowsListed (now t) c (now runs) (now rows) d ⌝ ∗ ⌜ s < c .stops ⌝ }
+    ensures { λ b. ⌜ b ≡ partOrder (timetable (now (t .entry)) c) (departuresOf (now (runs .entry)) (now (rows .entry)) s) (runLength (now (runs .entry)) s) ⌝ }
+{
+    let r = departures::stop_run(runs, s);
+    part_order(
+        t,
+        c,
+        departures::departures_of(rows, r.first, r.length),
+        r.length,
+    )
+}
+
+// Of every stop.
+fn departure_order(t: &[u32], c: Counts, runs: &[u32], rows: &[u32], d: usize) -> bool
+    requires { ⌜ RowsListed (now t) c (now runs) (now rows) d ⌝ }
+    ensures { λ b. ⌜ b ≡ departureOrder (timetable (now (t .entry)) c) (now (runs .entry)) (now (rows .entry)) (c .stops) ⌝ }
+{
+    let n = c.stops;
+    let mut s: usize = 0;
+    while s < n {
+        if !stop_order(t, c, runs, rows, d, s) {
+            return false;
+        }
+        s += 1;
+    }
+    true
+}
+
+// Question 6 of an egress stop: is it above the one before it? They begin at `at`.
+fn stop_rises(q: &[u32], at: usize, i: usize) -> bool
+    requires { ⌜ 0 < i ⌝ ∗ ⌜ at + i * 2 < length (now q) ⌝ }
+    ensures { λ r. ⌜ r ≡ ltb (columnAt (now (q .entry)) at 2 (i - 1)) (columnAt (now (q .entry)) at 2 i) ⌝ }
+{
+    tables::field(q, at + (i - 1) * 2) < tables::field(q, at + i * 2)
+}
+
+// Of all egress stops.
+fn egress_order(q: &[u32], at: usize, count: usize) -> bool
+    requires { ⌜ at + count * 2 ≤ length (now q) ⌝ }
+    ensures { λ r. ⌜ r ≡ columnRises (now (q .entry)) at 2 count ⌝ }
+{
+    let mut i: usize = 1;
+    while i < count {
+        if !stop_rises(q, at, i) {
+            return false;
+        }
+        i += 1;
+    }
+    true
+}
+
+// Question 6.
+fn order_ok(t: &[u32], built: &[u32], q: &[u32], n: QueryCounts) -> bool
+    requires { ⌜ Limits n ⌝ ∗ ⌜ Sized (now t) n (length (now built)) (length (now q)) ⌝ ∗ ⌜ RowsListed (now t) (n .timetable) (stopRuns (now built) n) (departureRows (now built) n) (n .departures) ⌝ }
+    ensures { λ r. ⌜ r ≡ question6 (now (t .entry)) (now (built .entry)) (now (q .entry)) n ⌝ }
+{
+    let c = n.timetable;
+    let listed = departure_order(
+        t,
+        c,
+        stop_runs(built, n),
+        departure_rows(built, n),
+        n.departures,
+    );
+    both(
+        both(tables::order_ok(t, c), listed),
+        both(
+            egress_order(q, 7 + n.origins * 2, n.egress),
+            delays_ok(6, q, n),
+        ),
+    )
+}
+
+// THE QUESTIONS: the number of the first that is answered no, or 0.
+pub fn questions(
+    n: QueryCounts,
+    t: &[u32],
+    built: &[u32],
+    transfers: &[u32],
+    patterns: &[u8],
+    distances: &[f64],
+    q: &[u32],
+    l: Lengths,
+) -> u32
+    ensures { λ r. ⌜ r ≡ verdict (lent n (now (t .entry)) (now (built .entry)) (now (transfers .entry)) (now (patterns .entry)) (now (distances .entry)) (now (q .entry))) l ⌝ }
+{
+    if !counts_ok(n) {
+        return 1;
+    }
+    if !sizes_ok(
+        t,
+        n,
+        built.len(),
+        patterns.len(),
+        distances.len(),
+        q.len(),
+        l,
+    ) {
+        return 2;
+    }
+    let rows = transfer_rows(n, transfers.len());
+    if !runs_ok(t, built, n, rows) {
+        return 3;
+    }
+    if !numbers_ok(t, built, q, n, rows) {
+        return 4;
+    }
+    if !ranges_ok(t, built, transfers, q, n, rows) {
+        return 5;
+    }
+    if !order_ok(t, built, q, n) {
+        return 6;
+    }
+    0
+}
