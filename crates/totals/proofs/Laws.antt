@@ -51,7 +51,7 @@ module _ (T : Tables) (Q : Query) (a : Arrivals) (egress : List ℕ) (n : ℕ) w
       let e : n - i ≡ suc (n - (i + 1)) = omega arith in
       ap (λ (m : ℕ). bestTarget T Q a (tabFrom (egressAt egress) i m) b) e ∙ best-turn (egressAt egress i) (tabFrom (egressAt egress) (suc i) (n - (i + 1))) b
       ∙ ap₂ (λ (j : ℕ) (x : ℕ × ℕ). bestTarget T Q a (tabFrom (egressAt egress) j (n - (i + 1))) x) (sym (add-one i))
-        (sym (eb ∙ ap (λ (x : ℕ). withStop b x (getD egress (i * 2) 0) (getD egress (i * 2 + 1) 0)) ev))
+      (sym (eb ∙ ap (λ (x : ℕ). withStop b x (getD egress (i * 2) 0) (getD egress (i * 2 + 1) 0)) ev))
 
   pub best-end : (i : ℕ) (b : ℕ × ℕ) → n ≤ i → b ≡ bestAhead i b
   unfolding bestTarget tabFrom
@@ -76,6 +76,7 @@ module _ (T : Tables) (Q : Query) (a : Arrivals) (row : ℕ) (egress : List ℕ)
       pick : (v : ℕ) (y : Bool) → elim y [ true ↦ rowTarget T Q a row es (v + e .1, e .0) | false ↦ rowTarget T Q a row es b ] ≡ rowTarget T Q a row es (cond y (v + e .1, e .0) b)
       pick v true = refl
       pick v false = refl
+
       go : (x : ℕ) → elim x [ zero ↦ rowTarget T Q a row es b | suc v ↦ elim (ltb (v + e .1) (b .0)) [ true ↦ rowTarget T Q a row es (v + e .1, e .0) | false ↦ rowTarget T Q a row es b ] ]
           ≡ rowTarget T Q a row es (withReach b x (e .0) (e .1))
       go zero = refl
@@ -93,7 +94,7 @@ module _ (T : Tables) (Q : Query) (a : Arrivals) (row : ℕ) (egress : List ℕ)
       let e : n - i ≡ suc (n - (i + 1)) = omega arith in
       ap (λ (m : ℕ). rowTarget T Q a row (tabFrom (egressAt egress) i m) b) e ∙ row-turn (egressAt egress i) (tabFrom (egressAt egress) (suc i) (n - (i + 1))) b
       ∙ ap₂ (λ (j : ℕ) (y : ℕ × ℕ). rowTarget T Q a row (tabFrom (egressAt egress) j (n - (i + 1))) y) (sym (add-one i))
-        (sym (eb ∙ ap (λ (y : ℕ). withReach b y (getD egress (i * 2) 0) (getD egress (i * 2 + 1) 0)) ev))
+      (sym (eb ∙ ap (λ (y : ℕ). withReach b y (getD egress (i * 2) 0) (getD egress (i * 2 + 1) 0)) ev))
 
   pub row-end : (i : ℕ) (b : ℕ × ℕ) → n ≤ i → b ≡ rowAhead i b
   unfolding rowTarget tabFrom
