@@ -13,11 +13,13 @@ use Rattle.loops.specs.Count.{tabFrom}
 use Rattle.cell_bitset.specs.declared.CellBitSet.{CellBitSet}
 use Rattle.cell_bitset.specs.CellSet.{emptySet, withCell, meets, holdsNone}
 use Rattle.tables.specs.declared.Counts.{Counts}
-use Rattle.tables.specs.Tables.{cellOf, stopsAt, edgeOf}
+use Rattle.tables.specs.Tables.{cellOf, stopsAt, edgeOf, tripOf}
 use Rattle.tables.specs.Timetable.{Timetable, timetable}
 use Rattle.model.specs.Tables.{Tables, Query}
-use Rattle.model.specs.Search.{targetsFrom, targetCells, holdsTarget, useArcFlags, skipsEdge}
-use Rattle.flags.specs.Flags.{patternAt, Patterned, egressAt, egressRows}
+use Rattle.model.specs.Search.{someTransfer, targetsFrom, targetCells, holdsTarget, useArcFlags, skipsEdge, skipsTransfer, flagsInUse}
+use Rattle.flags.specs.Flags.{patternAt, Patterned, egressAt, egressRows, runFirst, runLength, eventSkips, RunsIn, Transferring}
+use Rattle.transfers.specs.Transfers.{Transfer, transferAt, eventsBefore}
+use native.Mathlib.Nat.{add-zero, add-suc}
 
 pub cell-is : (T : Tables) (t : List ℕ) (c : Counts) → T .timetable ≡ timetable t c → (s : ℕ) → T .timetable .cell s ≡ getD t (stopsAt c + s) 0
 unfolding cellOf
@@ -90,3 +92,66 @@ skips-first T Q t c n en e = ap (someIn (skipsAt T Q) 0) (ap (λ (X : Timetable)
 
 pub skips-at : (T : Tables) (Q : Query) (t : List ℕ) (c : Counts) (k p : ℕ) (r b : Bool) → T .timetable ≡ timetable t c → p ≡ edgeOf t c k 4 → r ≡ holdsTarget T Q p → r ≡ b → skipsAt T Q k ≡ not b
 skips-at T Q t c k p r b e ep er eb = ap (λ (X : Timetable). not (holdsTarget T Q (X .edge k .pattern))) e ∙ ap (λ (x : ℕ). not (holdsTarget T Q x)) (sym ep) ∙ ap not (sym er ∙ eb)
+
+-- the transfers of an event, as a list and by their numbers
+pub transfer-list : (p : Transfer → Bool) (f : ℕ → Transfer) (i n : ℕ) → someTransfer p (tabFrom f i n) ≡ some (λ k. p (f k)) i n
+unfolding someTransfer tabFrom some
+transfer-list p f i zero = refl
+transfer-list p f i (suc n) = ap (λ (b : Bool). p (f i) || b) (transfer-list p f (suc i) n)
+
+pub some-ext : (f g : ℕ → Bool) (i n : ℕ) → ((k : ℕ) → i ≤ k → k < i + n → f k ≡ g k) → some f i n ≡ some g i n
+unfolding some
+some-ext f g i zero h = refl
+some-ext f g i (suc n) h = ap₂ _||_ (h i (omega arith) (omega arith)) (some-ext f g (suc i) n (λ k l u. h k (omega arith) (omega arith)))
+
+pub event-at : (T : Tables) (Q : Query) (area : List ℕ) (first k p : ℕ) (r b : Bool) → p ≡ getD area ((first + k) * 4 + 3) 0 → r ≡ holdsTarget T Q p → r ≡ b
+    → not (holdsTarget T Q (transferAt area (first + k) .pattern)) ≡ not b
+event-at T Q area first k p r b ep er eb = ap (λ (x : ℕ). not (holdsTarget T Q x)) (sym ep) ∙ ap not (sym er ∙ eb)
+
+pub run-at : (T : Tables) (Q : Query) (runs area : List ℕ) (e first m : ℕ) (r b : Bool) → first ≡ runFirst runs e → m ≡ runLength runs e
+    → r ≡ someIn (λ k. not (holdsTarget T Q (transferAt area (first + k) .pattern))) 0 m → r ≡ b → eventSkips T Q runs area e ≡ b
+run-at T Q runs area e first m r b ef em er eb =
+    ap₂ (λ (x y : ℕ). someIn (λ k. not (holdsTarget T Q (transferAt area (x + k) .pattern))) 0 y) (sym ef) (sym em) ∙ sym er ∙ eb
+
+-- the transfers of a trip
+abbrev pub tripSkips : Tables → Query → ℕ → Bool
+tripSkips T Q i = someIn (λ o. someTransfer (λ e. not (holdsTarget T Q (e .pattern))) (T .transfers i o)) 0 (T .timetable .trip i .count)
+
+pub transfers-first : (T : Tables) (Q : Query) (t : List ℕ) (c : Counts) (n : ℕ) → n ≡ c .trips → T .timetable ≡ timetable t c → skipsTransfer T Q ≡ someIn (tripSkips T Q) 0 n
+unfolding skipsTransfer
+transfers-first T Q t c n en e = ap (someIn (tripSkips T Q) 0) (ap (λ (X : Timetable). X .trips) e ∙ sym en)
+
+pub events-grow : (T : Timetable) (i d : ℕ) → eventsBefore T i ≤ eventsBefore T (i + d)
+unfolding eventsBefore
+events-grow T i zero = rw add-zero (omega arith)
+events-grow T i (suc d) = rw add-suc (omega (arith, events-grow T i d))
+
+pub events-none : (T : Timetable) → 0 ≡ eventsBefore T 0
+unfolding eventsBefore
+events-none T = refl
+
+pub events-next : (T : Timetable) (i e m : ℕ) → e ≡ eventsBefore T i → m ≡ T .trip i .count → e + m ≡ eventsBefore T (i + 1)
+unfolding eventsBefore
+events-next T i e m ee em = ap₂ _+_ ee em ∙ ap (eventsBefore T) (sym (add-one i))
+
+pub runs-part : (T : Timetable) (runs area : List ℕ) (i n k : ℕ) → RunsIn runs area (eventsBefore T n) → k ≡ eventsBefore T (i + 1) → i < n → RunsIn runs area k
+runs-part T runs area i n k h e l =
+    let z : i + 1 + (n - (i + 1)) ≡ n = omega arith in
+    let g : eventsBefore T (i + 1) ≤ eventsBefore T n = rw z at (events-grow T (i + 1) (n - (i + 1))) in
+    record { few = omega (arith, h .few); long = omega (arith, h .long); inside = λ j u. h .inside j (omega arith) }
+
+pub trip-at : (T : Tables) (Q : Query) (t : List ℕ) (c : Counts) (runs area : List ℕ) (i e m : ℕ) (r b : Bool) → T .timetable ≡ timetable t c → Transferring T c runs area → i < c .trips
+    → e ≡ eventsBefore (timetable t c) i → m ≡ tripOf t c i 1 → r ≡ someIn (λ o. eventSkips T Q runs area (e + o)) 0 m → r ≡ b → tripSkips T Q i ≡ b
+trip-at T Q t c runs area i e m r b et h l ee em er eb =
+    let n : T .timetable .trip i .count ≡ m = ap (λ (X : Timetable). X .trip i .count) et ∙ sym em in
+    let q : eventsBefore (T .timetable) i ≡ e = ap (λ (X : Timetable). eventsBefore X i) et ∙ sym ee in
+    some-ext (λ o. someTransfer (λ x. not (holdsTarget T Q (x .pattern))) (T .transfers i o)) (λ o. eventSkips T Q runs area (e + o)) 0 (T .timetable .trip i .count - 0)
+    (λ o a u. ap (someTransfer (λ x. not (holdsTarget T Q (x .pattern)))) (h .transfers i o l (omega arith))
+    ∙ transfer-list (λ x. not (holdsTarget T Q (x .pattern))) (λ k. transferAt area (runFirst runs (eventsBefore (T .timetable) i + o) + k)) 0 (runLength runs (eventsBefore (T .timetable) i + o))
+    ∙ ap (λ (j : ℕ). some (λ k. not (holdsTarget T Q (transferAt area (runFirst runs (j + o) + k) .pattern))) 0 (runLength runs (j + o))) q
+    ∙ ap (some (λ k. not (holdsTarget T Q (transferAt area (runFirst runs (e + o) + k) .pattern))) 0) (omega arith))
+    ∙ ap (λ (j : ℕ). someIn (λ o. eventSkips T Q runs area (e + o)) 0 j) n ∙ sym er ∙ eb
+
+pub in-use-is : (T : Tables) (Q : Query) (u e x s r : Bool) → u ≡ useArcFlags T Q → e ≡ skipsEdge T Q → x ≡ skipsTransfer T Q → s ≡ (e || x) → r ≡ (u && s) → r ≡ flagsInUse T Q
+unfolding flagsInUse
+in-use-is T Q u e x s r eu ee ex es er = rw (er, es, eu, ee, ex) refl

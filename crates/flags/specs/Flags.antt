@@ -52,7 +52,12 @@ pub record Transferring (T : Tables) (c : Counts) (runs area : List ℕ) : Type 
   pub transfers : (i o : ℕ) → i < c .trips → o < T .timetable .trip i .count
       → T .transfers i o ≡ tab (λ k. transferAt area (runFirst runs (eventsBefore (T .timetable) i + o) + k)) (runLength runs (eventsBefore (T .timetable) i + o))
 
--- every event has its run, which lies in the area
-pub record RunsOk (t : List ℕ) (c : Counts) (runs area : List ℕ) : Type 0 where
-  pub size : length runs ≡ eventsBefore (timetable t c) (c .trips) * 2
-  pub inside : (e : ℕ) → e < eventsBefore (timetable t c) (c .trips) → (runFirst runs e + runLength runs e) * 4 ≤ length area
+-- the first n events have their runs, which lie in the area
+pub record RunsIn (runs area : List ℕ) (n : ℕ) : Type 0 where
+  pub few : n ≤ 268435456
+  pub long : n * 2 ≤ length runs
+  pub inside : (e : ℕ) → e < n → (runFirst runs e + runLength runs e) * 4 ≤ length area
+
+-- do the flags skip a transfer of event e?
+abbrev pub eventSkips : Tables → Query → List ℕ → List ℕ → ℕ → Bool
+eventSkips T Q runs area e = someIn (λ k. not (holdsTarget T Q (transferAt area (runFirst runs e + k) .pattern))) 0 (runLength runs e)

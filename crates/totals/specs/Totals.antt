@@ -1,5 +1,5 @@
 -- The answer's numbers over a query's memory, and which states of a query agree with it. Definitions only.
-use Prim.Native.Nat.{ℕ, _+_, _*_, _/_, _<_, _≤_}
+use Prim.Native.Nat.{ℕ, zero, suc, _+_, _*_, _/_, _<_, _≤_}
 use mathlib.Core.Path.{_≡_}
 use mathlib.Core.Logic.{_⊎_}
 use mathlib.Core.List.{List}
@@ -48,3 +48,19 @@ pub record EarliestOk (stops : ℕ) (work : List ℕ) : Type 0 where
 -- a state whose earliest arrivals are these
 pub record Reached (a : Arrivals) (stops : ℕ) (work : List ℕ) : Type 0 where
   pub at : (s : ℕ) → s < stops → getD (a .earliest) s 0 ≡ getD work s 0
+
+-- the best so far after an egress stop whose label arrives so; x: the arrival plus one, 0 for no label
+abbrev pub withReach : ℕ × ℕ → ℕ → ℕ → ℕ → ℕ × ℕ
+withReach b zero stop walk = b
+withReach b (suc v) stop walk = better b (v + walk) stop
+
+-- the labels, 13 rows to a stop, in slices of words and distances: every arrival is a time
+pub record LabelsOk (stops : ℕ) (labels : List ℕ) (distances : List Float) : Type 0 where
+  pub few : stops ≤ 4096
+  pub words : stops * 13 * 8 ≤ length labels
+  pub distances-long : stops * 13 ≤ length distances
+  pub small : (s r : ℕ) → s < stops → r < 13 → reachedBy (loaded labels distances (recordOf s r)) ≤ 134217728
+
+-- a state whose labels are these
+pub record Labelled (a : Arrivals) (stops : ℕ) (labels : List ℕ) (distances : List Float) : Type 0 where
+  pub at : (s r : ℕ) → s < stops → r < 13 → getD (a .labels) (recordOf s r) Empty ≡ loaded labels distances (recordOf s r)

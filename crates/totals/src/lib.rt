@@ -6,14 +6,23 @@ ghost use mathlib.Core.Path.{_≡_};
 ghost use Prim.Native.Nat.{ℕ, _+_, _*_, _/_, _≤_, _<_};
 ghost use lib.ListN.{length, getD};
 ghost use Rattle.model.specs.Tables.{Tables, Query, never};
-ghost use Rattle.model.specs.Search.{Arrivals, bestTarget};
-ghost use Rattle.totals.specs.Totals.{egressRows, EgressOk, targetOf, EarliestOk, Reached, better, withStop};
+ghost use Rattle.model.specs.Search.{Arrivals, bestTarget, rowTarget, reachedBy};
+ghost use Rattle.label.specs.Table.{recordOf, loaded};
+ghost use Rattle.totals.specs.Totals.{egressRows, EgressOk, targetOf, EarliestOk, Reached, better, withStop, withReach, LabelsOk, Labelled};
 ghost use mathlib.Core.Logic.{_⊎_};
+use label::Label;
 
 // A total with its stop; both 4294967295 for none.
 pub struct Target {
     pub total: u32,
     pub stop: u32,
+}
+
+fn word(s: &[u32], i: usize) -> u32
+    requires { ⌜ i < length (now s) ⌝ }
+    ensures { λ r. ⌜ r ≡ getD (now (s .entry)) i 0 ⌝ }
+{
+    s[i]
 }
 
 // The better of the best so far and a total over a stop; equal ones keep the first.
@@ -31,7 +40,7 @@ fn better(best: Target, total: u32, stop: u32) -> Target
 
 // An egress stop reached at v: never, or at a time.
 fn with_stop(best: Target, v: u32, stop: u32, walk: u32) -> Target
-    requires { ⌜ (v < 134217728) ⊎ (v ≡ never) ⌝ ∗ ⌜ walk ≤ 1048575 ⌝ }
+    requires { ⌜ (v ≡ never) ⊎ (v < 134217728) ⌝ ∗ ⌜ walk ≤ 1048575 ⌝ }
     ensures { λ r. ⌜ targetOf r ≡ withStop (targetOf best) v stop walk ⌝ }
 {
     if v == 4294967295 {
@@ -50,14 +59,105 @@ pub fn best_target(work: &[u32], stops: usize, egress: &[u32]) -> Target
     let mut stop: u32 = 4294967295;
     let mut i: usize = 0;
     while i < n {
-        let s = egress[i * 2];
-        let walk = egress[i * 2 + 1];
+        let s = word(egress, i * 2);
+        let walk = word(egress, i * 2 + 1);
+        let v = word(work, s as usize);
         let b = with_stop(
             Target {
                 total: total,
                 stop: stop,
             },
-            work[s as usize],
+            v,
+            s,
+            walk,
+        );
+        total = b.total;
+        stop = b.stop;
+        i += 1;
+    }
+    Target {
+        total: total,
+        stop: stop,
+    }
+}
+
+// A label's arrival plus one; 0 for no label.
+fn reached_by(x: Label) -> u32
+    requires { ⌜ reachedBy x ≤ 134217728 ⌝ }
+    ensures { λ r. ⌜ r ≡ reachedBy x ⌝ }
+{
+    match x {
+        Label::Empty => 0,
+        Label::Access {
+            stop_idx,
+            arrival_s,
+            walk_duration,
+            walk_distance,
+        } => arrival_s + 1,
+        Label::Transit {
+            arrival_s,
+            trip_idx,
+            board_stop,
+            board_off,
+            alight_off,
+            prev_round,
+            time_shift_s,
+        } => arrival_s + 1,
+        Label::Walk {
+            arrival_s,
+            from_stop,
+            to_stop,
+            duration_s,
+            distance_m,
+            prev_round,
+        } => arrival_s + 1,
+    }
+}
+
+// An egress stop whose label arrives at x - 1, or has no label.
+fn with_reach(best: Target, x: u32, stop: u32, walk: u32) -> Target
+    requires { ⌜ x ≤ 134217728 ⌝ ∗ ⌜ walk ≤ 1048575 ⌝ }
+    ensures { λ r. ⌜ targetOf r ≡ withReach (targetOf best) x stop walk ⌝ }
+{
+    if x == 0 {
+        return best;
+    }
+    better(best, x - 1 + walk, stop)
+}
+
+// The arrival plus one of a stop's label of a row; 0 for no label.
+fn reached_in(labels: &[u32], distances: &[f64], stops: usize, stop: u32, row: u32) -> u32
+    requires { ⌜ LabelsOk stops (now labels) (now distances) ⌝ ∗ ⌜ (stop < stops) × (row < 13) ⌝ }
+    ensures { λ r. ⌜ r ≡ reachedBy (loaded (now (labels .entry)) (now (distances .entry)) (recordOf stop row)) ⌝ }
+{
+    reached_by(label::load_label(labels, distances, label::record_of(stop, row)))
+}
+
+// The least total over the egress stops' labels of a row, with its stop.
+pub fn row_target(
+    labels: &[u32],
+    distances: &[f64],
+    stops: usize,
+    egress: &[u32],
+    row: u32,
+) -> Target
+    requires { ⌜ LabelsOk stops (now labels) (now distances) ⌝ ∗ ⌜ EgressOk stops (now egress) ⌝ ∗ ⌜ row < 13 ⌝ }
+    ensures { λ r. ⌜ ((T : Tables) (Q : Query) (a : Arrivals) → Labelled a stops (now (labels .entry)) (now (distances .entry)) → targetOf r ≡ rowTarget T Q a row (egressRows (now (egress .entry))) (never, never)) ⌝ }
+{
+    let n = egress.len() / 2;
+    let mut total: u32 = 4294967295;
+    let mut stop: u32 = 4294967295;
+    let mut i: usize = 0;
+    while i < n {
+        let s = word(egress, i * 2);
+        let walk = word(egress, i * 2 + 1);
+        let x = reached_in(labels, distances, stops, s, row);
+        let b = with_reach(
+            Target {
+                total: total,
+                stop: stop,
+            },
+            x,
             s,
             walk,
         );

@@ -1,78 +1,78 @@
+use Rattle.totals.proofs.Laws.{bestAhead, best-first, best-step, best-end}
+use Rattle.totals.specs.Totals.{egressRows, Reached, withStop}
+use Rattle.model.specs.Search.{Arrivals, bestTarget}
+use Rattle.model.specs.Tables.{Tables, Query, never}
+use lib.ListN.{length, getD}
+use Prim.Native.Nat.{ℕ, _+_, _*_, _-_, _/_, _<_}
+use mathlib.Core.Path.{_≡_, refl, sym, ap, ap₂, _∙_}
+use native.Mathlib.Omega.{arith}
+use borrow.Author.Needs.{needs}
+use denote.Ref.{now}
 use Rattle.totals.proofs.best_target.Statement.{statement}
 use Rattle.totals.proofs.best_target.Tie as tie
 use Rattle.totals.proofs.best_target.Reads as reads
 use Rattle.totals.proofs.best_target.Lts as lts
 use Rattle.totals.proofs.with_stop.Reads as with-stop-reads
+use Rattle.totals.proofs.word.Reads as word-reads
 
 abbrev Inv-loop : tie.InvT-loop
-Inv-loop work stops egress n total₀ stop₀ i₀ total stop i = ?
+Inv-loop work stops egress n total₀ stop₀ i₀ total stop i =
+    (n ≡ length egress / 2) × ((T : Tables) (Q : Query) (a : Arrivals) → Reached a stops work → bestTarget T Q a (egressRows egress) (never, never) ≡ bestAhead T Q a egress n i (total, stop))
 
 abbrev μ-loop : tie.MeasureT-loop
-μ-loop work stops egress n total₀ stop₀ i₀ total stop i = ?
+μ-loop work stops egress n total₀ stop₀ i₀ total stop i = n - i
 
--- src/lib.rt:52:5
+-- src/lib.rt:59:5
 loop-holds : tie.Need-loop-holds Inv-loop μ-loop
-loop-holds c = ?
+loop-holds c = let s = c .before .before in (refl, λ T Q a g. best-first T Q a (now (s .args .egress)) _ (never, never) refl)
 
--- src/lib.rt:53:24
-mul-s : tie.Need-mul-s Inv-loop μ-loop
-mul-s c = ?
+-- src/lib.rt:60:30
+mul-word : tie.Need-mul-word Inv-loop μ-loop
+mul-word c = omega (arith, c .before .loop .inv .0)
 
--- src/lib.rt:53:17
-mul-s-2 : tie.Need-mul-s-2 Inv-loop μ-loop
-mul-s-2 c = ?
+-- src/lib.rt:60:13
+word-requires : tie.Need-word-requires Inv-loop μ-loop
+word-requires c κs = omega (arith, c .before .loop .inv .0)
 
--- src/lib.rt:53:17
-shared-slice-read-s : tie.Need-shared-slice-read-s Inv-loop μ-loop
-shared-slice-read-s c = ?
+-- src/lib.rt:61:33
+mul-word-2 : tie.Need-mul-word-2 Inv-loop μ-loop
+mul-word-2 c = omega (arith, c .before .before .loop .inv .0)
 
--- src/lib.rt:54:27
-mul-walk : tie.Need-mul-walk Inv-loop μ-loop
-mul-walk c = ?
+-- src/lib.rt:61:33
+add-word : tie.Need-add-word Inv-loop μ-loop
+add-word c = omega (arith, c .before .before .loop .inv .0)
 
--- src/lib.rt:54:27
-add-walk : tie.Need-add-walk Inv-loop μ-loop
-add-walk c = ?
+-- src/lib.rt:61:13
+word-requires-2 : tie.Need-word-requires-2 Inv-loop μ-loop
+word-requires-2 c κs = omega (arith, c .before .before .loop .inv .0)
 
--- src/lib.rt:54:20
-mul-walk-2 : tie.Need-mul-walk-2 Inv-loop μ-loop
-mul-walk-2 c = ?
+-- src/lib.rt:62:28
+cast-word : tie.Need-cast-word Inv-loop μ-loop
+cast-word c = search needs
 
--- src/lib.rt:54:20
-shared-slice-read-walk : tie.Need-shared-slice-read-walk Inv-loop μ-loop
-shared-slice-read-walk c = ?
+-- src/lib.rt:62:13
+word-requires-3 : tie.Need-word-requires-3 Inv-loop μ-loop
+word-requires-3 c κs = let s = c .before .before .before .before .before .before in omega (arith, c .before .word .ensures, c .before .before .before .loop .inv .0, s .pre .0 .long, s .pre .1 .stop (c .before .before .before .loop .i) (omega (arith, c .before .before .before .loop .inv .0)))
 
--- src/lib.rt:57:18
-cast-with-stop : tie.Need-cast-with-stop Inv-loop μ-loop
-cast-with-stop c = ?
-
--- src/lib.rt:57:13
-mul-with-stop : tie.Need-mul-with-stop Inv-loop μ-loop
-mul-with-stop c = ?
-
--- src/lib.rt:57:13
-shared-slice-read-with-stop : tie.Need-shared-slice-read-with-stop Inv-loop μ-loop
-shared-slice-read-with-stop c = ?
-
--- src/lib.rt:55:13
+-- src/lib.rt:63:13
 with-stop-requires : tie.Need-with-stop-requires Inv-loop μ-loop
-with-stop-requires c κs = ?
+with-stop-requires c κs = let s = c .before .before .before .before .before .before .before in (rw (c .word3 .ensures) (s .pre .0 .small (c .before .before .word .result) (omega (arith, c .before .before .word .ensures, s .pre .1 .stop (c .before .before .before .before .loop .i) (omega (arith, c .before .before .before .before .loop .inv .0))))), omega (arith, c .before .word2 .ensures, s .pre .1 .walk (c .before .before .before .before .loop .i) (omega (arith, c .before .before .before .before .loop .inv .0))))
 
--- src/lib.rt:63:9
+-- src/lib.rt:74:9
 add-i : tie.Need-add-i Inv-loop μ-loop
-add-i c = ?
+add-i c = omega arith
 
--- src/lib.rt:52:5
+-- src/lib.rt:59:5
 loop-less : tie.Need-loop-less Inv-loop μ-loop
-loop-less c = ?
+loop-less c = omega arith
 
--- src/lib.rt:52:5
+-- src/lib.rt:59:5
 loop-again : tie.Need-loop-again Inv-loop μ-loop
-loop-again c = ?
+loop-again c = let s = c .before .before .before .before .before .before .before .before in let w = c .before .before .before .before .before .loop in (w .inv .0, λ T Q a g. w .inv .1 T Q a g ∙ best-step T Q a (now (s .args .egress)) _ (w .i) _ (w .total, w .stop) _ (c .before .before .before .before .loop-test .taken) (c .before .word3 .ensures ∙ ap (λ (x : ℕ). getD (now (s .args .work)) x 0) (c .before .before .before .word .ensures) ∙ sym (g .at _ (s .pre .1 .stop (w .i) (omega (arith, w .inv .0))))) (c .with-stop .ensures ∙ ap₂ (λ (x y : ℕ). withStop (w .total, w .stop) (c .before .word3 .result) x y) (c .before .before .before .word .ensures) (c .before .before .word2 .ensures)))
 
--- src/lib.rt:44:1
+-- src/lib.rt:51:1
 returns : tie.Need-returns Inv-loop μ-loop
-returns c = ?
+returns c = let s = c .before .before .before .before in let w = c .before .loop in λ T Q a g. best-end T Q a (now (s .args .egress)) _ (w .i) (w .total, w .stop) (c .loop-test .left) ∙ sym (w .inv .1 T Q a g)
 
 pub best-target-spec : {M : Type 1} → statement M
 best-target-spec =
@@ -81,16 +81,13 @@ best-target-spec =
     Inv-loop
     μ-loop
     loop-holds
-    mul-s
-    mul-s-2
-    shared-slice-read-s
-    mul-walk
-    add-walk
-    mul-walk-2
-    shared-slice-read-walk
-    cast-with-stop
-    mul-with-stop
-    shared-slice-read-with-stop
+    mul-word
+    word-requires
+    mul-word-2
+    add-word
+    word-requires-2
+    cast-word
+    word-requires-3
     with-stop-requires
     add-i
     loop-less

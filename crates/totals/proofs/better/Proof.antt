@@ -1,3 +1,5 @@
+use Rattle.totals.proofs.Laws.{better-less, better-not}
+use Rattle.totals.specs.Totals.{targetOf}
 use Rattle.totals.proofs.better.Statement.{statement}
 use Rattle.totals.proofs.better.Tie as tie
 use Rattle.totals.proofs.better.Reads as reads
@@ -5,11 +7,11 @@ use Rattle.totals.proofs.better.Lts as lts
 
 -- src/lib.rt:24:9
 returns : tie.Need-returns
-returns c = ?
+returns c = let s = c .before .before in better-less (targetOf (s .args .best)) (s .args .total) (s .args .stop) (c .if1 .taken)
 
 -- src/lib.rt:20:1
 returns-2 : tie.Need-returns-2
-returns-2 c = ?
+returns-2 c = let s = c .before .before in better-not (targetOf (s .args .best)) (s .args .total) (s .args .stop) (c .if1 .left)
 
 pub better-spec : {M : Type 1} → statement M
 better-spec = tie.close (tie.spec returns returns-2)

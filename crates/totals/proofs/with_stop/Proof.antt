@@ -1,3 +1,10 @@
+use Rattle.totals.proofs.Laws.{stop-never, stop-reached}
+use Rattle.totals.specs.Totals.{targetOf}
+use Rattle.model.specs.Tables.{never}
+use mathlib.Core.Logic.{⊎-elim}
+use mathlib.Core.Path.{_≡_}
+use Prim.Native.Nat.{_<_}
+use native.Mathlib.Omega.{arith}
 use borrow.Author.Needs.{needs}
 use Rattle.totals.proofs.with_stop.Statement.{statement}
 use Rattle.totals.proofs.with_stop.Tie as tie
@@ -7,11 +14,11 @@ use Rattle.totals.proofs.better.Reads as better-reads
 
 -- src/lib.rt:38:9
 returns : tie.Need-returns
-returns c = ?
+returns c = let s = c .before in stop-never (targetOf (s .args .best)) (s .args .v) (s .args .stop) (s .args .walk) (c .if1 .taken)
 
 -- src/lib.rt:40:18
 add-better : tie.Need-add-better
-add-better c = ?
+add-better c = let s = c .before in ⊎-elim (λ (h : s .args .v ≡ never). absurd (c .if1 .left h)) (λ (h : s .args .v < 134217728). omega (arith, s .pre .1)) (s .pre .0)
 
 -- src/lib.rt:40:5
 better-requires : tie.Need-better-requires
@@ -19,7 +26,7 @@ better-requires c κs = search needs
 
 -- src/lib.rt:33:1
 returns-2 : tie.Need-returns-2
-returns-2 c = ?
+returns-2 c = let s = c .before .before in stop-reached (targetOf (s .args .best)) _ (s .args .v) (s .args .stop) (s .args .walk) (c .before .if1 .left) (c .better .ensures)
 
 pub with-stop-spec : {M : Type 1} → statement M
 with-stop-spec = tie.close (tie.spec returns add-better better-requires returns-2)
