@@ -1,0 +1,8 @@
+pub mod Edges
+pub mod Patterns
+pub mod Falling
+pub mod Along
+pub mod Edge
+pub mod From
+pub mod Appending
+pub mod Phases
