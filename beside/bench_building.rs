@@ -165,24 +165,21 @@ fn case(name: &str, mut x: Timetable) {
     if events > 1 << 20 {
         return;
     }
-    let (mut area, mut transfer_runs) = (vec![0u32; 4 * 65536], vec![0u32; 2 * events]);
-    row(
-        name,
-        "transfers",
-        || {
-            timed(|| {
-                let a = unsafe {
-                    savoiky_compute_trip_transfers(
-                        c[0], c[1], c[2], c[3], c[4], lines, x.departures, x.tables.as_ptr(), x.tables.len(), x.line_of.as_ptr(), x.line_of.len(),
-                        x.runs.as_ptr(), x.runs.len(), x.rows.as_ptr(), x.rows.len(), area.as_mut_ptr(), area.len(), transfer_runs.as_mut_ptr(),
-                        transfer_runs.len(),
-                    )
-                };
-                black_box(a);
-            })
-        },
-        || timed(|| build_transfers(&mut e)),
-    );
+    let mut transfer_runs = vec![0u32; 2 * events];
+    let mut transfers = |area: &mut [u32]| unsafe {
+        savoiky_compute_trip_transfers(
+            c[0], c[1], c[2], c[3], c[4], lines, x.departures, x.tables.as_ptr(), x.tables.len(), x.line_of.as_ptr(), x.line_of.len(), x.runs.as_ptr(),
+            x.runs.len(), x.rows.as_ptr(), x.rows.len(), area.as_mut_ptr(), area.len(), transfer_runs.as_mut_ptr(), transfer_runs.len(),
+        )
+    };
+    // with space for 65,536, and with space for just those that there are
+    let mut area = vec![0u32; 4 * 65536];
+    let a = transfers(&mut area);
+    row(name, if a.code == 0 { "transfers" } else { "transfers (refused)" }, || timed(|| drop(black_box(transfers(&mut area)))), || timed(|| build_transfers(&mut e)));
+    if a.code == 0 {
+        area.truncate(4 * a.value as usize);
+        row(name, "transfers, no more", || timed(|| drop(black_box(transfers(&mut area)))), || timed(|| build_transfers(&mut e)));
+    }
 }
 
 fn main() {
@@ -190,6 +187,8 @@ fn main() {
     let shapes = |r: &mut Random, n: u32, len: u32, stops: u32| -> Vec<Vec<u32>> { (0..n).map(|_| (0..len).map(|_| r.below(stops)).collect()).collect() };
     let s = shapes(&mut r, 80, 20, 1000);
     case("2,000 trips, 1,000 stops, 40,000", timetable(&mut r, 1000, &s, 2000, false));
+    let s = shapes(&mut r, 80, 20, 4000);
+    case("2,000 trips, 4,000 stops, 40,000", timetable(&mut r, 4000, &s, 2000, false));
     let s = shapes(&mut r, 2600, 16, 1000);
     case("4,096 trips of about 2,600 lines", timetable(&mut r, 1000, &s, 4096, false));
     let s = vec![vec![0; 16]; 4];
