@@ -64,3 +64,21 @@ pub record LabelsOk (stops : ℕ) (labels : List ℕ) (distances : List Float) :
 -- a state whose labels are these
 pub record Labelled (a : Arrivals) (stops : ℕ) (labels : List ℕ) (distances : List Float) : Type 0 where
   pub at : (s r : ℕ) → s < stops → r < 13 → getD (a .labels) (recordOf s r) Empty ≡ loaded labels distances (recordOf s r)
+
+-- THE CANDIDATES IN MEMORY, three words each: total, stop, row. The first m of them:
+abbrev pub candidateAt : List ℕ → ℕ → ℕ × ℕ × ℕ
+candidateAt out k = (getD out (k * 3) 0, getD out (k * 3 + 1) 0, getD out (k * 3 + 2) 0)
+
+abbrev pub candidatesIn : List ℕ → ℕ → List (ℕ × ℕ × ℕ)
+candidatesIn out m = tab (candidateAt out) m
+
+-- nothing but zeros from candidate m on
+pub record ZeroFrom (out : List ℕ) (m : ℕ) : Type 0 where
+  pub zeros : (i : ℕ) → m * 3 ≤ i → getD out i 0 ≡ 0
+
+-- one candidate more: it stands at place m, those before it as they were
+pub record Put (old new : List ℕ) (m total stop row : ℕ) : Type 0 where
+  pub size : length new ≡ length old
+  pub here : candidateAt new m ≡ (total, stop, row)
+  pub before : (i : ℕ) → i < m * 3 → getD new i 0 ≡ getD old i 0
+  pub after : (i : ℕ) → m * 3 + 3 ≤ i → getD new i 0 ≡ getD old i 0
