@@ -19,7 +19,8 @@ use Rattle.model.specs.Search.{Arrivals, at, reachedBy, bestTarget, rowTarget, 
 use Rattle.label.specs.declared.Label.the-variants.{Empty}
 use Rattle.label.specs.Table.{recordOf}
 use Rattle.totals.specs.declared.Target.{Target}
-use Rattle.totals.specs.Totals.{egressAt, egressRows, targetOf, better, withStop, withReach, candidateAt, candidatesIn, ZeroFrom, Put}
+use Rattle.totals.specs.Totals.{targetOf, better, withStop, withReach, candidateAt, candidatesIn, ZeroFrom, Put}
+use Rattle.flags.specs.Flags.{egressAt, egressRows}
 
 pub better-less : (b : ℕ × ℕ) (total stop : ℕ) → total < b .0 → (total, stop) ≡ better b total stop
 better-less b total stop h = sym (ap (λ (x : Bool). cond x (total, stop) b) (lt-ltb total (b .0) h))
@@ -124,11 +125,11 @@ put-is old m total stop row h =
     let a : List ℕ = set old (m * 3) total in
     let b : List ℕ = set a (m * 3 + 1) stop in
     let other : (i : ℕ) → (i ≡ m * 3 → ⊥) → (i ≡ m * 3 + 1 → ⊥) → (i ≡ m * 3 + 2 → ⊥) → getD (set b (m * 3 + 2) row) i 0 ≡ getD old i 0
-        = λ i p q r. getD-set-other b (m * 3 + 2) i row 0 r ∙ getD-set-other a (m * 3 + 1) i stop 0 q ∙ getD-set-other old (m * 3) i total 0 p in
+    = λ i p q r. getD-set-other b (m * 3 + 2) i row 0 r ∙ getD-set-other a (m * 3 + 1) i stop 0 q ∙ getD-set-other old (m * 3) i total 0 p in
     let x : getD (set b (m * 3 + 2) row) (m * 3) 0 ≡ total
-        = getD-set-other b (m * 3 + 2) (m * 3) row 0 (λ z. omega arith) ∙ getD-set-other a (m * 3 + 1) (m * 3) stop 0 (λ z. omega arith) ∙ getD-set-same old (m * 3) total 0 (omega arith) in
+    = getD-set-other b (m * 3 + 2) (m * 3) row 0 (λ z. omega arith) ∙ getD-set-other a (m * 3 + 1) (m * 3) stop 0 (λ z. omega arith) ∙ getD-set-same old (m * 3) total 0 (omega arith) in
     let y : getD (set b (m * 3 + 2) row) (m * 3 + 1) 0 ≡ stop
-        = getD-set-other b (m * 3 + 2) (m * 3 + 1) row 0 (λ z. omega arith) ∙ getD-set-same a (m * 3 + 1) stop 0 (simp length-set (omega arith)) in
+    = getD-set-other b (m * 3 + 2) (m * 3 + 1) row 0 (λ z. omega arith) ∙ getD-set-same a (m * 3 + 1) stop 0 (simp length-set (omega arith)) in
     let w : getD (set b (m * 3 + 2) row) (m * 3 + 2) 0 ≡ row = getD-set-same b (m * 3 + 2) row 0 (simp length-set (omega arith)) in
     record {
       size = simp length-set;
@@ -140,7 +141,7 @@ put-is old m total stop row h =
 pub put-more : (old new : List ℕ) (m total stop row : ℕ) → Put old new m total stop row → candidatesIn new (m + 1) ≡ candidatesIn old m ++ ((total, stop, row) ∷ [])
 put-more old new m total stop row h =
     let z : (k : ℕ) → k < m → candidateAt new k ≡ candidateAt old k
-        = λ k l. rw (h .before (k * 3) (omega arith), h .before (k * 3 + 1) (omega arith), h .before (k * 3 + 2) (omega arith)) refl in
+    = λ k l. rw (h .before (k * 3) (omega arith), h .before (k * 3 + 1) (omega arith), h .before (k * 3 + 2) (omega arith)) refl in
     ap (candidatesIn new) (add-one m) ∙ tab-more (candidateAt new) 0 m
     ∙ ap₂ (λ (l : List (ℕ × ℕ × ℕ)) (x : ℕ × ℕ × ℕ). l ++ (x ∷ [])) (tab-ext (candidateAt new) (candidateAt old) m z) (ap (candidateAt new) (zero-add m) ∙ h .here)
 

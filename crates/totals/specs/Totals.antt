@@ -15,13 +15,6 @@ use Rattle.model.specs.Tables.{never}
 use Rattle.model.specs.Search.{Arrivals, reachedBy}
 use Rattle.totals.specs.declared.Target.{Target}
 
--- egress rows: stop, duration of its walk
-abbrev pub egressAt : List ℕ → ℕ → ℕ × ℕ
-egressAt rows i = (getD rows (i * 2) 0, getD rows (i * 2 + 1) 0)
-
-abbrev pub egressRows : List ℕ → List (ℕ × ℕ)
-egressRows rows = tab (egressAt rows) (length rows / 2)
-
 -- every egress stop is below the count, every walk a time
 pub record EgressOk (stops : ℕ) (rows : List ℕ) : Type 0 where
   pub few : length rows ≤ 8192

@@ -1,4 +1,4 @@
-// totals: the answer of a query: its best total with its stop, over the earliest arrivals in memory.
+// totals: the answer of a query over its memory: the best total with its stop, and the candidates of the rows.
 // Specs: egress rows, earliest arrivals and labels as the slices hold them (Totals).
 // Proves: each function equal to the model's definition of the same name, for all states that agree.
 // Assumes nothing.
@@ -8,7 +8,8 @@ ghost use lib.ListN.{length, getD};
 ghost use Rattle.model.specs.Tables.{Tables, Query, never};
 ghost use Rattle.model.specs.Search.{Arrivals, bestTarget, rowTarget, reachedBy, candidatesFrom};
 ghost use Rattle.label.specs.Table.{recordOf, loaded};
-ghost use Rattle.totals.specs.Totals.{egressRows, EgressOk, targetOf, EarliestOk, Reached, better, withStop, withReach, LabelsOk, Labelled, candidatesIn, ZeroFrom, Put};
+ghost use Rattle.totals.specs.Totals.{EgressOk, targetOf, EarliestOk, Reached, better, withStop, withReach, LabelsOk, Labelled, candidatesIn, ZeroFrom, Put};
+ghost use Rattle.flags.specs.Flags.{egressRows};
 ghost use mathlib.Core.Bool.{_&&_};
 ghost use lib.Dec.{ltb, leb};
 ghost use mathlib.Core.Logic.{_⊎_};

@@ -1,6 +1,7 @@
 use Rattle.loops.specs.Count.{tabFrom}
 use Rattle.totals.proofs.Laws.{rowsAhead, rows-begin, rows-put, rows-pass, rows-take, rows-end, put-zeros}
-use Rattle.totals.specs.Totals.{egressRows, Labelled, candidatesIn, ZeroFrom}
+use Rattle.totals.specs.Totals.{Labelled, candidatesIn, ZeroFrom}
+use Rattle.flags.specs.Flags.{egressRows}
 use Rattle.model.specs.Search.{Arrivals, candidatesFrom}
 use Rattle.model.specs.Tables.{Tables, Query, never}
 use lib.ListN.{length}
