@@ -15,13 +15,6 @@ use Rattle.model.specs.Tables.{never}
 use Rattle.model.specs.Search.{Arrivals, reachedBy}
 use Rattle.totals.specs.declared.Target.{Target}
 
--- egress rows: stop, duration of its walk
-abbrev pub egressAt : List ℕ → ℕ → ℕ × ℕ
-egressAt rows i = (getD rows (i * 2) 0, getD rows (i * 2 + 1) 0)
-
-abbrev pub egressRows : List ℕ → List (ℕ × ℕ)
-egressRows rows = tab (egressAt rows) (length rows / 2)
-
 -- every egress stop is below the count, every walk a time
 pub record EgressOk (stops : ℕ) (rows : List ℕ) : Type 0 where
   pub few : length rows ≤ 8192
@@ -64,3 +57,21 @@ pub record LabelsOk (stops : ℕ) (labels : List ℕ) (distances : List Float) :
 -- a state whose labels are these
 pub record Labelled (a : Arrivals) (stops : ℕ) (labels : List ℕ) (distances : List Float) : Type 0 where
   pub at : (s r : ℕ) → s < stops → r < 13 → getD (a .labels) (recordOf s r) Empty ≡ loaded labels distances (recordOf s r)
+
+-- THE CANDIDATES IN MEMORY, three words each: total, stop, row. The first m of them:
+abbrev pub candidateAt : List ℕ → ℕ → ℕ × ℕ × ℕ
+candidateAt out k = (getD out (k * 3) 0, getD out (k * 3 + 1) 0, getD out (k * 3 + 2) 0)
+
+abbrev pub candidatesIn : List ℕ → ℕ → List (ℕ × ℕ × ℕ)
+candidatesIn out m = tab (candidateAt out) m
+
+-- nothing but zeros from candidate m on
+pub record ZeroFrom (out : List ℕ) (m : ℕ) : Type 0 where
+  pub zeros : (i : ℕ) → m * 3 ≤ i → getD out i 0 ≡ 0
+
+-- one candidate more: it stands at place m, those before it as they were
+pub record Put (old new : List ℕ) (m total stop row : ℕ) : Type 0 where
+  pub size : length new ≡ length old
+  pub here : candidateAt new m ≡ (total, stop, row)
+  pub before : (i : ℕ) → i < m * 3 → getD new i 0 ≡ getD old i 0
+  pub after : (i : ℕ) → m * 3 + 3 ≤ i → getD new i 0 ≡ getD old i 0

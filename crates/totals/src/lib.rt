@@ -1,14 +1,17 @@
-// totals: the answer of a query: its best total with its stop, over the earliest arrivals in memory.
+// totals: the answer of a query over its memory: the best total with its stop, and the candidates of the rows.
 // Specs: egress rows, earliest arrivals and labels as the slices hold them (Totals).
 // Proves: each function equal to the model's definition of the same name, for all states that agree.
 // Assumes nothing.
 ghost use mathlib.Core.Path.{_≡_};
-ghost use Prim.Native.Nat.{ℕ, _+_, _*_, _/_, _≤_, _<_};
+ghost use Prim.Native.Nat.{ℕ, suc, _+_, _*_, _/_, _≤_, _<_};
 ghost use lib.ListN.{length, getD};
 ghost use Rattle.model.specs.Tables.{Tables, Query, never};
-ghost use Rattle.model.specs.Search.{Arrivals, bestTarget, rowTarget, reachedBy};
+ghost use Rattle.model.specs.Search.{Arrivals, bestTarget, rowTarget, reachedBy, candidatesFrom};
 ghost use Rattle.label.specs.Table.{recordOf, loaded};
-ghost use Rattle.totals.specs.Totals.{egressRows, EgressOk, targetOf, EarliestOk, Reached, better, withStop, withReach, LabelsOk, Labelled};
+ghost use Rattle.totals.specs.Totals.{EgressOk, targetOf, EarliestOk, Reached, better, withStop, withReach, LabelsOk, Labelled, candidatesIn, ZeroFrom, Put};
+ghost use Rattle.flags.specs.Flags.{egressRows};
+ghost use mathlib.Core.Bool.{_&&_};
+ghost use lib.Dec.{ltb, leb};
 ghost use mathlib.Core.Logic.{_⊎_};
 use label::Label;
 
@@ -169,4 +172,65 @@ pub fn row_target(
         total: total,
         stop: stop,
     }
+}
+
+// No candidate.
+fn clear(out: &mut [u32])
+    ensures { λ _. ⌜ ZeroFrom (now (out .exit)) 0 ⌝ }
+{
+    let mut i: usize = 0;
+    while i < out.len() {
+        out[i] = 0;
+        i += 1;
+    }
+}
+
+// Candidate m.
+fn put_candidate(out: &mut [u32], m: usize, b: Target, row: u32)
+    requires { ⌜ m * 3 + 3 ≤ length (now out) ⌝ }
+    ensures { λ _. ⌜ Put (now (out .entry)) (now (out .exit)) m (b .total) (b .stop) row ⌝ }
+{
+    let at = m * 3;
+    out[at] = b.total;
+    out[at + 1] = b.stop;
+    out[at + 2] = row;
+}
+
+// Is the least total of a row a candidate: earlier than the last one taken, and not later than the best by more than the slack?
+fn taken(total: u32, last: u32, top: u32, slack: u32) -> bool
+    ensures { λ r. ⌜ r ≡ (ltb total last && leb total (top + slack)) ⌝ }
+{
+    door::both(total < last, (total as u64) <= top as u64 + slack as u64)
+}
+
+// The candidates of the rows from 0 to `rounds`, and how many; the words past them 0.
+pub fn candidates(
+    labels: &[u32],
+    distances: &[f64],
+    stops: usize,
+    egress: &[u32],
+    top: u32,
+    slack: u32,
+    rounds: u32,
+    out: &mut [u32],
+) -> usize
+    requires { ⌜ LabelsOk stops (now labels) (now distances) ⌝ ∗ ⌜ EgressOk stops (now egress) ⌝ ∗ ⌜ rounds < 13 ⌝ ∗ ⌜ length (now out) ≡ 39 ⌝ }
+    ensures { λ r. ⌜ ZeroFrom (now (out .exit)) r ⌝ ∗ ⌜ ((T : Tables) (Q : Query) (a : Arrivals) → Labelled a stops (now (labels .entry)) (now (distances .entry)) → Q .egress ≡ egressRows (now (egress .entry)) → Q .settings .candidateSlack ≡ slack → candidatesIn (now (out .exit)) r ≡ candidatesFrom T Q a top (suc rounds) 0 never) ⌝ }
+{
+    clear(out);
+    let mut last: u32 = 4294967295;
+    let mut m: usize = 0;
+    let mut row: u32 = 0;
+    while row <= rounds {
+        let b = row_target(labels, distances, stops, egress, row);
+        if !taken(b.total, last, top, slack) {
+            row += 1;
+            continue;
+        }
+        put_candidate(out, m, b, row);
+        last = b.total;
+        m += 1;
+        row += 1;
+    }
+    m
 }

@@ -1,5 +1,6 @@
 use Rattle.totals.proofs.Laws.{bestAhead, best-first, best-step, best-end}
-use Rattle.totals.specs.Totals.{egressRows, Reached, withStop}
+use Rattle.totals.specs.Totals.{Reached, withStop}
+use Rattle.flags.specs.Flags.{egressRows}
 use Rattle.model.specs.Search.{Arrivals, bestTarget}
 use Rattle.model.specs.Tables.{Tables, Query, never}
 use lib.ListN.{length, getD}

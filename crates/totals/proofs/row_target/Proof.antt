@@ -1,5 +1,6 @@
 use Rattle.totals.proofs.Laws.{rowAhead, row-first, row-step, row-end}
-use Rattle.totals.specs.Totals.{egressRows, Labelled, withReach}
+use Rattle.totals.specs.Totals.{Labelled, withReach}
+use Rattle.flags.specs.Flags.{egressRows}
 use Rattle.model.specs.Search.{Arrivals, rowTarget, reachedBy}
 use Rattle.model.specs.Tables.{Tables, Query, never}
 use Rattle.label.specs.Table.{recordOf, loaded}
