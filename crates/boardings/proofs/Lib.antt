@@ -1,0 +1,5 @@
+pub mod Chains
+pub mod Stages
+pub mod Noting
+pub mod Reading
+pub mod Rounds

@@ -1,0 +1,140 @@
+-- A new round; a new query; what other calls leave alone. Assumes nothing.
+use Prim.Native.Nat.{ℕ, zero, suc, _+_, _*_, _-_, _≤_, _<_}
+use mathlib.Core.Path.{_≡_, refl, sym, ap, ap₂, _∙_}
+use mathlib.Core.Bool.{Bool, true, false, cond, not, _&&_, _||_}
+use mathlib.Core.List.{List, [], _∷_}
+use native.Mathlib.Omega.{arith}
+use lib.ListN.{length, getD, take, drop, replicate}
+use lib.Seq.{drop-drop}
+use lib.Dec.{ltb, leb, eqb}
+use borrow.Author.Tests.{ne-eqb}
+use Rattle.scratch.specs.declared.Lay.{Lay}
+use Rattle.scratch.specs.Part.{part, tally}
+use Rattle.scratch.specs.Places.{Sized, Same, restAt, listsAt}
+use Rattle.scratch.specs.View.{memory, Memory}
+use Rattle.scratch.specs.Fill.{Fresh}
+use Rattle.scratch.proofs.Part.{drop-at}
+use Rattle.scratch.proofs.Filling.{part-same}
+use Rattle.model.specs.Tables.{Tables, Query, position, trips}
+use Rattle.model.specs.Search.{State, Boardings, lineAt, dominated, roundStart, newBoardings}
+use Rattle.boardings.specs.Chain.{positionsAt, tripStampsAt, offsetsAt, departuresAt, lineStampsAt, headsAt, linksAt, leastAt, firstOf, chainFrom, chain, isIn, someBefore}
+use Rattle.boardings.specs.Books.{Chains, Books}
+use Rattle.boardings.proofs.Chains.{chain-high, some-kept}
+use Rattle.boardings.proofs.Reading.{never}
+
+-- no line bears the stamp: every chain is empty
+module _ (lay : Lay) (stamp : ℕ) (w : List ℕ) where
+  no-first : (l : ℕ) → getD w (lineStampsAt lay + l) 0 < stamp → firstOf lay stamp w l ≡ 0
+  unfolding firstOf
+  no-first l h = ap (λ (b : Bool). cond b (getD w (headsAt lay + l) 0) 0) (ne-eqb (getD w (lineStampsAt lay + l) 0) stamp (λ e. omega (arith, e, h)))
+
+  nothing : (k : ℕ) → chainFrom lay w k 0 ≡ []
+  unfolding chainFrom
+  nothing zero = refl
+  nothing (suc k) = refl
+
+  no-chain : (l : ℕ) → getD w (lineStampsAt lay + l) 0 < stamp → chain lay stamp w l ≡ []
+  no-chain l h = ap (chainFrom lay w (lay .trips)) (no-first l h) ∙ nothing (lay .trips)
+
+  not-in : (l x : ℕ) → getD w (lineStampsAt lay + l) 0 < stamp → isIn x (chain lay stamp w l) ≡ true → ⊥
+  unfolding isIn
+  not-in l x h z = never (ap (isIn x) (sym (no-chain l h)) ∙ z)
+
+  no-test : (T : Tables) (Q : Query) (t o l : ℕ) → getD w (lineStampsAt lay + l) 0 < stamp → dominated T Q t o [] ≡ someBefore lay w (position T t) o (chain lay stamp w l)
+  unfolding dominated someBefore
+  no-test T Q t o l h = sym (ap (someBefore lay w (position T t) o) (no-chain l h))
+
+  -- with all stamps lower
+  chains-none : ((l : ℕ) → l < lay .lines → getD w (lineStampsAt lay + l) 0 < stamp) → ((t : ℕ) → t < lay .trips → getD w (tripStampsAt lay + t) 0 < stamp) → Chains lay stamp w
+  chains-none f g =
+      record {
+        inside = λ l x h z. absurd (not-in l x (f l h) z);
+        stamped = λ l x h z. absurd (not-in l x (f l h) z);
+        short = λ l h. let e : length (chain lay stamp w l) ≡ 0 = ap length (no-chain l (f l h)) in omega (arith, e);
+        lineStamps = λ l h. let u = f l h in omega (arith, u);
+        tripStamps = λ t h. let u = g t h in omega (arith, u);
+      }
+
+-- A NEW ROUND: the next stamp, no line boarded, no change in memory
+pub chains-next : (lay : Lay) (stamp : ℕ) (w : List ℕ) → Chains lay stamp w → Chains lay (suc stamp) w
+chains-next lay stamp w ch =
+    chains-none lay (suc stamp) w (λ l h. let u = ch .lineStamps l h in omega (arith, u)) (λ t h. let u = ch .tripStamps t h in omega (arith, u))
+
+pub books-next : (lay : Lay) (stamp : ℕ) (T : Tables) (Q : Query) (w : List ℕ) (s : State) → Chains lay stamp w → Books lay stamp T Q w (s .boardings)
+    → Books lay (suc stamp) T Q w (roundStart T Q s .boardings)
+books-next lay stamp T Q w s ch bk =
+    let f : (l : ℕ) → l < lay .lines → getD w (lineStampsAt lay + l) 0 < suc stamp = λ l h. let u = ch .lineStamps l h in omega (arith, u) in
+    record {
+      tripStamp = bk .tripStamp;
+      boardOffset = bk .boardOffset;
+      boardDeparture = bk .boardDeparture;
+      own = λ l x h z. absurd (not-in lay (suc stamp) w l x (f l h) z);
+      held = λ t h e p. absurd (let u = ch .tripStamps t h in omega (arith, u, e));
+      test = λ t o h. no-test lay (suc stamp) w T Q t o (lineAt T t) (f (lineAt T t) h);
+    }
+
+-- A NEW QUERY: its numbers are zero, so no trip is boarded
+pub chains-fresh : (lay : Lay) (a : Memory) → Fresh lay a → Chains lay 1 (a .work)
+chains-fresh lay a z =
+    chains-none lay 1 (a .work) (λ l h. let u = z .zero (lineStampsAt lay + l) (omega arith) in omega (arith, u)) (λ t h. let u = z .zero (tripStampsAt lay + t) (omega arith) in omega (arith, u))
+
+pub books-fresh : (lay : Lay) (T : Tables) (Q : Query) (a : Memory) → Sized lay (length (a .work)) (lay .stops * 104) (lay .stops * 13) → trips T ≡ lay .trips → Fresh lay a
+    → Books lay 1 T Q (a .work) (newBoardings T Q)
+books-fresh lay T Q a ok e z =
+    let f : (l : ℕ) → getD (a .work) (lineStampsAt lay + l) 0 < 1 = λ l. let u = z .zero (lineStampsAt lay + l) (omega arith) in omega (arith, u) in
+    record {
+      tripStamp = zeros (tripStampsAt lay) (omega arith) (omega (arith, ok .words));
+      boardOffset = zeros (offsetsAt lay) (omega arith) (omega (arith, ok .words));
+      boardDeparture = zeros (departuresAt lay) (omega arith) (omega (arith, ok .words));
+      own = λ l x h q. absurd (not-in lay 1 (a .work) l x (f l) q);
+      held = λ t h d p. absurd (let u = z .zero (tripStampsAt lay + t) (omega arith) in omega (arith, u, d));
+      test = λ t o h. no-test lay 1 (a .work) T Q t o (lineAt T t) (f (lineAt T t));
+    }
+  where
+    zeros : (s : ℕ) → listsAt lay ≤ s → s + lay .trips ≤ length (a .work) → replicate (trips T) 0 ≡ part (a .work) s (lay .trips)
+    zeros s h r = ap (λ (n : ℕ). replicate n 0) e ∙ sym (part-same (a .work) s (lay .trips) 0 r (λ i u. z .zero (s + i) (omega (arith, h))))
+
+-- WHAT ARRIVALS LEAVE ALONE: all from `restAt` on
+module _ (lay : Lay) (stamp : ℕ) (w w′ : List ℕ) (same : Same lay w w′) where
+  at : (i : ℕ) → restAt lay ≤ i → getD w′ i 0 ≡ getD w i 0
+  at i h =
+      let e : restAt lay + (i - restAt lay) ≡ i = omega (arith, h) in
+      ap (λ (x : ℕ). getD w′ x 0) (sym e) ∙ drop-at w w′ (restAt lay) (i - restAt lay) (same .rest) ∙ ap (λ (x : ℕ). getD w x 0) e
+
+  section : (a : ℕ) → restAt lay ≤ a → part w′ a (lay .trips) ≡ part w a (lay .trips)
+  unfolding part
+  section a h =
+      let e : restAt lay + (a - restAt lay) ≡ a = omega (arith, h) in
+      let f : drop a w′ ≡ drop a w =
+      ap (λ (x : ℕ). drop x w′) (sym e) ∙ sym (drop-drop (a - restAt lay) (restAt lay) w′) ∙ ap (drop (a - restAt lay)) (same .rest)
+      ∙ drop-drop (a - restAt lay) (restAt lay) w ∙ ap (λ (x : ℕ). drop x w) e in
+      ap (take (lay .trips)) f
+
+  chain-same : (l : ℕ) → chain lay stamp w′ l ≡ chain lay stamp w l
+  chain-same l = chain-high lay w w′ stamp l (λ i h. at i (omega (arith, h)))
+
+  in-same : (l x : ℕ) → isIn x (chain lay stamp w′ l) ≡ true → isIn x (chain lay stamp w l) ≡ true
+  in-same l x z = ap (isIn x) (sym (chain-same l)) ∙ z
+
+  pub chains-kept : Chains lay stamp w → Chains lay stamp w′
+  chains-kept ch =
+      record {
+        inside = λ l x h z. ch .inside l x h (in-same l x z);
+        stamped = λ l x h z. at (tripStampsAt lay + x) (omega arith) ∙ ch .stamped l x h (in-same l x z);
+        short = λ l h. rw (chain-same l, section (tripStampsAt lay) (omega arith)) (ch .short l h);
+        lineStamps = λ l h. rw (at (lineStampsAt lay + l) (omega arith)) (ch .lineStamps l h);
+        tripStamps = λ t h. rw (at (tripStampsAt lay + t) (omega arith)) (ch .tripStamps t h);
+      }
+
+  pub books-kept : (T : Tables) (Q : Query) (b : Boardings) → Books lay stamp T Q w b → Books lay stamp T Q w′ b
+  books-kept T Q b bk =
+      record {
+        tripStamp = bk .tripStamp ∙ sym (section (tripStampsAt lay) (omega arith));
+        boardOffset = bk .boardOffset ∙ sym (section (offsetsAt lay) (omega arith));
+        boardDeparture = bk .boardDeparture ∙ sym (section (departuresAt lay) (omega arith));
+        own = λ l x h z. bk .own l x h (in-same l x z);
+        held = λ t h e p. ap (isIn t) (chain-same (lineAt T t)) ∙ bk .held t h (sym (at (tripStampsAt lay + t) (omega arith)) ∙ e) p;
+        test = λ t o h. bk .test t o h
+            ∙ sym (ap (someBefore lay w′ (position T t) o) (chain-same (lineAt T t))
+            ∙ some-kept lay w w′ (position T t) o (chain lay stamp w (lineAt T t)) (λ x z. at (positionsAt lay + x) (omega arith)) (λ x z. at (leastAt lay + x) (omega arith)));
+      }
