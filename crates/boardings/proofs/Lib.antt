@@ -3,3 +3,4 @@ pub mod Stages
 pub mod Noting
 pub mod Reading
 pub mod Rounds
+pub mod Kept
