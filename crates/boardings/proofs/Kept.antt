@@ -63,7 +63,7 @@ module _ (lay : Lay) (stamp : ℕ) (built : List ℕ) (adj : Hit) (t o dep : ℕ
 
   -- a section below the egress table
   pub part-noted : (b d : ℕ) → Sized lay (length w) b d → (a k : ℕ) → a + k ≤ restAt lay → part w′ a k ≡ part w a k
-  part-noted b d ok a k h = part-ext w w′ a k (n .size) (omega (arith, ok .words, h)) (λ i u. noted-at (a + i) (omega (arith, h, u)))
+  part-noted b d ok a k h = part-ext w w′ a k (n .size) (omega (arith, ok .sections .words, h)) (λ i u. noted-at (a + i) (omega (arith, h, u)))
 
   pub arrivals-noted : (b d : ℕ) → Sized lay (length w) b d → (l : List ℕ) (m : List Float) (h : Head) → h .count ≤ lay .stops + 64 → (q : List ℕ)
       → arrivalsOf lay (memory w′ l m h) q ≡ arrivalsOf lay (memory w l m h) q
@@ -74,7 +74,7 @@ module _ (lay : Lay) (stamp : ℕ) (built : List ℕ) (adj : Hit) (t o dep : ℕ
         earliest = part-noted b d ok 0 (lay .stops) (omega arith) i;
         best = a .best;
         stopStamp = part-noted b d ok (lay .stops) (lay .stops) (omega arith) i;
-        reached = part-noted b d ok (lay .list) (h .count) (omega (arith, ok .fits, few)) i;
+        reached = part-noted b d ok (lay .list) (h .count) (omega (arith, ok .sections .fits, few)) i;
         segQueue = a .segQueue;
         segReach = part-noted b d ok (lay .stops * 2) (lay .trips) (omega arith) i;
       }

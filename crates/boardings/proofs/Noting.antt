@@ -71,7 +71,7 @@ module _ (lay : Lay) (stamp : ℕ) (w w1 : List ℕ) (ok : Sized lay (length w) 
   stamp-at =
       getD-set-other x2 (departuresAt lay + t) (tripStampsAt lay + t) dep 0 (λ e. omega (arith, e, ht))
       ∙ getD-set-other x1 (offsetsAt lay + t) (tripStampsAt lay + t) o 0 (λ e. omega (arith, e, ht))
-      ∙ getD-set-same w1 (tripStampsAt lay + t) stamp 0 (omega (arith, st .size, ok .words, ht))
+      ∙ getD-set-same w1 (tripStampsAt lay + t) stamp 0 (omega (arith, st .size, ok .sections .words, ht))
 
   stamp-other : (x : ℕ) → x < lay .trips → (x ≡ t → ⊥) → getD x3 (tripStampsAt lay + x) 0 ≡ getD w (tripStampsAt lay + x) 0
   stamp-other x h n =
@@ -79,7 +79,7 @@ module _ (lay : Lay) (stamp : ℕ) (w w1 : List ℕ) (ok : Sized lay (length w) 
       ∙ st .below (tripStampsAt lay + x) (omega (arith, h))
 
   section : (a : ℕ) → a + lay .trips ≤ lineStampsAt lay → part w1 a (lay .trips) ≡ part w a (lay .trips)
-  section a h = part-ext w w1 a (lay .trips) (st .size) (omega (arith, ok .words, h)) (λ i u. st .below (a + i) (omega (arith, h, u)))
+  section a h = part-ext w w1 a (lay .trips) (st .size) (omega (arith, ok .sections .words, h)) (λ i u. st .below (a + i) (omega (arith, h, u)))
 
   stamps3 : part x3 (tripStampsAt lay) (lay .trips) ≡ set (part w (tripStampsAt lay) (lay .trips)) t stamp
   stamps3 =
@@ -99,7 +99,7 @@ module _ (lay : Lay) (stamp : ℕ) (w w1 : List ℕ) (ok : Sized lay (length w) 
 
   tally3 : tally stamp (part x3 (tripStampsAt lay) (lay .trips)) ≡ tally stamp (part w (tripStampsAt lay) (lay .trips)) + one (not (eqb (getD w (tripStampsAt lay + t) 0) stamp))
   tally3 =
-      let e : length (part w (tripStampsAt lay) (lay .trips)) ≡ lay .trips = part-length w (tripStampsAt lay) (lay .trips) (omega (arith, ok .words)) in
+      let e : length (part w (tripStampsAt lay) (lay .trips)) ≡ lay .trips = part-length w (tripStampsAt lay) (lay .trips) (omega (arith, ok .sections .words)) in
       ap (tally stamp) stamps3 ∙ tally-grow stamp (part w (tripStampsAt lay) (lay .trips)) t (omega (arith, e, ht))
       ∙ ap (λ (y : ℕ). tally stamp (part w (tripStampsAt lay) (lay .trips)) + one (not (eqb y stamp))) (part-at w (tripStampsAt lay) (lay .trips) t ht)
 

@@ -83,9 +83,9 @@ pub books-fresh : (lay : Lay) (T : Tables) (Q : Query) (a : Memory) → Sized la
 books-fresh lay T Q a ok e z =
     let f : (l : ℕ) → getD (a .work) (lineStampsAt lay + l) 0 < 1 = λ l. let u = z .zero (lineStampsAt lay + l) (omega arith) in omega (arith, u) in
     record {
-      tripStamp = zeros (tripStampsAt lay) (omega arith) (omega (arith, ok .words));
-      boardOffset = zeros (offsetsAt lay) (omega arith) (omega (arith, ok .words));
-      boardDeparture = zeros (departuresAt lay) (omega arith) (omega (arith, ok .words));
+      tripStamp = zeros (tripStampsAt lay) (omega arith) (omega (arith, ok .sections .words));
+      boardOffset = zeros (offsetsAt lay) (omega arith) (omega (arith, ok .sections .words));
+      boardDeparture = zeros (departuresAt lay) (omega arith) (omega (arith, ok .sections .words));
       own = λ l x h q. absurd (not-in lay 1 (a .work) l x (f l) q);
       held = λ t h d p. absurd (let u = z .zero (tripStampsAt lay + t) (omega arith) in omega (arith, u, d));
       test = λ t o h. no-test lay 1 (a .work) T Q t o (lineAt T t) (f (lineAt T t));

@@ -32,7 +32,7 @@ module _ {lay : Lay} {stamp : ℕ} {agree : Tables → Query → Type 0} where
   along-turn {g = g} rest′ p s f h e =
       record {
         done = λ T Q x. g T Q (p .done T Q x);
-        step = step-then (p .step) s h;
+        step = step-then agree (p .step) s (λ T Q y. (y, h T Q y));
         left = λ T Q y x. sym (e T Q y (p .done T Q x)) ∙ p .left T Q y x;
         falls = falls-then (p .falls) f;
       }

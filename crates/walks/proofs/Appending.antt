@@ -66,12 +66,12 @@ module _ (lay : Lay) (w : List ℕ) {b c : ℕ} (ok : Sized lay (length w) b c) 
       let k : bearing lay stamp w (s ∷ []) ≡ s ∷ [] =
       keep-one (λ z. eqb (getD (stampsOf lay w) z 0) stamp) s true (eq-eqb _ _ (part-at w (lay .stops) (lay .stops) s h ∙ e)) in
       rw k (record {
-        earliest = part-above w 0 (lay .stops) (lay .list + count) s (omega (arith, ok .first));
-        stamps = part-above w (lay .stops) (lay .stops) (lay .list + count) s (omega (arith, ok .first));
-        reached = part-more w (lay .list) count s (omega (arith, ok .words, ok .fits, room));
+        earliest = part-above w 0 (lay .stops) (lay .list + count) s (omega (arith, ok .sections .first));
+        stamps = part-above w (lay .stops) (lay .stops) (lay .list + count) s (omega (arith, ok .sections .first));
+        reached = part-more w (lay .list) count s (omega (arith, ok .sections .words, ok .sections .fits, room));
         counted = omega arith;
-        segReach = part-above w (lay .stops * 2) (lay .trips) (lay .list + count) s (omega (arith, ok .first));
-        same = same-list lay w ok count s room;
+        segReach = part-above w (lay .stops * 2) (lay .trips) (lay .list + count) s (omega (arith, ok .sections .first));
+        same = same-list lay w (ok .sections) count s room;
       })
 
 -- none yet
@@ -100,7 +100,7 @@ append-turn {lay} {w₀} {w} {w′} {n} stamp count k k′ i s ok p x y e h =
     let more : bearing lay stamp w₀ (part w₀ (lay .other) i) ++ bearing lay stamp w (s ∷ []) ≡ bearing lay stamp w₀ (part w₀ (lay .other) (i + 1)) =
     ap₂ (λ (ss : List ℕ) (a : ℕ). bearing lay stamp w₀ (part w₀ (lay .other) i) ++ keep (λ q. eqb (getD ss q 0) stamp) (a ∷ [])) (x .stamps) z
     ∙ sym (keep-append (λ q. eqb (getD (stampsOf lay w₀) q 0) stamp) (part w₀ (lay .other) i) (otherAt lay w₀ i ∷ []))
-    ∙ ap (bearing lay stamp w₀) (sym (part-next w₀ (lay .other) i (omega (arith, p .few, ok .other-fits, ok .words)))) in
+    ∙ ap (bearing lay stamp w₀) (sym (part-next w₀ (lay .other) i (omega (arith, p .few, ok .sections .other-fits, ok .sections .words)))) in
     let all : Appended lay w₀ w′ count k′ (bearing lay stamp w₀ (part w₀ (lay .other) i) ++ bearing lay stamp w (s ∷ [])) = record {
       earliest = y .earliest ∙ x .earliest;
       stamps = y .stamps ∙ x .stamps;
@@ -119,7 +119,7 @@ append-most {lay} {w₀} stamp count k i ok x h =
       arith,
       x .counted,
       keep-short (λ q. eqb (getD (stampsOf lay w₀) q 0) stamp) (part w₀ (lay .other) i),
-      part-length w₀ (lay .other) i (omega (arith, h, ok .other-fits, ok .words)),
+      part-length w₀ (lay .other) i (omega (arith, h, ok .sections .other-fits, ok .sections .words)),
     )
 
 -- the next stop is one of the table's, and the working numbers are as many as before

@@ -100,7 +100,7 @@ listed-kept {lay} {w} {w′} {n} p s f =
 
 -- the n stops of the other list
 pub other-length : {lay : Lay} {w : List ℕ} {n b c : ℕ} → Listed lay w n → Sized lay (length w) b c → length (part w (lay .other) n) ≡ n
-other-length {lay} {w} {n} p s = part-length w (lay .other) n (omega (arith, p .few, s .other-fits, s .words))
+other-length {lay} {w} {n} p s = part-length w (lay .other) n (omega (arith, p .few, s .sections .other-fits, s .sections .words))
 
 pub other-in : {lay : Lay} {w w′ : List ℕ} {n : ℕ} (i : ℕ) → Listed lay w n → Same lay w w′ → i < n → getD (part w (lay .other) n) i 0 ≡ otherAt lay w′ i
 other-in {lay} {w} {w′} {n} i p s h = part-at w (lay .other) n i h ∙ sym (other-kept i s (omega (arith, p .few)))

@@ -33,17 +33,19 @@ turn-sides (inr b) = inl b
 pub turned-sized : {lay : Lay} {a b c : ℕ} → Sized lay a b c → Sized (turned lay) a b c
 turned-sized s =
     record {
-      stops = s .stops;
-      trips = s .trips;
-      lines = s .lines;
-      words = s .words;
+      sections = record {
+        stops = s .sections .stops;
+        trips = s .sections .trips;
+        lines = s .sections .lines;
+        words = s .sections .words;
+        first = s .sections .other-first;
+        fits = s .sections .other-fits;
+        other-first = s .sections .first;
+        other-fits = s .sections .fits;
+        apart = turn-sides (s .sections .apart);
+      };
       rows = s .rows;
       metres = s .metres;
-      first = s .other-first;
-      fits = s .other-fits;
-      other-first = s .first;
-      other-fits = s .fits;
-      apart = turn-sides (s .apart);
     }
 
 pub turned-ground : {lay : Lay} {r : Rules} {t : List ℕ} {d b : ℕ} → Ground lay r t d b → Ground (turned lay) r t d b
@@ -94,20 +96,7 @@ after T Q flagged stamp xs s A =
 
 -- the words of memory alone
 pub sized-words : {lay : Lay} {a b c : ℕ} → Sized lay a b c → Sized lay a (lay .stops * 104) (lay .stops * 13)
-sized-words s =
-    record {
-      stops = s .stops;
-      trips = s .trips;
-      lines = s .lines;
-      words = s .words;
-      rows = refl;
-      metres = refl;
-      first = s .first;
-      fits = s .fits;
-      other-first = s .other-first;
-      other-fits = s .other-fits;
-      apart = s .apart;
-    }
+sized-words s = record { sections = s .sections; rows = refl; metres = refl }
 
 module _ (lay : Lay) (r : Rules) (stamp : ℕ) (t : List ℕ) (d : List Float) (bs w l : List ℕ) (m : List Float) (h : Head) (ok : Ready lay stamp (memory w l m h))
     {b : Memory} (p : Step (turned lay) stamp (Agree (turned lay) r t d bs w) (λ T Q. walkAll T Q (r .flagged) stamp (part w (lay .list) (h .count))) (memory w l m (emptyHead h)) b) where
@@ -116,7 +105,7 @@ module _ (lay : Lay) (r : Rules) (stamp : ℕ) (t : List ℕ) (d : List Float) (
   phase-room = omega (arith, p .grown .by, ok .counted .fits)
 
   pub phase-fits : b .head .count + h .count ≤ lay .stops + 64
-  phase-fits = omega (arith, phase-room, stamps-length (turned lay) (b .work) (p .ready .sized), tally-le stamp (stampsOf lay (b .work)))
+  phase-fits = omega (arith, phase-room, stamps-length (turned lay) (b .work) (p .ready .sized .sections), tally-le stamp (stampsOf lay (b .work)))
 
   module _ (T : Tables) (Q : Query) (q : List ℕ) (s : Boardings) where
     -- walks, seen as the model's

@@ -87,7 +87,7 @@ mul-work-2 c = search needs
 
 -- src/lib.rt:144:5
 slice-write-work-2 : tie.Need-slice-write-work-2
-slice-write-work-2 c = let s = c .before .before .before .before .before .before .before .before .before .before .before in simp length-set (omega (arith, s .pre .0 .words, s .pre .1 .0, s .pre .1 .1))
+slice-write-work-2 c = let s = c .before .before .before .before .before .before .before .before .before .before .before in simp length-set (omega (arith, s .pre .0 .sections .words, s .pre .1 .0, s .pre .1 .1))
 
 -- src/lib.rt:145:18
 cast-work : tie.Need-cast-work
@@ -103,7 +103,7 @@ mul-work-3 c = search needs
 
 -- src/lib.rt:145:5
 slice-write-work-3 : tie.Need-slice-write-work-3
-slice-write-work-3 c = let s = c .before .before .before .before .before .before .before .before .before .before .before in simp length-set (omega (arith, s .pre .0 .words, s .pre .1 .0, s .pre .1 .1))
+slice-write-work-3 c = let s = c .before .before .before .before .before .before .before .before .before .before .before in simp length-set (omega (arith, s .pre .0 .sections .words, s .pre .1 .0, s .pre .1 .1))
 
 -- src/lib.rt:146:5
 mul-work-4 : tie.Need-mul-work-4
@@ -111,7 +111,7 @@ mul-work-4 c = search needs
 
 -- src/lib.rt:146:5
 slice-write-work-4 : tie.Need-slice-write-work-4
-slice-write-work-4 c = let s = c .before .before .before .before .before .before .before .before .before .before .before in simp length-set (omega (arith, s .pre .0 .words, s .pre .1 .0, s .pre .1 .1))
+slice-write-work-4 c = let s = c .before .before .before .before .before .before .before .before .before .before .before in simp length-set (omega (arith, s .pre .0 .sections .words, s .pre .1 .0, s .pre .1 .1))
 
 -- src/lib.rt:134:1
 same-length : tie.Need-same-length

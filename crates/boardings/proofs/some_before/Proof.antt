@@ -67,15 +67,15 @@ sub-field c = omega (arith, c .before .before .if2 .left)
 
 -- src/lib.rt:82:33
 add-field : tie.Need-add-field Inv-loop μ-loop
-add-field c = let s = c .before .before .before .before .before .before .before .before .before .before in let v = c .before .before .before .before .before .loop in let u = walking-below (s .args .lay) (now (s .args .work)) (s .args .p) (s .args .off) (s .args .first) (v .k) (v .h) (v .inv .1) (c .before .before .before .if1 .taken) (c .before .before .if2 .left) in omega (arith, u, s .pre .0 .stops, s .pre .0 .trips, s .pre .0 .lines)
+add-field c = let s = c .before .before .before .before .before .before .before .before .before .before in let v = c .before .before .before .before .before .loop in let u = walking-below (s .args .lay) (now (s .args .work)) (s .args .p) (s .args .off) (s .args .first) (v .k) (v .h) (v .inv .1) (c .before .before .before .if1 .taken) (c .before .before .if2 .left) in omega (arith, u, s .pre .0 .sections .stops, s .pre .0 .sections .trips, s .pre .0 .sections .lines)
 
 -- src/lib.rt:82:9
 field-requires : tie.Need-field-requires Inv-loop μ-loop
-field-requires c κs = let s = c .before .before .before .before .before .before .before .before .before .before in let v = c .before .before .before .before .before .loop in let u = walking-below (s .args .lay) (now (s .args .work)) (s .args .p) (s .args .off) (s .args .first) (v .k) (v .h) (v .inv .1) (c .before .before .before .if1 .taken) (c .before .before .if2 .left) in omega (arith, u, s .pre .0 .words)
+field-requires c κs = let s = c .before .before .before .before .before .before .before .before .before .before in let v = c .before .before .before .before .before .loop in let u = walking-below (s .args .lay) (now (s .args .work)) (s .args .p) (s .args .off) (s .args .first) (v .k) (v .h) (v .inv .1) (c .before .before .before .if1 .taken) (c .before .before .if2 .left) in omega (arith, u, s .pre .0 .sections .words)
 
 -- src/lib.rt:83:9
 add-k : tie.Need-add-k Inv-loop μ-loop
-add-k c = let s = c .before .before .before .before .before .before .before .before .before .before .before in omega (arith, s .pre .0 .trips, c .before .before .before .before .if1 .taken)
+add-k c = let s = c .before .before .before .before .before .before .before .before .before .before .before in omega (arith, s .pre .0 .sections .trips, c .before .before .before .before .if1 .taken)
 
 -- src/lib.rt:75:5
 loop-less : tie.Need-loop-less Inv-loop μ-loop

@@ -54,7 +54,7 @@ mul-work-2 c = search needs
 
 -- src/lib.rt:186:5
 slice-write-work-2 : tie.Need-slice-write-work-2
-slice-write-work-2 c = let s = c .before .before .before .before .before in simp length-set (omega (arith, s .pre .0 .words, s .pre .1))
+slice-write-work-2 c = let s = c .before .before .before .before .before in simp length-set (omega (arith, s .pre .0 .sections .words, s .pre .1))
 
 -- src/lib.rt:187:5
 mul-work-3 : tie.Need-mul-work-3
@@ -62,7 +62,7 @@ mul-work-3 c = search needs
 
 -- src/lib.rt:187:5
 slice-write-work-3 : tie.Need-slice-write-work-3
-slice-write-work-3 c = let s = c .before .before .before .before .before in simp length-set (omega (arith, s .pre .0 .words, s .pre .1))
+slice-write-work-3 c = let s = c .before .before .before .before .before in simp length-set (omega (arith, s .pre .0 .sections .words, s .pre .1))
 
 -- src/lib.rt:178:1
 same-length : tie.Need-same-length

@@ -29,28 +29,28 @@ loop-holds : tie.Need-loop-holds Inv-loop μ-loop
 loop-holds c = let a = c .before .before .before .before .before .before in let x = a .args in along-start _ _ _ (a .pre .0) (λ T Q y z. refl)
 
 add-at : tie.Need-add-at Inv-loop μ-loop
-add-at c = let a = c .before .before .before .before .before .before .before .before .before in let x = a .args in let p = c .before .before .loop .inv in let s = p .step .ready .sized in let k = listed-kept (a .pre .1 .1) (p .step .same) (p .falls) in omega (arith, s .other-fits, s .stops, s .trips, k .few)
+add-at c = let a = c .before .before .before .before .before .before .before .before .before in let x = a .args in let p = c .before .before .loop .inv in let s = p .step .ready .sized in let k = listed-kept (a .pre .1 .1) (p .step .same) (p .falls) in omega (arith, s .sections .other-fits, s .sections .stops, s .sections .trips, k .few)
 
 mul-x : tie.Need-mul-x Inv-loop μ-loop
-mul-x c = let a = c .before .before .before .before .before .before .before .before .before in let x = a .args in let p = c .before .before .loop .inv in let s = p .step .ready .sized in let k = listed-kept (a .pre .1 .1) (p .step .same) (p .falls) in omega (arith, s .other-fits, s .stops, s .trips, k .few)
+mul-x c = let a = c .before .before .before .before .before .before .before .before .before in let x = a .args in let p = c .before .before .loop .inv in let s = p .step .ready .sized in let k = listed-kept (a .pre .1 .1) (p .step .same) (p .falls) in omega (arith, s .sections .other-fits, s .sections .stops, s .sections .trips, k .few)
 
 slice-read-x : tie.Need-slice-read-x Inv-loop μ-loop
-slice-read-x c = let a = c .before .before .before .before .before .before .before .before .before .before in let x = a .args in let p = c .before .before .before .loop .inv in let s = p .step .ready .sized in let k = listed-kept (a .pre .1 .1) (p .step .same) (p .falls) in omega (arith, s .other-fits, s .words, k .few)
+slice-read-x c = let a = c .before .before .before .before .before .before .before .before .before .before in let x = a .args in let p = c .before .before .before .loop .inv in let s = p .step .ready .sized in let k = listed-kept (a .pre .1 .1) (p .step .same) (p .falls) in omega (arith, s .sections .other-fits, s .sections .words, k .few)
 
 cast-x : tie.Need-cast-x Inv-loop μ-loop
-cast-x c = let a = c .before .before .before .before .before .before .before .before .before .before in let x = a .args in let p = c .before .before .before .loop .inv in let s = p .step .ready .sized in let k = listed-kept (a .pre .1 .1) (p .step .same) (p .falls) in let u = k .inside _ (c .before .before .loop-test .taken) in omega (arith, u, s .stops)
+cast-x c = let a = c .before .before .before .before .before .before .before .before .before .before in let x = a .args in let p = c .before .before .before .loop .inv in let s = p .step .ready .sized in let k = listed-kept (a .pre .1 .1) (p .step .same) (p .falls) in let u = k .inside _ (c .before .before .loop-test .taken) in omega (arith, u, s .sections .stops)
 
 mul-v : tie.Need-mul-v Inv-loop μ-loop
-mul-v c = let a = c .before .before .before .before .before .before .before .before .before .before in let x = a .args in let p = c .before .before .before .loop .inv in let s = p .step .ready .sized in let k = listed-kept (a .pre .1 .1) (p .step .same) (p .falls) in let u = k .inside _ (c .before .before .loop-test .taken) in omega (arith, u, s .stops)
+mul-v c = let a = c .before .before .before .before .before .before .before .before .before .before in let x = a .args in let p = c .before .before .before .loop .inv in let s = p .step .ready .sized in let k = listed-kept (a .pre .1 .1) (p .step .same) (p .falls) in let u = k .inside _ (c .before .before .loop-test .taken) in omega (arith, u, s .sections .stops)
 
 slice-read-v : tie.Need-slice-read-v Inv-loop μ-loop
-slice-read-v c = let a = c .before .before .before .before .before .before .before .before .before .before .before in let x = a .args in let p = c .before .before .before .before .loop .inv in let s = p .step .ready .sized in let k = listed-kept (a .pre .1 .1) (p .step .same) (p .falls) in let u = k .inside _ (c .before .before .before .loop-test .taken) in omega (arith, u, s .words)
+slice-read-v c = let a = c .before .before .before .before .before .before .before .before .before .before .before in let x = a .args in let p = c .before .before .before .before .loop .inv in let s = p .step .ready .sized in let k = listed-kept (a .pre .1 .1) (p .step .same) (p .falls) in let u = k .inside _ (c .before .before .before .loop-test .taken) in omega (arith, u, s .sections .words)
 
 walk-from-requires : tie.Need-walk-from-requires Inv-loop μ-loop
 walk-from-requires c κs = let a = c .before .before .before .before .before .before .before .before .before .before .before .before .before .before in let x = a .args in let p = c .before .before .before .before .before .before .before .loop .inv in let s = p .step .ready .sized in let k = listed-kept (a .pre .1 .1) (p .step .same) (p .falls) in let u = k .inside _ (c .before .before .before .before .before .before .loop-test .taken) in (p .step .ready, (a .pre .1 .0, (u, k .early _ (c .before .before .before .before .before .before .loop-test .taken))))
 
 add-i : tie.Need-add-i Inv-loop μ-loop
-add-i c = let a = c .before .before .before .before .before .before .before .before .before .before .before .before .before .before .before .before .before .before .before .before .before in let x = a .args in let p = c .before .before .before .before .before .before .before .before .before .before .before .before .before .before .loop .inv in let s = p .step .ready .sized in let k = listed-kept (a .pre .1 .1) (p .step .same) (p .falls) in omega (arith, k .few, s .stops, c .before .before .before .before .before .before .before .before .before .before .before .before .before .loop-test .taken)
+add-i c = let a = c .before .before .before .before .before .before .before .before .before .before .before .before .before .before .before .before .before .before .before .before .before in let x = a .args in let p = c .before .before .before .before .before .before .before .before .before .before .before .before .before .before .loop .inv in let s = p .step .ready .sized in let k = listed-kept (a .pre .1 .1) (p .step .same) (p .falls) in omega (arith, k .few, s .sections .stops, c .before .before .before .before .before .before .before .before .before .before .before .before .before .loop-test .taken)
 
 loop-less : tie.Need-loop-less Inv-loop μ-loop
 loop-less c = omega arith

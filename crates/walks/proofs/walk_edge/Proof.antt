@@ -39,10 +39,10 @@ returns-2 : tie.Need-returns-2
 returns-2 c = let a = c .before .before .before .before .before .before .before .before .before .before .before .before .before .before .before in let x = a .args in (edge-late (x .lay) (x .rules) (x .stamp) (x .x) (x .v) (x .e) (now (x .t)) (now (x .distances)) (now (x .patterns)) (now (x .work)) (now (x .labels)) (now (x .metres)) (x .h) (c .before .before .before .before .before .before .before .edge-row .result) (c .before .before .before .before .before .before .before .edge-row .ensures) _ (c .before .before .effective-duration-s .ensures) (a .pre .1 .1 .1 .1) (a .pre .0) (sym (c .before .before .before .before .before .before .skips .ensures) ∙ c .before .before .before .before .before .if1 .left) (c .if2 .taken), falls-refl _ _)
 
 cast-t20 : tie.Need-cast-t20
-cast-t20 c = let a = c .before .before .before .before .before .before .before .before .before .before .before .before .before .before .before in let x = a .args in omega (arith, a .pre .1 .1 .0, a .pre .0 .sized .stops)
+cast-t20 c = let a = c .before .before .before .before .before .before .before .before .before .before .before .before .before .before .before in let x = a .args in omega (arith, a .pre .1 .1 .0, a .pre .0 .sized .sections .stops)
 
 cast-t21 : tie.Need-cast-t21
-cast-t21 c = let a = c .before .before .before .before .before .before .before .before .before .before .before .before .before .before .before .before in let x = a .args in let q = row-ok _ _ (a .pre .1 .0) (c .before .before .before .before .before .before .before .before .edge-row .ensures) (a .pre .1 .1 .1 .1) in omega (arith, q .to, a .pre .0 .sized .stops)
+cast-t21 c = let a = c .before .before .before .before .before .before .before .before .before .before .before .before .before .before .before .before in let x = a .args in let q = row-ok _ _ (a .pre .1 .0) (c .before .before .before .before .before .before .before .before .edge-row .ensures) (a .pre .1 .1 .1 .1) in omega (arith, q .to, a .pre .0 .sized .sections .stops)
 
 mul-t23 : tie.Need-mul-t23
 mul-t23 c = let a = c .before .before .before .before .before .before .before .before .before .before .before .before .before .before .before .before in let x = a .args in omega (arith, a .pre .1 .1 .1 .1, a .pre .1 .0 .sane .counts .edges)
