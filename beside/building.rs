@@ -37,6 +37,13 @@ fn main() {
     for x in limits() {
         compare(&mut tallies, &x);
     }
+    for (x, want) in transfer_limits() {
+        if transfers_outcome(&x).0 != want {
+            println!("transfers at their limit: the table is not what it should be");
+            std::process::exit(1);
+        }
+        compare(&mut tallies, &x);
+    }
     for t in &tallies {
         println!("{}: {} tables compared, {} differed", t.name, t.compared, t.differed);
     }

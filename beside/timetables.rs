@@ -357,6 +357,20 @@ pub fn limits() -> Vec<Timetable> {
     out
 }
 
+// Transfers at their limit and one past it, in an area that holds them just so and in one that is a word short, with what the call must
+// answer. 32 lines at one stop: each event has a transfer to each line but for a line's first departure to itself, so 32 (trips - 1).
+pub fn transfer_limits() -> Vec<(Timetable, Answer)> {
+    let mut past = at_limit(2050, 1, 32);
+    past.tables[5] = 1; // one event of 31 transfers is barred: 65,568 - 31
+    let mut just = at_limit(2049, 1, 32);
+    just.area.truncate(4 * 65536);
+    let mut short = just.clone();
+    short.area.pop();
+    let held = Answer { code: 0, value: 65536 };
+    let refused = Answer { code: 7, value: 0 };
+    vec![(at_limit(2049, 1, 32), held), (past, refused), (just, held), (short, refused)]
+}
+
 const COUNTS: [(u32, u32); 7] = [(0, 1), (1, 1), (1, 65536), (1, 65537), (4096, 1), (4097, 1), (4096, 16)];
 
 fn at_limit(trips: u32, each: u32, line_count: u32) -> Timetable {
