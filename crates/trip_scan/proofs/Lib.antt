@@ -1,2 +1,5 @@
 pub mod Along
 pub mod Alighting
+pub mod Queuing
+pub mod Keeping
+pub mod Taking

@@ -3,6 +3,7 @@
 // Specs: what a scan reads, and which tables and queries agree with it (Scan).
 // Proves: each function is the model's function of the same name on the state seen as the model's, for all tables and queries that
 // agree; all else in memory is as it came.
+// Of the transfer loop only the laws stand (proofs/Queuing, Keeping, Taking); its functions are to come.
 // Assumes nothing.
 ghost use mathlib.Core.Path.{_≡_};
 ghost use Prim.Native.Nat.{ℕ, _+_, _*_, _-_, _/_, _≤_, _<_};
@@ -13,11 +14,25 @@ ghost use Rattle.scratch.specs.View.{memory};
 ghost use Rattle.scratch.specs.Step.{Ready, Step};
 ghost use Rattle.boarding.specs.Reads.{hitOf, Known, Ground, Event, Agree};
 ghost use Rattle.trip_scan.specs.Scan.{Riding, Reads};
+use boarding::Lined;
+use boarding::Terms;
+use cell_bitset::CellBitSet;
 use delays::Found;
 use scratch::Head;
 use scratch::Lay;
 use scratch::Ride;
 use tables::Counts;
+
+// Where the tables of a query with arc flags stand, and what they are asked: the lines' tables, the query's terms, how many patterns,
+// the target cells; where the transfer runs begin in `built`, and the events before each trip in `work`. (For the transfer loop.)
+pub struct Net {
+    pub lined: Lined,
+    pub terms: Terms,
+    pub patterns: usize,
+    pub target: CellBitSet,
+    pub runs: usize,
+    pub events: usize,
+}
 
 // Is drop-off 1 at a trip's stop time?
 fn no_drop_off(
