@@ -6,14 +6,13 @@ use mathlib.Core.List.{List, [], _∷_}
 use native.Mathlib.Omega.{arith}
 use lib.ListN.{length, getD, set, replicate, length-set, length-replicate, getD-replicate}
 use lib.Seq.{getD-set-same, getD-set-other}
-use lib.Dec.{eqb}
-use lib.Ieee.{Float}
-use borrow.Author.Tests.{eqb-true, eqb-false, eq-eqb, ne-eqb}
+use lib.Ieee.{Float, nan}
+use borrow.Author.Tests.{eq-eqb, ne-eqb}
 use Rattle.loops.specs.Count.{tab, tabFrom}
 use Rattle.loops.proofs.Count.{tab-ext}
 use Rattle.label.specs.declared.Label.{Label}
 use Rattle.label.specs.declared.Label.the-variants.{Empty}
-use Rattle.label.specs.Label.{noDistance}
+use Rattle.label.specs.Label.{noDistance, labelRow, rowOf}
 use Rattle.label.specs.Table.{loaded}
 use Rattle.model.specs.Tables.{Tables, Query, never, isEgress, egressWalk, stops, trips}
 use Rattle.model.specs.Search.{Arrivals, newArrivals}
@@ -21,17 +20,10 @@ use Rattle.scratch.specs.declared.Lay.{Lay}
 use Rattle.scratch.specs.declared.Head.{Head}
 use Rattle.scratch.specs.Part.{part}
 use Rattle.scratch.specs.Places.{WorkSized, EgressTable, Walks, egressWord, tableWord, restAt, listsAt}
-use Rattle.scratch.specs.View.{Memory, memory, arrivalsOf, labelsOf, queueOf}
+use Rattle.scratch.specs.View.{Memory, memory, Written, arrivalsOf, labelsOf, queueOf}
 use Rattle.scratch.specs.Fill.{Filled, newHead, Fresh, egressAt, egressOf, EgressRows, Egressed}
 use Rattle.scratch.proofs.Part.{part-at, part-length}
-
--- by whether two numbers are equal
-same-or : (i j : ℕ) {A : Type 0} → (i ≡ j → A) → ((i ≡ j → ⊥) → A) → A
-same-or i j {A} x y = go (eqb i j) refl
-  where
-    go : (t : Bool) → eqb i j ≡ t → A
-    go true e = x (eqb-true i j e)
-    go false e = y (eqb-false i j e)
+use Rattle.scratch.proofs.Labels.{same-or}
 
 pub filled-none : (a v : ℕ) (w : List ℕ) → Filled a a v w w
 filled-none a v w = record { size = refl; inside = λ i l h. absurd (omega arith); below = λ i h. refl; above = λ i h. refl }
@@ -88,9 +80,21 @@ zero-at zero i = refl
 zero-at (suc n) zero = refl
 zero-at (suc n) (suc i) = zero-at n i
 
+-- and each is the row of an empty label
+pub no-row : (l : List ℕ) (m : List Float) (n : ℕ) → l ≡ replicate (n * 8) 0 → m ≡ replicate n noDistance → Written n l m
+no-row l m n e f =
+    record {
+      row = λ k h.
+          let z : (i : ℕ) → getD l i 0 ≡ 0 = λ i. ap (λ (x : List ℕ). getD x i 0) e ∙ zero-at (n * 8) i in
+          let y : getD m k nan ≡ noDistance = ap (λ (x : List Float). getD x k nan) f ∙ getD-replicate n k noDistance nan h in
+          (λ i. labelRow (z (8 * k) i) (z (8 * k + 1) i) (z (8 * k + 2) i) (z (8 * k + 3) i) (z (8 * k + 4) i) (z (8 * k + 5) i) (z (8 * k + 6) i) (z (8 * k + 7) i) (y i))
+          ∙ ap rowOf (sym (no-label l m k (z (8 * k))));
+    }
+
 -- TbrScratch::new
 module _ (lay : Lay) (w w1 w2 w3 l : List ℕ) (m : List Float) (ok : WorkSized lay (length w)) (z : w1 ≡ replicate (length w) 0)
-    (f : Filled 0 (lay .stops) never w1 w2) (g : Filled (lay .stops * 2) (lay .stops * 2 + lay .trips) never w2 w3) (e : l ≡ replicate (lay .stops * 104) 0) where
+    (f : Filled 0 (lay .stops) never w1 w2) (g : Filled (lay .stops * 2) (lay .stops * 2 + lay .trips) never w2 w3) (e : l ≡ replicate (lay .stops * 104) 0)
+    (d : m ≡ replicate (lay .stops * 13) noDistance) where
   zeros : (i : ℕ) → getD w1 i 0 ≡ 0
   zeros i = ap (λ (x : List ℕ). getD x i 0) z ∙ zero-at (length w) i
 
@@ -115,6 +119,7 @@ module _ (lay : Lay) (w w1 w2 w3 l : List ℕ) (m : List Float) (ok : WorkSized 
               segReach = part-same w3 (lay .stops * 2) (lay .trips) never (omega (arith, long, ok .words)) (λ k u. g .inside (lay .stops * 2 + k) (omega arith) (omega (arith, u))) i;
             });
         zero = λ i u. g .above i u ∙ f .above i (omega (arith, u)) ∙ zeros i;
+        written = let n : lay .stops * 13 * 8 ≡ lay .stops * 104 = omega arith in no-row l m (lay .stops * 13) (rw n e) d;
       }
 
 -- THE EGRESS TABLE. Cleared, it holds none

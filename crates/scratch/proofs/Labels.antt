@@ -1,16 +1,27 @@
 -- Laws of the lists of labels and of segments: a store is one entry changed, a row more is one entry more. Assumes nothing.
 use Prim.Native.Nat.{ℕ, zero, suc, _+_, _*_, _≤_, _<_}
-use mathlib.Core.Path.{_≡_, refl, ap, _∙_}
+use mathlib.Core.Path.{_≡_, refl, sym, ap, _∙_}
+use mathlib.Core.Bool.{Bool, true, false}
 use mathlib.Core.List.{List, [], _∷_, _++_}
 use native.Mathlib.Omega.{arith}
 use lib.ListN.{length, set}
+use lib.Dec.{eqb}
 use lib.Ieee.{Float}
+use borrow.Author.Tests.{eqb-true, eqb-false}
 use Rattle.loops.specs.Count.{tabFrom}
 use Rattle.label.specs.declared.Label.{Label}
 use Rattle.label.specs.Label.{rowOf}
 use Rattle.label.specs.Table.{InTable, loaded, putWords, putDistance}
-use Rattle.label.proofs.Laws.{load-store, load-other}
-use Rattle.scratch.specs.View.{labelsOf}
+use Rattle.label.proofs.Laws.{row-back, row-other, load-store, load-other}
+use Rattle.scratch.specs.View.{labelsOf, Written}
+
+-- by whether two numbers are equal
+pub same-or : (i j : ℕ) {A : Type 0} → (i ≡ j → A) → ((i ≡ j → ⊥) → A) → A
+same-or i j {A} x y = go (eqb i j) refl
+  where
+    go : (t : Bool) → eqb i j ≡ t → A
+    go true e = x (eqb-true i j e)
+    go false e = y (eqb-false i j e)
 
 tab-same : {A : Type 0} (f g : ℕ → A) (i n : ℕ) → ((x : ℕ) → i ≤ x → f x ≡ g x) → tabFrom f i n ≡ tabFrom g i n
 unfolding tabFrom
@@ -38,3 +49,13 @@ labels-put x l d k n q h =
     tab-set (loaded (putWords (rowOf x) l k) (putDistance (rowOf x) d k)) (loaded l d) x 0 n k
     (λ j e. load-other x l d k j (λ y. e (omega arith)))
     (ap (loaded (putWords (rowOf x) l k) (putDistance (rowOf x) d k)) z ∙ load-store x l d k q) h
+
+-- and every record is its label's row still
+pub written-put : (x : Label) (l : List ℕ) (d : List Float) (k n : ℕ) → InTable l d k → Written n l d
+    → Written n (putWords (rowOf x) l k) (putDistance (rowOf x) d k)
+written-put x l d k n q w =
+    record {
+      row = λ j h. same-or j k
+          (λ e. rw e (row-back (rowOf x) l d k q ∙ ap rowOf (sym (load-store x l d k q))))
+          (λ no. row-other (rowOf x) l d k j no ∙ w .row j h ∙ ap rowOf (sym (load-other x l d k j no)));
+    }

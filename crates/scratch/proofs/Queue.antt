@@ -206,7 +206,7 @@ module _ (lay : Lay) (stamp : ℕ) (w l : List ℕ) (m : List Float) (h : Head) 
   known b e = rw (part-at w (lay .stops * 2) (lay .trips) t in-trips) e
 
   kept : (b : Bool) → Ready lay stamp (memory w l m (now-head (h .queued) b))
-  kept b = record { sized = ok .sized; walks = ok .walks; counted = ok .counted; round = ok .round }
+  kept b = record { sized = ok .sized; walks = ok .walks; counted = ok .counted; round = ok .round; written = ok .written }
 
   pub queue-not : p && leb (getD w (lay .stops * 2 + t) 0) o ≡ true → QueueStep lay stamp agreed queuing (memory w l m h) (memory w l m (now-head (h .queued) false)) q q
   queue-not e =
@@ -261,6 +261,7 @@ module _ (lay : Lay) (stamp : ℕ) (w l : List ℕ) (m : List Float) (h : Head) 
           walks = walks-kept (d .same) (ok .walks);
           counted = record { fits = rw (d .stamps) (ok .counted .fits) };
           round = ok .round;
+          written = ok .written;
         };
         grown = record { by = rw (d .stamps) (omega arith) };
         size = k;

@@ -21,7 +21,7 @@ use Rattle.scratch.specs.Places.{EgressTable, tableWord}
 use Rattle.scratch.specs.View.{Memory, memory, arrivalsOf, labelsOf}
 use Rattle.scratch.specs.Step.{Starting, StartStep, Entered, bestBy}
 use Rattle.scratch.proofs.Part.{first-at}
-use Rattle.scratch.proofs.Labels.{labels-put}
+use Rattle.scratch.proofs.Labels.{labels-put, written-put}
 use Rattle.scratch.proofs.Marking.{same-refl}
 use Rattle.scratch.proofs.Steps.{best-is, walks-kept}
 
@@ -92,6 +92,7 @@ module _ (lay : Lay) (start s d : ℕ) (z : Float) (w l : List ℕ) (m : List Fl
         count = omega arith;
         queued = refl;
         full = refl;
+        written = ok .written;
       }
 
   pub in-first : InTable l m (recordOf s 0)
@@ -122,4 +123,5 @@ module _ (lay : Lay) (start s d : ℕ) (z : Float) (w l : List ℕ) (m : List Fl
         count = omega arith;
         queued = refl;
         full = refl;
+        written = rw (x, y, n) (written-put how l m (recordOf s 0) (lay .stops * 13) in-first (ok .written));
       }

@@ -20,7 +20,7 @@ use Rattle.scratch.specs.Places.{Sized, Same, Counted, Grown, EgressTabl
 use Rattle.scratch.specs.View.{Memory, memory, arrivalsOf, labelsOf}
 use Rattle.scratch.specs.Step.{Stamp, Ready, Step, Marked, bestBy}
 use Rattle.scratch.proofs.Part.{first-at, drop-at}
-use Rattle.scratch.proofs.Labels.{labels-put}
+use Rattle.scratch.proofs.Labels.{labels-put, written-put}
 use Rattle.scratch.proofs.Marking.{same-refl, same-then}
 
 -- the best total, case by case
@@ -123,6 +123,7 @@ module _ (lay : Lay) (stamp s v : ℕ) (how : Label) (w l : List ℕ) (m : List 
           walks = walks-kept (p .same) (ok .walks);
           counted = p .counted;
           round = ok .round;
+          written = rw (x, y, e) (written-put how l m (recordOf s (stamp - 1)) (lay .stops * 13) in-rows (ok .written));
         };
         grown = p .grown;
         queued = refl;

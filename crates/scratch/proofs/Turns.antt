@@ -17,7 +17,7 @@ use Rattle.scratch.specs.declared.Lay.{Lay}
 use Rattle.scratch.specs.declared.Head.{Head}
 use Rattle.scratch.specs.Part.{part, tally}
 use Rattle.scratch.specs.Places.{WorkSized, Sized, Same, Counted, Walks, EgressTable, turned, restAt, stampsOf}
-use Rattle.scratch.specs.View.{Memory, memory, arrivalsOf, queueOf}
+use Rattle.scratch.specs.View.{Memory, memory, Written, arrivalsOf, queueOf}
 use Rattle.scratch.specs.Step.{Ready, Starting, Stamp}
 use Rattle.scratch.specs.Fill.{Egressed}
 use Rattle.scratch.proofs.Part.{part-at, part-length}
@@ -56,8 +56,8 @@ egressed-view lay es w w′ l m h q ok few p =
 
 -- so the first origin may be gone through
 pub egressed-starting : (lay : Lay) (es : List (ℕ × ℕ)) (w w′ l : List ℕ) (m : List Float) (h : Head) → Sized lay (length w) (length l) (length m) → h .count ≡ 0
-    → Egressed es lay w w′ → Starting lay (memory w′ l m h)
-egressed-starting lay es w w′ l m h ok e p = record { sized = rw (p .size) ok; walks = p .walks; room = omega (arith, e) }
+    → Egressed es lay w w′ → Written (lay .stops * 13) l m → Starting lay (memory w′ l m h)
+egressed-starting lay es w w′ l m h ok e p r = record { sized = rw (p .size) ok; walks = p .walks; room = omega (arith, e); written = r }
 
 -- THE LISTS EXCHANGED, the new one empty: the model's state with no stop reached
 pub turned-sections : {lay : Lay} {a : ℕ} → WorkSized lay a → WorkSized (turned lay) a
@@ -92,8 +92,9 @@ unfolding part
 turned-view T Q lay w l m h q q′ n = refl
 
 pub turned-ready : (lay : Lay) (stamp : ℕ) (w l : List ℕ) (m : List Float) (h : Head) (n : ℕ) → Sized lay (length w) (length l) (length m) → Walks lay w → Stamp stamp
-    → Ready (turned lay) stamp (memory w l m (emptiedHead n h))
-turned-ready lay stamp w l m h n ok g s = record { sized = turned-sized ok; walks = record { small = g .small }; counted = record { fits = omega arith }; round = s }
+    → Written (lay .stops * 13) l m → Ready (turned lay) stamp (memory w l m (emptiedHead n h))
+turned-ready lay stamp w l m h n ok g s r =
+    record { sized = turned-sized ok; walks = record { small = g .small }; counted = record { fits = omega arith }; round = s; written = r }
 
 -- no step of an arrival queues a segment, and queuing one loses none (for `queue-over`)
 pub relax-queue : (T : Tables) (Q : Query) (stamp s v : ℕ) (how : Label) (a : Arrivals) → relax T Q stamp s v how a .segQueue ≡ a .segQueue

@@ -10,7 +10,7 @@ use Rattle.model.specs.Search.{newArrivals}
 use Rattle.scratch.specs.declared.Lay.{Lay}
 use Rattle.scratch.specs.declared.Head.{Head}
 use Rattle.scratch.specs.Places.{restAt, listsAt, EgressTable, Walks}
-use Rattle.scratch.specs.View.{Memory, arrivalsOf}
+use Rattle.scratch.specs.View.{Memory, Written, arrivalsOf}
 
 -- the numbers from a up to b are v, all else is as it came
 pub record Filled (a b v : ℕ) (w w′ : List ℕ) : Type 0 where
@@ -23,11 +23,12 @@ pub record Filled (a b v : ℕ) (w w′ : List ℕ) : Type 0 where
 abbrev pub newHead : Head
 newHead = record { best = never; count = 0; queued = 0; full = false }
 
--- TbrScratch::new: the model's new state, and zero in both lists and all that follows them
+-- TbrScratch::new: the model's new state, and zero in both lists and all that follows them; every label's record is its row
 pub record Fresh (lay : Lay) (a : Memory) : Type 0 where
   pub head : a .head ≡ newHead
   pub view : (T : Tables) (Q : Query) → stops T ≡ lay .stops → trips T ≡ lay .trips → (q : List ℕ) → arrivalsOf lay a q ≡ newArrivals T Q
   pub zero : (i : ℕ) → listsAt lay ≤ i → getD (a .work) i 0 ≡ 0
+  pub written : Written (lay .stops * 13) (a .labels) (a .distances)
 
 -- n egress stops (stop, duration) in the query's numbers from `first` on
 abbrev pub egressAt : List ℕ → ℕ → ℕ → ℕ × ℕ

@@ -14,7 +14,7 @@ use Rattle.scratch.specs.declared.Lay.{Lay}
 use Rattle.scratch.specs.declared.Ride.{Ride}
 use Rattle.scratch.specs.Part.{part}
 use Rattle.scratch.specs.Places.{Sized, Same, Counted, Grown, Walks, earliestOf, stampsOf, reachOf}
-use Rattle.scratch.specs.View.{Memory, arrivalsOf}
+use Rattle.scratch.specs.View.{Memory, Written, arrivalsOf}
 
 -- a stamp is a round + 2, of at most 12 rounds; its label's row is the stamp - 1
 pub record Stamp (stamp : ℕ) : Type 0 where
@@ -27,6 +27,7 @@ pub record Ready (lay : Lay) (stamp : ℕ) (a : Memory) : Type 0 where
   pub walks : Walks lay (a .work)
   pub counted : Counted lay stamp (a .work) (a .head .count)
   pub round : Stamp stamp
+  pub written : Written (lay .stops * 13) (a .labels) (a .distances)
 
 -- THE CONTRACT of a call that queues no segment: it takes the state from a to b as f takes the model's, for all tables and queries
 -- that agree with what it reads; all else in memory is as it came
@@ -54,6 +55,7 @@ pub record Starting (lay : Lay) (a : Memory) : Type 0 where
   pub sized : Sized lay (length (a .work)) (length (a .labels)) (length (a .distances))
   pub walks : Walks lay (a .work)
   pub room : a .head .count < lay .stops + 64
+  pub written : Written (lay .stops * 13) (a .labels) (a .distances)
 
 -- THE CONTRACT of one origin
 pub record StartStep (lay : Lay) (agree : Tables → Query → Type 0) (f : Tables → Query → Arrivals → Arrivals) (a b : Memory) : Type 0 where
@@ -64,6 +66,7 @@ pub record StartStep (lay : Lay) (agree : Tables → Query → Type 0) (f : Tabl
   pub count : b .head .count ≤ a .head .count + 1
   pub queued : b .head .queued ≡ a .head .queued
   pub full : b .head .full ≡ a .head .full
+  pub written : Written (lay .stops * 13) (b .labels) (b .distances)
 
 -- the best total after an arrival at v at a stop with this number in the egress table
 unfoldable pub bestBy : ℕ → ℕ → ℕ → ℕ

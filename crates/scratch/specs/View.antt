@@ -1,11 +1,13 @@
 -- A query's state in memory, seen as the model's `Arrivals`. Definitions only.
-use Prim.Native.Nat.{ℕ, _+_, _*_}
+use Prim.Native.Nat.{ℕ, _+_, _*_, _<_}
+use mathlib.Core.Path.{_≡_}
 use mathlib.Core.List.{List}
 use lib.ListN.{getD, set}
 use lib.Ieee.{Float}
 use Rattle.loops.specs.Count.{tab}
 use Rattle.label.specs.declared.Label.{Label}
-use Rattle.label.specs.Table.{loaded}
+use Rattle.label.specs.Label.{rowOf}
+use Rattle.label.specs.Table.{rowAt, loaded}
 use Rattle.model.specs.Search.{Arrivals, Segment}
 use Rattle.scratch.specs.declared.Lay.{Lay}
 use Rattle.scratch.specs.declared.Head.{Head}
@@ -15,6 +17,10 @@ use Rattle.scratch.specs.Places.{earliestOf, stampsOf, reachOf}
 -- the labels of n records
 unfoldable pub labelsOf : List ℕ → List Float → ℕ → List Label
 labelsOf labels distances n = tab (loaded labels distances) n
+
+-- each of n records is the row of its label: no word of it is left over
+pub record Written (n : ℕ) (labels : List ℕ) (distances : List Float) : Type 0 where
+  pub row : (k : ℕ) → k < n → rowAt labels distances k ≡ rowOf (loaded labels distances k)
 
 -- the segment at row k of a queue, four numbers a row; the first n segments
 abbrev pub segmentAt : List ℕ → ℕ → Segment

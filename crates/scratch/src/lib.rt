@@ -2,7 +2,8 @@
 // Specs: where the sections of the working numbers begin (Places), the state seen as the model's (View), what a call does to it
 // (Step), slices filled before a query (Fill).
 // Proves: best_after, improve, relax, enqueue and set_out are the model's functions on the state seen so, for all tables and queries
-// that agree with what they read, and all else in memory is as it came; reset is its new state; fill_egress its egress stops.
+// that agree with what they read, and all else in memory is as it came; every label record stays its label's row, no word left over
+// (Written); reset is the new state; fill_egress its egress stops.
 // proofs/Steps, Queue: how calls compose (step-as, step-then, queue-step, queue-then, queue-over; alight and transfer are callers);
 // proofs/Turns: from one phase to the next.
 // Assumes nothing.

@@ -68,7 +68,7 @@ abbrev pub emptyHead : Head → Head
 emptyHead h = record { best = h .best; count = 0; queued = h .queued; full = h .full }
 
 pub turned-ready : {lay : Lay} {stamp : ℕ} {w l : List ℕ} {m : List Float} {h : Head} → Ready lay stamp (memory w l m h) → Ready (turned lay) stamp (memory w l m (emptyHead h))
-turned-ready r = record { sized = turned-sized (r .sized); walks = record { small = r .walks .small }; counted = record { fits = omega arith }; round = r .round }
+turned-ready r = record { sized = turned-sized (r .sized); walks = record { small = r .walks .small }; counted = record { fits = omega arith }; round = r .round; written = r .written }
 
 part-of : (w w′ : List ℕ) (a n k : ℕ) → n ≤ k → part w′ a k ≡ part w a k → part w′ a n ≡ part w a n
 unfolding part
@@ -212,6 +212,7 @@ module _ (lay : Lay) (r : Rules) (stamp : ℕ) (t : List ℕ) (d : List Float) (
               fits = rw (x .stamps) (omega (arith, phase-room, append-most stamp (b .head .count) count (h .count) (p .ready .sized) x (ls .few)));
             };
             round = p .ready .round;
+            written = p .ready .written;
           };
           queued = p .queued;
           full = p .full;

@@ -3,6 +3,8 @@ use native.Mathlib.Omega.{arith}
 use mathlib.Core.Path.{_≡_, refl, ap, sym, _∙_}
 use denote.Ref.{now}
 use lib.ListN.{length, getD, set, replicate}
+use lib.Ieee.{Float}
+use Rattle.label.specs.Label.{noDistance}
 use Rattle.scratch.proofs.Filling.{fresh}
 use borrow.Author.Needs.{needs}
 use Rattle.scratch.proofs.reset.Statement.{statement}
@@ -37,7 +39,7 @@ same-length-3 : tie.Need-same-length-3
 same-length-3 c = search needs
 
 returns : tie.Need-returns
-returns c = let a = c .before .before .before .before .before .before .before .before .before .before .before .before .before .before .before .before .before .before .before .before .before .before .before in let x = a .args in let z = c .before .before .before .before .before .before .before .before .before .before .before .before .before .before .before .before .zero-all .ensures in (fresh (x .lay) (now (x .work)) _ _ _ _ _ (a .pre .sections) (z .0) (c .before .before .before .before .before .before .before .fill .ensures) (c .before .before .fill2 .ensures) (z .1 .0 ∙ ap (λ (n : ℕ). replicate {A = ℕ} n 0) (a .pre .rows)), z .1 .1)
+returns c = let a = c .before .before .before .before .before .before .before .before .before .before .before .before .before .before .before .before .before .before .before .before .before .before .before in let x = a .args in let z = c .before .before .before .before .before .before .before .before .before .before .before .before .before .before .before .before .zero-all .ensures in (fresh (x .lay) (now (x .work)) _ _ _ _ _ (a .pre .sections) (z .0) (c .before .before .before .before .before .before .before .fill .ensures) (c .before .before .fill2 .ensures) (z .1 .0 ∙ ap (λ (n : ℕ). replicate {A = ℕ} n 0) (a .pre .rows)) (z .1 .1 ∙ ap (λ (n : ℕ). replicate {A = Float} n noDistance) (a .pre .metres)), z .1 .1)
 
 pub reset-spec : {M : Type 1} → statement M
 reset-spec =
