@@ -1,14 +1,14 @@
 -- Where labels lie: 13 records to a stop, of eight words in one slice and a distance in another. Definitions only.
 use Prim.Native.Nat.{ℕ, _+_, _*_, _≤_, _<_}
 use mathlib.Core.Bool.{Bool, _&&_}
-use mathlib.Core.List.{List, [], _∷_}
+use mathlib.Core.List.{List, [], _∷_, _++_}
 use lib.ListN.{length, getD, set}
 use lib.Seq.{sets}
 use lib.Dec.{eqb}
 use lib.Ieee.{Float, nan}
 use Rattle.label.specs.declared.Label.{Label}
 use Rattle.label.specs.declared.LabelRow.{LabelRow}
-use Rattle.label.specs.Label.{labelRow, labelOf}
+use Rattle.label.specs.Label.{labelRow, rowOf, labelOf}
 
 -- the record of a stop's row
 abbrev pub recordOf : ℕ → ℕ → ℕ
@@ -45,6 +45,16 @@ rowAt l distances k =
 -- the label at record k
 unfoldable pub loaded : List ℕ → List Float → ℕ → Label
 loaded labels distances k = labelOf (rowAt labels distances k)
+
+-- the words of labels, record by record
+unfoldable pub wordsOfAll : List Label → List ℕ
+wordsOfAll [] = []
+wordsOfAll (x ∷ xs) = wordsOf (rowOf x) ++ wordsOfAll xs
+
+-- their distances
+unfoldable pub distancesOfAll : List Label → List Float
+distancesOfAll [] = []
+distancesOfAll (x ∷ xs) = rowOf x .distance ∷ distancesOfAll xs
 
 -- a table of this many stops has 13 records for each: eight words and a distance to a record
 abbrev pub lengthsRight : ℕ → ℕ → ℕ → Bool

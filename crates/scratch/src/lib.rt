@@ -5,7 +5,7 @@
 // that agree with what they read, and all else in memory is as it came; every label record stays its label's row, no word left over
 // (Written); reset is the new state; fill_egress its egress stops.
 // proofs/Steps, Queue: how calls compose (step-as, step-then, queue-step, queue-then, queue-over; alight and transfer are callers);
-// proofs/Turns: from one phase to the next.
+// proofs/Turns: from one phase to the next; proofs/Labels: the label slices are the words and distances of the model's labels (labels-are).
 // Assumes nothing.
 ghost use mathlib.Core.Path.{_≡_};
 ghost use Prim.Native.Nat.{ℕ, _+_, _*_, _-_, _/_, _≤_, _<_};
