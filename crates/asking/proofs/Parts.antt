@@ -1,13 +1,16 @@
 -- How long the sections are, and what stands in them.
-use Prim.Native.Nat.{ℕ, _+_, _*_, _-_, _<_, _≤_}
-use mathlib.Core.Path.{_≡_, _∙_}
+use Prim.Native.Nat.{ℕ, _+_, _*_, _-_, _/_, _<_, _≤_}
+use mathlib.Core.Path.{_≡_, ap, ap₂, _∙_}
 use mathlib.Core.List.{List}
 use native.Mathlib.Omega.{arith}
 use lib.ListN.{length, getD}
 use lib.Seq.{length-slice}
+use Rattle.loops.specs.Count.{tab}
+use Rattle.loops.proofs.Count.{tab-ext}
 use Rattle.departures.proofs.Parts.{getD-slice}
+use Rattle.flags.specs.Flags.{egressRows, egressAt as rowAt}
 use Rattle.asking.specs.declared.QueryCounts.{QueryCounts}
-use Rattle.asking.specs.Lent.{part, marksAt, transferRunsAt, querySize, entriesAt, lineRunsAt, stopRunsAt, rowsAt, delaysAt, stopRowsAt, lineRuns, lineEntries, stopRuns, departureRows, delayRows, stopRows}
+use Rattle.asking.specs.Lent.{part, marksAt, transferRunsAt, querySize, entriesAt, lineRunsAt, stopRunsAt, rowsAt, delaysAt, stopRowsAt, egressAt, lineRuns, lineEntries, stopRuns, departureRows, delayRows, stopRows, egressPart, egressStop}
 use Rattle.asking.specs.Sane.{Sized}
 
 pub part-size : (l : List ℕ) (first count : ℕ) → first + count ≤ length l → length (part l first count) ≡ count
@@ -36,6 +39,21 @@ module _ (q : List ℕ) (n : QueryCounts) (h : querySize n ≤ length q) where
 
   pub stop-rows-size : length (stopRows q n) ≡ n .«stop_rows» * 5
   stop-rows-size = part-size q (stopRowsAt n) (n .«stop_rows» * 5) (omega arith)
+
+  pub egress-size : length (egressPart q n) ≡ n .egress * 2
+  egress-size = part-size q (egressAt n) (n .egress * 2) (omega arith)
+
+  -- the egress rows are the egress stops
+  pub egress-are : egressRows (egressPart q n) ≡ tab (egressStop q n) (n .egress)
+  egress-are =
+      let e : length (egressPart q n) / 2 ≡ n .egress = omega (arith, egress-size) in
+      ap (tab (rowAt (egressPart q n))) e ∙ tab-ext (rowAt (egressPart q n)) (egressStop q n) (n .egress) (λ k u. ap₂ (λ (a b : ℕ). (a, b)) (first k u) (next k u))
+    where
+      first : (k : ℕ) → k < n .egress → getD (egressPart q n) (k * 2) 0 ≡ getD q (egressAt n + k * 2) 0
+      first k u = part-at q (egressAt n) (n .egress * 2) (k * 2) (omega arith)
+
+      next : (k : ℕ) → k < n .egress → getD (egressPart q n) (k * 2 + 1) 0 ≡ getD q (egressAt n + 1 + k * 2) 0
+      next k u = let e : egressAt n + (k * 2 + 1) ≡ egressAt n + 1 + k * 2 = omega arith in part-at q (egressAt n) (n .egress * 2) (k * 2 + 1) (omega arith) ∙ ap (λ (i : ℕ). getD q i 0) e
 
 -- a slice as long as its counts say has all its sections
 module _ {t : List ℕ} {n : QueryCounts} {b q : ℕ} (h : Sized t n b q) where

@@ -1,12 +1,11 @@
 -- What a query is lent to read, and the tables and the query that it says (crate model). Definitions only.
 use Prim.Native.Nat.{ℕ, _+_, _*_, _/_, min}
 use mathlib.Core.List.{List}
-use lib.ListN.{getD}
+use lib.ListN.{length, getD}
 use lib.Seq.{slice}
 use lib.Dec.{eqb}
 use lib.Ieee.{Float, nan}
 use Rattle.loops.specs.Count.{tab}
-use Rattle.cell_bitset.specs.declared.CellBitSet.{CellBitSet}
 use Rattle.tables.specs.Timetable.{Timetable, timetable}
 use Rattle.departures.specs.declared.StopRun.{StopRun}
 use Rattle.departures.specs.Departures.{listedAt}
@@ -14,6 +13,7 @@ use Rattle.line_layout.specs.Layout.{lineAt}
 use Rattle.transfers.specs.Transfers.{eventsBefore, transfersAt}
 use Rattle.delays.specs.Delays.{DelayTables}
 use Rattle.delays.specs.Flat.{delayTables}
+use Rattle.flags.specs.Flags.{patternAt}
 use Rattle.model.specs.Tables.{Tables, Origin, Query, rustSettings}
 use Rattle.asking.specs.declared.QueryCounts.{QueryCounts}
 
@@ -84,6 +84,12 @@ delayRows q n = part q (delaysAt n) (n .delays * 2)
 abbrev pub stopRows : List ℕ → QueryCounts → List ℕ
 stopRows q n = part q (stopRowsAt n) (n .«stop_rows» * 5)
 
+abbrev pub egressPart : List ℕ → QueryCounts → List ℕ
+egressPart q n = part q (egressAt n) (n .egress * 2)
+
+abbrev pub transferRuns : List ℕ → QueryCounts → List ℕ
+transferRuns built n = slice (transferRunsAt n) (length built) built
+
 abbrev pub delaysOf : List ℕ → QueryCounts → DelayTables
 delaysOf q n = delayTables (delayRows q n) (stopRows q n)
 
@@ -94,10 +100,6 @@ transferRunAt built n e = record { first = getD built (transferRunsAt n + e * 2)
 -- how many transfers there are: the first ones of the area, as many as are counted and as whole rows of 4 numbers fit
 abbrev pub transferRows : QueryCounts → ℕ → ℕ
 transferRows n area = min (n .transfers) (area / 4)
-
--- pattern k: 64 bytes, all of them reserved
-abbrev pub patternAt : List ℕ → ℕ → CellBitSet
-patternAt patterns k = record { bytes = part patterns (k * 64) 64; reserved = 64 }
 
 -- origin k, its distance after those of the walk edges; egress stop k
 abbrev pub originAt : List ℕ → List Float → QueryCounts → ℕ → Origin

@@ -14,7 +14,7 @@ ghost use Rattle.tables.specs.Timetable.{timetable};
 ghost use Rattle.tables.specs.Sane.{CountsOk, SlicesOk, RunsOk};
 ghost use Rattle.departures.specs.Departures.{rowDeparture, departuresOf, runLength};
 ghost use Rattle.departures.specs.Listed.{RunsListed, RowKnown, RowsKnown, RowsListed};
-ghost use Rattle.asking.specs.Lent.{marksAt, transferRunsAt, builtSize, querySize, delaysOf, part, lineRuns, lineEntries, stopRuns, departureRows, delayRows, stopRows, transferRunAt, transferRows, lent};
+ghost use Rattle.asking.specs.Lent.{marksAt, transferRunsAt, builtSize, querySize, delaysOf, part, lineRuns, lineEntries, stopRuns, departureRows, delayRows, stopRows, egressPart, transferRuns, transferRunAt, transferRows, lent};
 ghost use Rattle.asking.specs.Door.{question1, readOk, workSize, columnAt, writtenOk, question2, transferRunsOk, question3, columnBelow, lineNumbers, queryNumbers, question4, markRanges, transferRanges, settingRanges, walkRanges, question5, notEarlier, partOrder, departureOrder, columnRises, question6, verdict};
 ghost use Rattle.asking.specs.Sane.{Limits, Sized, Placed, Column};
 ghost use Rattle.delays.specs.Asked.{rowsAsked};
@@ -108,6 +108,21 @@ pub fn stop_rows(q: &[u32], n: QueryCounts) -> &[u32]
         7 + n.origins * 2 + n.egress * 2 + n.delays * 2,
         n.stop_rows * 5,
     )
+}
+
+pub fn egress_rows(q: &[u32], n: QueryCounts) -> &[u32]
+    requires { ⌜ Limits n ⌝ ∗ ⌜ querySize n ≤ length (now q) ⌝ }
+    ensures { λ r. ⌜ now r ≡ egressPart (now (q .entry)) n ⌝ }
+{
+    part(q, 7 + n.origins * 2, n.egress * 2)
+}
+
+pub fn transfer_runs(built: &[u32], n: QueryCounts) -> &[u32]
+    requires { ⌜ Limits n ⌝ ∗ ⌜ transferRunsAt n ≤ length (now built) ⌝ }
+    ensures { λ r. ⌜ now r ≡ transferRuns (now (built .entry)) n ⌝ }
+{
+    let first = transfer_runs_at(n);
+    &built[first..]
 }
 
 // Where the marks and the transfer runs begin, how many numbers a query has, and the workspace.

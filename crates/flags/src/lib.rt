@@ -48,16 +48,13 @@ fn pattern_bytes(patterns: &[u8], p: usize) -> [u8; 64]
     bytes
 }
 
-// Does a pattern number past the table count as holding all target cells?
-const PAST_HOLDS_ALL: bool = true;
-
 // Does a pattern hold a target cell? A pattern number past the table counts as holding all.
 pub fn holds_target(patterns: &[u8], count: usize, target: CellBitSet, p: usize) -> bool
     requires { ⌜ PatternsOk (now patterns) count ⌝ }
     ensures { λ r. ⌜ ((T : Tables) (Q : Query) → Patterned T (now (patterns .entry)) count → target ≡ targetCells T Q → r ≡ holdsTarget T Q p) ⌝ }
 {
     if count <= p {
-        return PAST_HOLDS_ALL;
+        return true;
     }
     let bytes = pattern_bytes(patterns, p);
     let pattern = CellBitSet {

@@ -7,9 +7,7 @@ use native.Mathlib.Omega.{arith}
 use lib.ListN.{getD}
 use lib.Ieee.{Float, nan}
 use lib.Dec.{ltb}
-use borrow.Author.Tests.{lt-ltb, le-ltb, ltb-true}
-use Rattle.cell_bitset.specs.declared.CellBitSet.{CellBitSet}
-use Rattle.cell_bitset.specs.CellSet.{meets}
+use borrow.Author.Tests.{lt-ltb, le-ltb}
 use Rattle.walk.specs.Walk.{effectiveDuration}
 use Rattle.label.specs.declared.Label.{Label}
 use Rattle.label.specs.declared.Label.the-variants.{Walk}
@@ -17,7 +15,8 @@ use Rattle.tables.specs.declared.EdgeRow.{EdgeRow}
 use Rattle.tables.specs.Tables.{edgeAt}
 use Rattle.tables.specs.Timetable.{Timetable, timetable}
 use Rattle.model.specs.Tables.{Tables, Query, edgeTo, walkTime}
-use Rattle.model.specs.Search.{Arrivals, holdsTarget, relax, walkFrom}
+use Rattle.model.specs.Search.{Arrivals, targetCells, holdsTarget, relax, walkFrom}
+use Rattle.flags.specs.Flags.{Patterned}
 use Rattle.scratch.specs.declared.Lay.{Lay}
 use Rattle.scratch.specs.declared.Head.{Head}
 use Rattle.scratch.specs.Places.{EgressTable, Same}
@@ -25,7 +24,7 @@ use Rattle.scratch.specs.View.{Memory, memory, arrivalsOf}
 use Rattle.scratch.specs.Step.{Ready, Step}
 use Rattle.scratch.proofs.Steps.{step-none, egress-kept}
 use Rattle.walks.specs.declared.Rules.{Rules}
-use Rattle.walks.specs.Walking.{patternAt, holds, skips, Ground, Agree}
+use Rattle.walks.specs.Walking.{Ground, Agree}
 
 -- a stop's edges one after the other
 pub walk-cons : (T : Tables) (Q : Query) (flagged : Bool) (stamp x v e : ℕ) (es : List ℕ) (a : Arrivals)
@@ -47,19 +46,6 @@ walk-cons T Q flagged stamp x v e es a = skip (flagged && not (holdsTarget T Q (
     skip true = refl
     skip false = late (ltb (v + walkTime T Q e) (a .best))
 
--- the pattern's test is the model's
-holds-is : (lay : Lay) (r : Rules) (t : List ℕ) (d : List Float) (b w : List ℕ) (T : Tables) (Q : Query) (p : ℕ) → Agree lay r t d b w T Q
-    → holdsTarget T Q p ≡ holds b (r .patterns) (r .targets) p
-unfolding holdsTarget holds
-holds-is lay r t d b w T Q p g =
-    ap₂ (λ (n : ℕ) (s : CellBitSet). elim (ltb p n) as (λ _. Bool) [ true ↦ meets (T .pattern p) s | false ↦ true ]) (g .patterns) (g .targets)
-    ∙ go (ltb p (r .patterns)) refl
-  where
-    go : (x : Bool) → ltb p (r .patterns) ≡ x
-        → _≡_ {A = Bool} (elim x [ true ↦ meets (T .pattern p) (r .targets) | false ↦ true ]) (elim x [ true ↦ meets (patternAt b p) (r .targets) | false ↦ true ])
-    go true q = ap (λ (s : CellBitSet). meets s (r .targets)) (g .pattern p (ltb-true p (r .patterns) q))
-    go false q = refl
-
 -- an edge's row, as the door leaves it
 pub record RowOk (lay : Lay) (y : EdgeRow) : Type 0 where
   pub to : y .to < lay .stops
@@ -76,14 +62,14 @@ agree-kept s g =
       timetable = g .timetable;
       distance = g .distance;
       wheelchair = g .wheelchair;
-      patterns = g .patterns;
-      pattern = g .pattern;
+      patterned = g .patterned;
       targets = g .targets;
       egress = egress-kept s (g .egress);
     }
 
 module _ (lay : Lay) (r : Rules) (stamp x v e : ℕ) (t : List ℕ) (d : List Float) (b w l : List ℕ) (m : List Float) (h : Head)
-    (y : EdgeRow) (is : y ≡ edgeAt t (r .counts) e) (D : ℕ) (long : D ≡ effectiveDuration (y .duration) (y .pathway) (r .wheelchair)) (in-edges : e < r .counts .edges) where
+    (y : EdgeRow) (is : y ≡ edgeAt t (r .counts) e) (D : ℕ) (long : D ≡ effectiveDuration (y .duration) (y .pathway) (r .wheelchair)) (in-edges : e < r .counts .edges)
+    (off : Bool) (off-is : (T : Tables) (Q : Query) → Patterned T b (r .patterns) → r .targets ≡ targetCells T Q → off ≡ (r .flagged && not (holdsTarget T Q (y .pattern)))) where
   -- the label that a walk along the edge gives
   abbrev pub walkLabel : Label
   walkLabel = Walk (v + D) x (y .to) D (getD d e nan) (stamp - 1)
@@ -97,30 +83,30 @@ module _ (lay : Lay) (r : Rules) (stamp x v e : ℕ) (t : List ℕ) (d : List Fl
       ]
 
   walk-one : (T : Tables) (Q : Query) → Agree lay r t d b w T Q → (a : Arrivals)
-      → walkFrom T Q (r .flagged) stamp x v (e ∷ []) a ≡ one T Q a (skips b r (y .pattern)) y D (getD d e nan)
-  unfolding walkFrom skips
+      → walkFrom T Q (r .flagged) stamp x v (e ∷ []) a ≡ one T Q a off y D (getD d e nan)
+  unfolding walkFrom
   walk-one T Q g a i = one T Q a (test i) (row i) (time i) (g .distance e in-edges i)
     where
       row : T .timetable .edge e ≡ y
       row = ap (λ (B : Timetable). B .edge e) (g .timetable) ∙ sym is
 
-      test : r .flagged && not (holdsTarget T Q (T .timetable .edge e .pattern)) ≡ r .flagged && not (holds b (r .patterns) (r .targets) (y .pattern))
+      test : r .flagged && not (holdsTarget T Q (T .timetable .edge e .pattern)) ≡ off
       test =
           ap (λ (z : EdgeRow). r .flagged && not (holdsTarget T Q (z .pattern))) row
-          ∙ ap (λ (q : Bool). r .flagged && not q) (holds-is lay r t d b w T Q (y .pattern) g)
+          ∙ sym (off-is T Q (g .patterned) (g .targets))
 
       time : walkTime T Q e ≡ D
       time = ap₂ (λ (z : EdgeRow) (q : Bool). effectiveDuration (z .duration) (z .pathway) q) row (g .wheelchair) ∙ sym long
 
   module _ (ok : Ready lay stamp (memory w l m h)) where
     -- the flags skip it
-    pub edge-skipped : skips b r (y .pattern) ≡ true → Step lay stamp (Agree lay r t d b w) (λ T Q. walkFrom T Q (r .flagged) stamp x v (e ∷ [])) (memory w l m h) (memory w l m h)
+    pub edge-skipped : off ≡ true → Step lay stamp (Agree lay r t d b w) (λ T Q. walkFrom T Q (r .flagged) stamp x v (e ∷ [])) (memory w l m h) (memory w l m h)
     edge-skipped s =
         step-none (λ T Q. walkFrom T Q (r .flagged) stamp x v (e ∷ [])) (memory w l m h) ok
         (λ T Q g q. let a : Arrivals = arrivalsOf lay (memory w l m h) q in sym (walk-one T Q g a ∙ ap (λ (z : Bool). one T Q a z y D (getD d e nan)) s))
 
     -- it leads there no earlier than the best total
-    pub edge-late : skips b r (y .pattern) ≡ false → h .best ≤ v + D
+    pub edge-late : off ≡ false → h .best ≤ v + D
         → Step lay stamp (Agree lay r t d b w) (λ T Q. walkFrom T Q (r .flagged) stamp x v (e ∷ [])) (memory w l m h) (memory w l m h)
     edge-late s u =
         step-none (λ T Q. walkFrom T Q (r .flagged) stamp x v (e ∷ [])) (memory w l m h) ok
@@ -129,7 +115,7 @@ module _ (lay : Lay) (r : Rules) (stamp x v e : ℕ) (t : List ℕ) (d : List Fl
         ∙ ap (λ (z : Bool). elim z as (λ _. Arrivals) [ false ↦ a | true ↦ relax T Q stamp (y .to) (v + D) walkLabel a ]) (le-ltb (v + D) (h .best) u)))
 
     -- it is walked
-    pub edge-walked : {k : Memory} → skips b r (y .pattern) ≡ false → v + D < h .best
+    pub edge-walked : {k : Memory} → off ≡ false → v + D < h .best
         → Step lay stamp (λ T Q. EgressTable (Q .egress) lay w) (λ T Q. relax T Q stamp (y .to) (v + D) walkLabel) (memory w l m h) k
         → Step lay stamp (Agree lay r t d b w) (λ T Q. walkFrom T Q (r .flagged) stamp x v (e ∷ [])) (memory w l m h) k
     edge-walked s u p =

@@ -1,5 +1,4 @@
 pub mod Edges
-pub mod Patterns
 pub mod Falling
 pub mod Along
 pub mod Edge

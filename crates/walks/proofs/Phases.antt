@@ -57,8 +57,7 @@ turned-agree g =
       timetable = g .timetable;
       distance = g .distance;
       wheelchair = g .wheelchair;
-      patterns = g .patterns;
-      pattern = g .pattern;
+      patterned = g .patterned;
       targets = g .targets;
       egress = record { at = g .egress .at };
     }

@@ -1,33 +1,19 @@
 -- What the walks of a round read, and which tables and queries agree with it. Definitions only.
 use Prim.Native.Nat.{ℕ, zero, suc, _*_, _-_, _≤_, _<_}
 use mathlib.Core.Path.{_≡_}
-use mathlib.Core.Bool.{Bool, true, false, not, _&&_}
+use mathlib.Core.Bool.{true, false}
 use mathlib.Core.List.{List, [], _∷_}
 use lib.ListN.{getD}
-use lib.Dec.{ltb, eqb}
+use lib.Dec.{eqb}
 use lib.Ieee.{Float, nan}
-use Rattle.cell_bitset.specs.declared.CellBitSet.{CellBitSet}
-use Rattle.cell_bitset.specs.CellSet.{meets}
 use Rattle.tables.specs.Timetable.{timetable}
 use Rattle.tables.specs.Sane.{Sane, OrderOk}
 use Rattle.model.specs.Tables.{Tables, Query}
 use Rattle.model.specs.Search.{targetCells}
+use Rattle.flags.specs.Flags.{Patterned}
 use Rattle.scratch.specs.declared.Lay.{Lay}
-use Rattle.scratch.specs.Part.{part}
 use Rattle.scratch.specs.Places.{EgressTable}
 use Rattle.walks.specs.declared.Rules.{Rules}
-
--- pattern p: 64 bytes, all of them reserved
-abbrev pub patternAt : List ℕ → ℕ → CellBitSet
-patternAt patterns p = record { bytes = part patterns (p * 64) 64; reserved = 64 }
-
--- does pattern p, of n patterns, share a cell with the targets? A pattern number past the table counts as holding all.
-unfoldable pub holds : List ℕ → ℕ → CellBitSet → ℕ → Bool
-holds patterns n targets p = elim (ltb p n) [ true ↦ meets (patternAt patterns p) targets | false ↦ true ]
-
--- do the arc flags skip an edge of pattern p?
-unfoldable pub skips : List ℕ → Rules → ℕ → Bool
-skips patterns r p = r .flagged && not (holds patterns (r .patterns) (r .targets) p)
 
 -- of the n numbers from e on, those before the first whose key is not x
 unfoldable pub runFrom : (ℕ → ℕ) → ℕ → ℕ → ℕ → List ℕ
@@ -49,9 +35,8 @@ pub record Agree (lay : Lay) (r : Rules) (t : List ℕ) (d : List Float) (b w : 
   pub timetable : T .timetable ≡ timetable t (r .counts)
   pub distance : (e : ℕ) → e < r .counts .edges → T .distance e ≡ getD d e nan
   pub wheelchair : Q .wheelchair ≡ r .wheelchair
-  pub patterns : T .patterns ≡ r .patterns
-  pub pattern : (p : ℕ) → p < r .patterns → T .pattern p ≡ patternAt b p
-  pub targets : targetCells T Q ≡ r .targets
+  pub patterned : Patterned T b (r .patterns)
+  pub targets : r .targets ≡ targetCells T Q
   pub egress : EgressTable (Q .egress) lay w
 
 -- no stop's earliest arrival is later than it was

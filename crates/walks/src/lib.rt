@@ -11,13 +11,15 @@ ghost use lib.Dec.{leb};
 ghost use Rattle.loops.specs.Order.{Halved};
 ghost use Rattle.tables.specs.Tables.{edgeOf};
 ghost use Rattle.tables.specs.Sane.{Sane, OrderOk};
-ghost use Rattle.model.specs.Tables.{edgesFrom};
-ghost use Rattle.model.specs.Search.{walkFrom, walkAll};
+ghost use mathlib.Core.Bool.{not, _&&_};
+ghost use Rattle.model.specs.Tables.{Tables, Query, edgesFrom};
+ghost use Rattle.model.specs.Search.{targetCells, holdsTarget, walkFrom, walkAll};
 ghost use Rattle.scratch.specs.Part.{part};
 ghost use Rattle.scratch.specs.Places.{Sized};
 ghost use Rattle.scratch.specs.View.{memory};
 ghost use Rattle.scratch.specs.Step.{Ready, Step};
-ghost use Rattle.walks.specs.Walking.{patternAt, holds, skips as skipped, Ground, Agree, Falls};
+ghost use Rattle.walks.specs.Walking.{Ground, Agree, Falls};
+ghost use Rattle.flags.specs.Flags.{Patterned, PatternsOk};
 ghost use Rattle.walks.specs.Lists.{otherAt, Listed, bearing, Appended, turned, Phase};
 use cell_bitset::CellBitSet;
 use label::Label;
@@ -35,46 +37,16 @@ pub struct Rules {
     pub wheelchair: bool,
 }
 
-// Pattern p.
-fn pattern_at(patterns: &[u8], p: usize) -> CellBitSet
-    requires { ⌜ p < 4096 ⌝ ∗ ⌜ p * 64 + 64 ≤ length (now patterns) ⌝ }
-    ensures { λ r. ⌜ r ≡ patternAt (now (patterns .entry)) p ⌝ }
-{
-    let from = p * 64;
-    let mut bytes = [0u8; 64];
-    let mut i: usize = 0;
-    while i < 64 {
-        let at = from + i;
-        bytes[i] = patterns[at];
-        i += 1;
-    }
-    CellBitSet {
-        bytes,
-        reserved: 64,
-    }
-}
-
-// Does pattern p, of n patterns, share a cell with the targets?
-fn holds_target(patterns: &[u8], n: usize, targets: CellBitSet, p: usize) -> bool
-    requires { ⌜ n ≤ 4096 ⌝ ∗ ⌜ length (now patterns) ≡ n * 64 ⌝ }
-    ensures { λ r. ⌜ r ≡ holds (now (patterns .entry)) n targets p ⌝ }
-{
-    if n <= p {
-        return true;
-    }
-    pattern_at(patterns, p).intersects(targets)
-}
-
 // Do the arc flags skip an edge of pattern p?
 fn skips(rules: Rules, patterns: &[u8], p: usize) -> bool
-    requires { ⌜ rules .patterns ≤ 4096 ⌝ ∗ ⌜ length (now patterns) ≡ rules .patterns * 64 ⌝ }
-    ensures { λ r. ⌜ r ≡ skipped (now (patterns .entry)) rules p ⌝ }
+    requires { ⌜ PatternsOk (now patterns) (rules .patterns) ⌝ }
+    ensures { λ r. ⌜ ((T : Tables) (Q : Query) → Patterned T (now (patterns .entry)) (rules .patterns) → rules .targets ≡ targetCells T Q → r ≡ (rules .flagged && not (holdsTarget T Q p))) ⌝ }
 {
     if !rules.flagged {
         return false;
     }
     let targets = rules.targets;
-    !holds_target(patterns, rules.patterns, targets, p)
+    !flags::holds_target(patterns, rules.patterns, targets, p)
 }
 
 // The first walk edge whose from-stop is not below x, by halving; the number of edges where there is none.

@@ -1,22 +1,23 @@
 use borrow.Author.Tests.{not-true, not-false}
-use Rattle.walks.proofs.Patterns.{skips-off, skips-on}
-use mathlib.Core.Bool.{not}
-use Rattle.walks.specs.Walking.{holds, skips}
+use mathlib.Core.Bool.{Bool, true, false, not, _&&_}
+use mathlib.Core.Path.{_≡_, refl, sym, ap, _∙_}
+use Rattle.model.specs.Search.{holdsTarget}
 use borrow.Author.Needs.{needs}
 use Rattle.walks.proofs.skips.Statement.{statement}
 use Rattle.walks.proofs.skips.Tie as tie
 use Rattle.walks.proofs.skips.Reads as reads
 use Rattle.walks.proofs.skips.Lts as lts
-use Rattle.walks.proofs.holds_target.Reads as holds-target-reads
+use Rattle.flags.proofs.holds_target.Reads as holds-target-reads
 
 returns : tie.Need-returns
-returns c = skips-off _ _ _ (not-true _ (c .if1 .taken))
+returns c = λ T Q g e. sym (ap (λ (b : Bool). b && not (holdsTarget T Q (c .before .before .before .args .p))) (not-true (c .before .before .before .args .rules .flagged) (c .if1 .taken)))
 
 holds-target-requires : tie.Need-holds-target-requires
 holds-target-requires c κs = search needs
 
 returns-2 : tie.Need-returns-2
-returns-2 c = skips-on _ _ _ _ (not-false _ (c .before .before .if1 .left)) (c .holds-target .ensures)
+returns-2 c = λ T Q g e.
+    ap not ((c .holds-target .ensures) T Q g e) ∙ sym (ap (λ (b : Bool). b && not (holdsTarget T Q (c .before .before .before .before .before .args .p))) (not-false (c .before .before .before .before .before .args .rules .flagged) (c .before .before .if1 .left)))
 
 pub skips-spec : {M : Type 1} → statement M
 skips-spec = tie.close (tie.spec returns holds-target-requires returns-2)
