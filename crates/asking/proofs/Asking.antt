@@ -1,14 +1,15 @@
 -- The verdict, by what each question was answered.
 use Prim.Native.Nat.{ℕ, _*_, _≤_}
-use mathlib.Core.Path.{_≡_, refl}
+use mathlib.Core.Path.{_≡_, refl, sym, ap, _∙_}
 use mathlib.Core.Bool.{Bool, true, false}
 use native.Mathlib.Omega.{arith}
 use lib.ListN.{length}
+use Rattle.door.specs.Door.{ask, answer, refusal, success}
 use Rattle.door.proofs.Laws.{ask-no, ask-on}
 use Rattle.asking.specs.declared.QueryCounts.{QueryCounts}
 use Rattle.asking.specs.declared.Lengths.{Lengths}
 use Rattle.asking.specs.Lent.{transferRows, Lent}
-use Rattle.asking.specs.Door.{question1, question2, question3, question4, question5, question6, verdict}
+use Rattle.asking.specs.Door.{workSize, workspaceAnswer, question1, question2, question3, question4, question5, question6, verdict}
 
 -- so many rows fit the area
 pub rows-room : (n : QueryCounts) (area rows : ℕ) → rows ≡ transferRows n area → rows * 4 ≤ area
@@ -63,3 +64,12 @@ module _ (x : Lent) (l : Lengths) where
   pub yes : q1 ≡ true → q2 ≡ true → q3 ≡ true → q4 ≡ true → q5 ≡ true → q6 ≡ true → 0 ≡ verdict x l
   unfolding verdict
   yes a b c d f e = ask-on 1 q1 a (ask-on 2 q2 b (ask-on 3 q3 c (ask-on 4 q4 d (ask-on 5 q5 f (ask-on 6 q6 e refl)))))
+
+-- the workspace's answer, by question 1
+pub workspace-no : (n : QueryCounts) → question1 n ≡ false → refusal 1 ≡ workspaceAnswer n
+unfolding workspaceAnswer
+workspace-no n e = sym (ap (λ (b : Bool). answer (ask 1 b 0) (workSize n)) e)
+
+pub workspace-yes : (n : QueryCounts) (k : ℕ) → question1 n ≡ true → k ≡ workSize n → success k ≡ workspaceAnswer n
+unfolding workspaceAnswer
+workspace-yes n k e s = ap success s ∙ sym (ap (λ (b : Bool). answer (ask 1 b 0) (workSize n)) e)

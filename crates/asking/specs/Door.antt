@@ -5,7 +5,8 @@ use mathlib.Core.List.{List}
 use lib.ListN.{length, getD}
 use lib.Dec.{ltb, leb, eqb}
 use Rattle.loops.specs.Iter.{everyIn}
-use Rattle.door.specs.Door.{ask, timeLimit}
+use Rattle.door.specs.declared.Answer.{Answer}
+use Rattle.door.specs.Door.{ask, answer, timeLimit}
 use Rattle.tables.specs.declared.Counts.{Counts}
 use Rattle.tables.specs.Timetable.{Timetable, timetable}
 use Rattle.tables.specs.Door.{countsOk, slicesOk, runsOk, numbersOk, rangesOk, orderOk}
@@ -34,6 +35,10 @@ readOk t n built patterns distances q =
 -- how long the workspace is: five numbers a stop, nine a trip, three a line, and two lists' 64 origins
 abbrev pub workSize : QueryCounts → ℕ
 workSize n = n .timetable .stops * 5 + n .timetable .trips * 9 + n .lines * 3 + 128
+
+-- how long a workspace to lend: refused by question 1
+unfoldable pub workspaceAnswer : QueryCounts → Answer
+workspaceAnswer n = answer (ask 1 (question1 n) 0) (workSize n)
 
 -- what is written: 13 labels a stop, the workspace, both halves of the queue, 13 candidates of three numbers
 unfoldable pub writtenOk : QueryCounts → Lengths → Bool

@@ -15,11 +15,12 @@ ghost use Rattle.tables.specs.Sane.{CountsOk, SlicesOk, RunsOk};
 ghost use Rattle.departures.specs.Departures.{rowDeparture, departuresOf, runLength};
 ghost use Rattle.departures.specs.Listed.{RunsListed, RowKnown, RowsKnown, RowsListed};
 ghost use Rattle.asking.specs.Lent.{marksAt, transferRunsAt, builtSize, querySize, delaysOf, part, lineRuns, lineEntries, stopRuns, departureRows, delayRows, stopRows, egressPart, transferRuns, transferRunAt, transferRows, lent};
-ghost use Rattle.asking.specs.Door.{question1, readOk, workSize, columnAt, writtenOk, question2, transferRunsOk, question3, columnBelow, lineNumbers, queryNumbers, question4, markRanges, transferRanges, settingRanges, walkRanges, question5, notEarlier, partOrder, departureOrder, columnRises, question6, verdict};
+ghost use Rattle.asking.specs.Door.{question1, workspaceAnswer, readOk, workSize, columnAt, writtenOk, question2, transferRunsOk, question3, columnBelow, lineNumbers, queryNumbers, question4, markRanges, transferRanges, settingRanges, walkRanges, question5, notEarlier, partOrder, departureOrder, columnRises, question6, verdict};
 ghost use Rattle.asking.specs.Sane.{Limits, Sized, Placed, Column};
 ghost use Rattle.delays.specs.Asked.{rowsAsked};
 use departures::DepartureRow;
 use departures::StopRun;
+use door::Answer;
 use door::both;
 use tables::Counts;
 
@@ -171,6 +172,16 @@ fn counts_ok(n: QueryCounts) -> bool
         both(n.origins <= 64, n.egress <= 64),
     );
     both(a, both(b, c))
+}
+
+// How long a workspace the caller has to lend.
+pub fn workspace(n: QueryCounts) -> Answer
+    ensures { λ r. ⌜ r ≡ workspaceAnswer n ⌝ }
+{
+    if !counts_ok(n) {
+        return door::refused(1);
+    }
+    door::given(work_size(n) as u32)
 }
 
 // Question 2 of what is read, but for the timetable's slice, whose numbers the others are measured by.

@@ -1,17 +1,14 @@
 -- A loop of steps: what is left to do from the state reached is the whole from the state at first. Assumes nothing.
-use Prim.Native.Nat.{ℕ, _+_, _/_, _≤_, _<_}
-use mathlib.Core.Path.{_≡_, refl, sym, ap, _∙_}
-use mathlib.Core.Bool.{Bool, true, false}
+use Prim.Native.Nat.{ℕ}
+use mathlib.Core.Path.{_≡_, refl, ap, _∙_}
 use mathlib.Core.List.{List}
 use native.Mathlib.Omega.{arith}
-use lib.ListN.{length}
-use Rattle.loops.proofs.Search.{clash}
 use Rattle.model.specs.Tables.{Tables, Query}
 use Rattle.model.specs.Search.{Arrivals}
 use Rattle.scratch.specs.declared.Lay.{Lay}
 use Rattle.scratch.specs.Places.{Same, Grown}
 use Rattle.scratch.specs.View.{Memory, arrivalsOf}
-use Rattle.scratch.specs.Step.{Ready, Step, QueueStep}
+use Rattle.scratch.specs.Step.{Ready, Step}
 use Rattle.scratch.proofs.Marking.{same-refl, same-then}
 use Rattle.scratch.proofs.Steps.{grown-then}
 

@@ -1,14 +1,13 @@
 -- What a scan reads of the working numbers is kept where all past the arrivals is as it came. Assumes nothing.
 use Prim.Native.Nat.{ℕ, _+_, _*_, _-_, _≤_, _<_}
-use mathlib.Core.Path.{_≡_, refl, sym, ap, _∙_}
+use mathlib.Core.Path.{_≡_, sym, ap, ap₂, _∙_}
 use mathlib.Core.List.{List}
 use native.Mathlib.Omega.{arith}
 use lib.ListN.{length, getD}
 use Rattle.tables.specs.declared.Counts.{Counts}
-use Rattle.tables.specs.Tables.{countOf}
+use Rattle.departures.specs.declared.StopRun.{StopRun}
 use Rattle.transfers.specs.Transfers.{transfersAt}
 use Rattle.model.specs.Tables.{Tables, Query}
-use Rattle.boarding.specs.Resolving.{LinesHeld, LinesOf}
 use Rattle.scratch.specs.declared.Lay.{Lay}
 use Rattle.scratch.specs.Places.{Same, restAt}
 use Rattle.scratch.proofs.Part.{drop-at}
@@ -82,3 +81,13 @@ run-one {area} {first} {n} r j h =
       inside = omega (arith, r .inside);
       small = λ k l. let e : first + j + k ≡ first + j = omega arith in rw e (r .small j h);
     }
+
+abbrev the-run : ℕ → ℕ → StopRun
+the-run first n = record { first = first; length = n }
+
+-- a run as it is read, by the events before its trip
+pub run-read : (net : Net) (built w : List ℕ) (i o k first n : ℕ) → k ≡ getD w (net .events + i) 0 → first ≡ getD built (net .runs + (k + o) * 2) 0
+    → n ≡ getD built (net .runs + (k + o) * 2 + 1) 0 → runAt net built w i o ≡ the-run first n
+run-read net built w i o k first n ek ef en =
+    ap (λ (m : ℕ). record { first = getD built (net .runs + (m + o) * 2) 0; length = getD built (net .runs + (m + o) * 2 + 1) 0 }) (sym ek)
+    ∙ ap₂ (λ (x y : ℕ). the-run x y) (sym ef) (sym en)

@@ -1,15 +1,14 @@
 -- The transfers of one stop event, one by one. Assumes nothing.
-use Prim.Native.Nat.{ℕ, zero, suc, _+_, _*_, _-_, _≤_, _<_}
+use Prim.Native.Nat.{ℕ, zero, suc, _+_, _-_, _≤_, _<_}
 use mathlib.Core.Path.{_≡_, refl, sym, ap, ap₂, subst, _∙_}
 use mathlib.Core.Bool.{Bool, true, false, not, cond, _||_}
-use mathlib.Core.List.{List, [], _∷_, _++_}
+use mathlib.Core.List.{List, [], _∷_}
 use mathlib.Core.Option.{Option, none, some}
 use native.Mathlib.Omega.{arith}
 use native.Mathlib.Nat.{le-refl}
 use native.Mathlib.Numerals.{add-one}
 use lib.ListN.{length, getD, length-append}
 use lib.Dec.{eqb, ltb}
-use lib.Ieee.{Float}
 use borrow.Author.Tests.{not-true, not-false}
 use Rattle.loops.specs.Count.{tabFrom}
 use Rattle.frequency.specs.declared.Boarding.{Boarding}
@@ -17,26 +16,24 @@ use Rattle.label.specs.declared.Label.{Label}
 use Rattle.label.specs.declared.Label.the-variants.{Walk}
 use Rattle.label.specs.Label.{noDistance}
 use Rattle.tables.specs.declared.Counts.{Counts}
-use Rattle.tables.specs.Tables.{timeOf, tripOf, countOf}
-use Rattle.tables.specs.Timetable.{Timetable, timetable, timeAt}
+use Rattle.tables.specs.Tables.{timeOf, tripOf}
+use Rattle.tables.specs.Timetable.{Timetable, timetable}
 use Rattle.transfers.specs.Transfers.{Transfer, transferAt}
-use Rattle.model.specs.Tables.{Tables, Query, trips, stopCount, stopAt, noWindows}
+use Rattle.model.specs.Tables.{Tables, Query, trips, stopAt, noWindows}
 use Rattle.model.specs.Search.{Segment, Arrivals, at, holdsTarget, improve, relax, resolve, enqueue, takeTransfers}
 use Rattle.model.specs.Door.{Door}
 use Rattle.model.proofs.Moves.{pushed}
-use Rattle.model.proofs.Phases.{Found, found, nowhere, resolve-finds}
+use Rattle.model.proofs.Phases.{Found, found, resolve-finds}
 use Rattle.model.proofs.Sizes.{boards-soon}
 use Rattle.scratch.specs.declared.Lay.{Lay}
-use Rattle.scratch.specs.declared.Head.{Head}
 use Rattle.scratch.specs.Places.{EgressTable}
-use Rattle.scratch.specs.View.{Memory, memory, arrivalsOf}
-use Rattle.scratch.specs.Step.{Ready, Step, QueueStep}
-use Rattle.scratch.proofs.Steps.{step-as}
-use Rattle.scratch.proofs.Queue.{queue-step, queue-then}
+use Rattle.scratch.specs.View.{Memory, arrivalsOf}
+use Rattle.scratch.specs.Step.{QueueStep}
 use Rattle.boarding.specs.declared.Resolved.{Resolved}
 use Rattle.boarding.specs.declared.Resolved.the-variants.{Unresolved, Trip}
 use Rattle.boarding.specs.Resolving.{resolvedOf}
-use Rattle.trip_scan.specs.Scan.{Open, Boards}
+use Rattle.trip_scan.specs.Scan.{Boards, boarded}
+use Rattle.trip_scan.proofs.Alighting.{stop-read}
 use Rattle.trip_scan.proofs.Queuing.{queue-as}
 
 -- what an arrival and a queued segment do to the queue
@@ -139,6 +136,9 @@ module _ (T : Tables) (Q : Query) (stamp v x : ℕ) where
       ∙ take-cons (transferAt area (first + j)) (tabFrom (λ k. transferAt area (first + k)) (suc j) (n - (j + 1))) a
       ∙ sym (ap (λ (m : ℕ). takeTransfers T Q stamp v x (tabFrom (λ k. transferAt area (first + k)) j m) a) e)
 
+  pub from-grows : (area : List ℕ) (first n j : ℕ) (a : Arrivals) → length (a .segQueue) ≤ length (takeFrom area first n j a .segQueue)
+  from-grows area first n j a = take-grows (tabFrom (λ k. transferAt area (first + k)) j (n - j)) a
+
   pub from-end : (area : List ℕ) (first n j : ℕ) (a : Arrivals) → n ≤ j → a ≡ takeFrom area first n j a
   unfolding tabFrom
   from-end area first n j a h =
@@ -161,29 +161,14 @@ boards-in T Q D t c u e after best trip off b f i r z = rw z (of (subst (Found T
           early = omega (arith, boards-soon T Q D trip (e .offset) (g .trip) (g .inside) (g .after) b (g .boards) .departs);
         }
 
--- a boarding taken: an arrival, then a segment
-module _ (lay : Lay) (stamp : ℕ) (t : List ℕ) (c : Counts) (from off time trip : ℕ) (b : Boarding) (w l : List ℕ) (m : List Float) (h : Head) (q : List ℕ) where
-  abbrev boardAgree : Tables → Query → Type 0
-  boardAgree T Q = EgressTable (Q .egress) lay w × (T .timetable ≡ timetable t c)
-
-  abbrev arriving : ℕ → Tables → Query → Arrivals → Arrivals
-  arriving s T Q = relax T Q stamp s (b .departure) (Walk (b .departure) from s time noDistance (stamp - 1))
-
-  abbrev boardBy : ℕ → Tables → Query → Arrivals → Arrivals
-  boardBy s T Q a = enqueue T Q trip off s (b .«time_shift_s») (arriving s T Q a)
-
-  pub boarding-is : (w1 l1 : List ℕ) (m1 : List Float) (x : Head) (w2 q2 : List ℕ) (y : Head) (first s n : ℕ) (how : Label)
-      → Step lay stamp (λ T Q. EgressTable (Q .egress) lay w) (λ T Q. relax T Q stamp s (b .departure) how) (memory w l m h) (memory w1 l1 m1 x) → Open h (length q)
-      → ((stamp : ℕ) (l : List ℕ) (m : List Float) → Ready lay stamp (memory w1 l m x)
-      → QueueStep lay stamp (λ T Q. noWindows T trip ≡ eqb n 0) (λ T Q. enqueue T Q trip off s (b .«time_shift_s»)) (memory w1 l m x) (memory w2 l m y) q q2)
-      → first ≡ tripOf t c trip 0 → s ≡ timeOf t (first + off) 0 → n ≡ tripOf t c trip 5
-      → how ≡ Walk (b .departure) from s time noDistance (stamp - 1)
-      → QueueStep lay stamp boardAgree (λ T Q. boardBy (stopAt T trip off) T Q) (memory w l m h) (memory w2 l1 m1 y) q q2
-  boarding-is w1 l1 m1 x w2 q2 y first s n how A o B ef es en eh =
-      let r : Step lay stamp boardAgree (arriving s) (memory w l m h) (memory w1 l1 m1 x) = step-as (arriving s) A (λ T Q z. z .0) (λ T Q z a. ap (λ (k : Label). relax T Q stamp s (b .departure) k a) eh) in
-      let u : QueueStep lay stamp boardAgree (boardBy s) (memory w l m h) (memory w2 l1 m1 y) q q2 =
-      queue-then boardAgree (queue-step q r (o .none) (o .room)) (A .full ∙ o .none) (B stamp l1 m1 (A .ready))
-      (λ T Q z. (z, ap (λ (k : Timetable). eqb (k .trip trip .windows) 0) (z .1) ∙ ap (λ (k : ℕ). eqb k 0) (sym en))) in
-      queue-as (λ T Q. boardBy (stopAt T trip off) T Q) u (λ T Q z. z)
-      (λ T Q z. ap (λ (k : ℕ). boardBy k T Q (arrivalsOf lay (memory w l m h) q))
-      (es ∙ ap (λ (k : ℕ). timeOf t (k + off) 0) ef ∙ sym (ap (λ (k : Timetable). timeAt k trip off .stop) (z .1))))
+-- a boarding taken, its stop and windows read from the table
+pub boarding-is : {lay : Lay} {stamp : ℕ} {w : List ℕ} {x y : Memory} {q r : List ℕ} (t : List ℕ) (c : Counts) (from off time trip : ℕ) (b : Boarding) (first s n : ℕ)
+    → QueueStep lay stamp (λ T Q. EgressTable (Q .egress) lay w × (noWindows T trip ≡ eqb n 0))
+    (λ T Q a. enqueue T Q trip off s (b .«time_shift_s») (relax T Q stamp s (b .departure) (Walk (b .departure) from s time noDistance (stamp - 1)) a)) x y q r
+    → first ≡ tripOf t c trip 0 → s ≡ timeOf t (first + off) 0 → n ≡ tripOf t c trip 5
+    → QueueStep lay stamp (λ T Q. EgressTable (Q .egress) lay w × (T .timetable ≡ timetable t c)) (λ T Q. boarded T Q stamp from off time trip b) x y q r
+boarding-is {lay} {stamp} {w} {x} {y} {q} {r} t c from off time trip b first s n p ef es en =
+    queue-as (λ T Q. boarded T Q stamp from off time trip b) p
+    (λ T Q z. (z .0, ap (λ (k : Timetable). eqb (k .trip trip .windows) 0) (z .1) ∙ ap (λ (k : ℕ). eqb k 0) (sym en)))
+    (λ T Q z. ap (λ (k : ℕ). enqueue T Q trip off k (b .«time_shift_s») (relax T Q stamp k (b .departure) (Walk (b .departure) from k time noDistance (stamp - 1)) (arrivalsOf lay x q)))
+    (stop-read T t c trip off first s (z .1) ef es))

@@ -1,5 +1,5 @@
 -- What the scan of a trip reads, and which tables and queries agree with it. Definitions only.
-use Prim.Native.Nat.{ℕ, _+_, _*_, _/_, _<_, _≤_}
+use Prim.Native.Nat.{ℕ, _+_, _-_, _*_, _/_, _<_, _≤_}
 use mathlib.Core.Path.{_≡_}
 use mathlib.Core.Bool.{false}
 use mathlib.Core.List.{List}
@@ -8,11 +8,15 @@ use Rattle.door.specs.Door.{timeLimit}
 use Rattle.realtime.specs.Times.{sizeOf}
 use Rattle.tables.specs.declared.Counts.{Counts}
 use Rattle.delays.specs.declared.Found.{Found}
+use Rattle.frequency.specs.declared.Boarding.{Boarding}
+use Rattle.label.specs.declared.Label.the-variants.{Walk}
+use Rattle.label.specs.Label.{noDistance}
 use Rattle.tables.specs.Tables.{countOf}
+use Rattle.tables.specs.Sane.{Sane}
 use Rattle.departures.specs.declared.StopRun.{StopRun}
 use Rattle.transfers.specs.Transfers.{transfersAt}
-use Rattle.model.specs.Tables.{Tables, Query}
-use Rattle.model.specs.Search.{targetCells}
+use Rattle.model.specs.Tables.{Tables, Query, stopAt}
+use Rattle.model.specs.Search.{Arrivals, targetCells, relax, enqueue}
 use Rattle.model.specs.Door.{Door}
 use Rattle.scratch.specs.declared.Lay.{Lay}
 use Rattle.scratch.specs.declared.Ride.{Ride}
@@ -92,3 +96,15 @@ pub record Boards (t : List ℕ) (c : Counts) (trip off departure : ℕ) : Type 
   pub trip-in : trip < c .trips
   pub offset-in : off < countOf t c trip
   pub early : departure < 134217728
+
+-- a timetable whose counts are those of the working numbers
+pub record Laid (t : List ℕ) (c : Counts) (lay : Lay) : Type 0 where
+  pub sane : Sane t c
+  pub stops : c .stops ≡ lay .stops
+  pub trips : c .trips ≡ lay .trips
+
+-- a boarding taken after a transfer from stop `from`: its stop is reached on foot, its segment queued
+abbrev pub boarded : Tables → Query → ℕ → ℕ → ℕ → ℕ → ℕ → Boarding → Arrivals → Arrivals
+boarded T Q stamp from off time trip b a =
+    enqueue T Q trip off (stopAt T trip off) (b .«time_shift_s»)
+    (relax T Q stamp (stopAt T trip off) (b .departure) (Walk (b .departure) from (stopAt T trip off) time noDistance (stamp - 1)) a)
