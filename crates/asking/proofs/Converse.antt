@@ -28,7 +28,7 @@ rise-next a b i (suc (suc n)) (Rising.more h r) k u v =
     ⊎-elim (λ (q : i ≡ k). omega (arith, ap a q, ap (λ (j : ℕ). a (suc j)) q, h (a (suc i)) (b (suc i)) (List·Memᴰ·head refl)))
     (λ (q : i < k). rise-next a b (suc i) (suc n) r k q (omega arith)) (eq-or-lt-of-le u)
 
-order-next : (T : Tables) (f : ℕ → DepartureRow) (i n : ℕ) → InOrder T (tabFrom f i n) → (k : ℕ) → i ≤ k → suc k < i + n
+pub order-next : (T : Tables) (f : ℕ → DepartureRow) (i n : ℕ) → InOrder T (tabFrom f i n) → (k : ℕ) → i ≤ k → suc k < i + n
     → departure T (f k .trip) (f k .offset) ≤ departure T (f (suc k) .trip) (f (suc k) .offset)
 unfolding tabFrom
 order-next T f i zero r k u v = absurd (omega arith)

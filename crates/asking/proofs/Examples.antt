@@ -70,7 +70,7 @@ counts lines egress delays =
 
 -- the lengths of what is written, with these halves of the queue
 unfoldable pub lengths : ℕ → ℕ → Lengths
-lengths a b = record { labels = 312; «label_distances» = 39; work = 176; «queue_a» = a; «queue_b» = b; candidates = 39 }
+lengths a b = record { labels = 312; «label_distances» = 39; work = 173; «queue_a» = a; «queue_b» = b; candidates = 39 }
 
 unfoldable pub asked : QueryCounts → List ℕ → List ℕ → List ℕ → List ℕ → Lengths → ℕ
 asked n t built transfers q l =

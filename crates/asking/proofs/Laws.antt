@@ -72,7 +72,7 @@ order-from T f i (suc n) h =
     (order-from T f (suc i) n (λ x y p q r. h x y (omega arith) q (omega arith)))
 
 -- the number of a trip's stop time among all events
-events-below : (T : Timetable) (n i o : ℕ) → i < n → o < T .trip i .count → eventsBefore T i + o < eventsBefore T n
+pub events-below : (T : Timetable) (n i o : ℕ) → i < n → o < T .trip i .count → eventsBefore T i + o < eventsBefore T n
 unfolding eventsBefore
 events-below T zero i o h u = absurd (omega arith)
 events-below T (suc n) i o h u =

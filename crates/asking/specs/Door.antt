@@ -32,9 +32,9 @@ unfoldable pub readOk : List ℕ → QueryCounts → ℕ → ℕ → ℕ → ℕ
 readOk t n built patterns distances q =
     (eqb built (builtSize t n) && eqb patterns (n .patterns * 64)) && (eqb distances (n .timetable .edges + n .origins) && eqb q (querySize n))
 
--- how long the workspace is: five numbers a stop, nine a trip, three a line, and two lists' 64 origins
+-- how long the workspace is: five numbers a stop, eight a trip, three a line, and two lists' 64 origins
 abbrev pub workSize : QueryCounts → ℕ
-workSize n = n .timetable .stops * 5 + n .timetable .trips * 9 + n .lines * 3 + 128
+workSize n = n .timetable .stops * 5 + n .timetable .trips * 8 + n .lines * 3 + 128
 
 -- how long a workspace to lend: refused by question 1
 unfoldable pub workspaceAnswer : QueryCounts → Answer

@@ -152,7 +152,7 @@ pub fn work_size(n: QueryCounts) -> usize
     requires { ⌜ Limits n ⌝ }
     ensures { λ r. ⌜ r ≡ workSize n ⌝ }
 {
-    n.timetable.stops * 5 + n.timetable.trips * 9 + n.lines * 3 + 128
+    n.timetable.stops * 5 + n.timetable.trips * 8 + n.lines * 3 + 128
 }
 
 // Question 1.

@@ -10,7 +10,7 @@ use lib.Dec.{ltb, leb, eqb}
 use borrow.Author.Tests.{ne-eqb}
 use Rattle.scratch.specs.declared.Lay.{Lay}
 use Rattle.scratch.specs.Part.{part, tally}
-use Rattle.scratch.specs.Places.{Sized, Same, restAt, listsAt}
+use Rattle.scratch.specs.Places.{Sized, Same, restAt, listsAt, workSize}
 use Rattle.scratch.specs.View.{memory, Memory}
 use Rattle.scratch.specs.Fill.{Fresh}
 use Rattle.scratch.proofs.Part.{drop-at}
@@ -73,40 +73,47 @@ books-next lay stamp T Q w s ch bk =
       test = λ t o h. no-test lay (suc stamp) w T Q t o (lineAt T t) (f (lineAt T t) h);
     }
 
--- A NEW QUERY: its numbers are zero, so no trip is boarded
+-- A NEW QUERY: its numbers from the trip stamps on are zero, so no trip is boarded
+pub chains-zero : (lay : Lay) (w : List ℕ) → ((i : ℕ) → tripStampsAt lay ≤ i → getD w i 0 ≡ 0) → Chains lay 1 w
+chains-zero lay w z =
+    chains-none lay 1 w (λ l h. let u = z (lineStampsAt lay + l) (omega arith) in omega (arith, u)) (λ t h. let u = z (tripStampsAt lay + t) (omega arith) in omega (arith, u))
+
+pub books-zero : (lay : Lay) (T : Tables) (Q : Query) (w : List ℕ) → length w ≡ workSize lay → trips T ≡ lay .trips → ((i : ℕ) → tripStampsAt lay ≤ i → getD w i 0 ≡ 0)
+    → Books lay 1 T Q w (newBoardings T Q)
+books-zero lay T Q w ok e z =
+    let f : (l : ℕ) → getD w (lineStampsAt lay + l) 0 < 1 = λ l. let u = z (lineStampsAt lay + l) (omega arith) in omega (arith, u) in
+    record {
+      tripStamp = zeros (tripStampsAt lay) (omega arith) (omega (arith, ok));
+      boardOffset = zeros (offsetsAt lay) (omega arith) (omega (arith, ok));
+      boardDeparture = zeros (departuresAt lay) (omega arith) (omega (arith, ok));
+      own = λ l x h q. absurd (not-in lay 1 w l x (f l) q);
+      held = λ t h d p. absurd (let u = z (tripStampsAt lay + t) (omega arith) in omega (arith, u, d));
+      test = λ t o h. no-test lay 1 w T Q t o (lineAt T t) (f (lineAt T t));
+    }
+  where
+    zeros : (s : ℕ) → tripStampsAt lay ≤ s → s + lay .trips ≤ length w → replicate (trips T) 0 ≡ part w s (lay .trips)
+    zeros s h r = ap (λ (n : ℕ). replicate n 0) e ∙ sym (part-same w s (lay .trips) 0 r (λ i u. z (s + i) (omega (arith, h))))
+
 pub chains-fresh : (lay : Lay) (a : Memory) → Fresh lay a → Chains lay 1 (a .work)
-chains-fresh lay a z =
-    chains-none lay 1 (a .work) (λ l h. let u = z .zero (lineStampsAt lay + l) (omega arith) in omega (arith, u)) (λ t h. let u = z .zero (tripStampsAt lay + t) (omega arith) in omega (arith, u))
+chains-fresh lay a z = chains-zero lay (a .work) (λ i h. z .zero i (omega (arith, h)))
 
 pub books-fresh : (lay : Lay) (T : Tables) (Q : Query) (a : Memory) → Sized lay (length (a .work)) (lay .stops * 104) (lay .stops * 13) → trips T ≡ lay .trips → Fresh lay a
     → Books lay 1 T Q (a .work) (newBoardings T Q)
-books-fresh lay T Q a ok e z =
-    let f : (l : ℕ) → getD (a .work) (lineStampsAt lay + l) 0 < 1 = λ l. let u = z .zero (lineStampsAt lay + l) (omega arith) in omega (arith, u) in
-    record {
-      tripStamp = zeros (tripStampsAt lay) (omega arith) (omega (arith, ok .sections .words));
-      boardOffset = zeros (offsetsAt lay) (omega arith) (omega (arith, ok .sections .words));
-      boardDeparture = zeros (departuresAt lay) (omega arith) (omega (arith, ok .sections .words));
-      own = λ l x h q. absurd (not-in lay 1 (a .work) l x (f l) q);
-      held = λ t h d p. absurd (let u = z .zero (tripStampsAt lay + t) (omega arith) in omega (arith, u, d));
-      test = λ t o h. no-test lay 1 (a .work) T Q t o (lineAt T t) (f (lineAt T t));
-    }
-  where
-    zeros : (s : ℕ) → listsAt lay ≤ s → s + lay .trips ≤ length (a .work) → replicate (trips T) 0 ≡ part (a .work) s (lay .trips)
-    zeros s h r = ap (λ (n : ℕ). replicate n 0) e ∙ sym (part-same (a .work) s (lay .trips) 0 r (λ i u. z .zero (s + i) (omega (arith, h))))
+books-fresh lay T Q a ok e z = books-zero lay T Q (a .work) (ok .sections .words) e (λ i h. z .zero i (omega (arith, h)))
 
--- WHAT ARRIVALS LEAVE ALONE: all from `restAt` on
-module _ (lay : Lay) (stamp : ℕ) (w w′ : List ℕ) (same : Same lay w w′) where
+-- where all from `restAt` on is as it came
+module _ (lay : Lay) (stamp : ℕ) (w w′ : List ℕ) (rest : drop (restAt lay) w′ ≡ drop (restAt lay) w) where
   at : (i : ℕ) → restAt lay ≤ i → getD w′ i 0 ≡ getD w i 0
   at i h =
       let e : restAt lay + (i - restAt lay) ≡ i = omega (arith, h) in
-      ap (λ (x : ℕ). getD w′ x 0) (sym e) ∙ drop-at w w′ (restAt lay) (i - restAt lay) (same .rest) ∙ ap (λ (x : ℕ). getD w x 0) e
+      ap (λ (x : ℕ). getD w′ x 0) (sym e) ∙ drop-at w w′ (restAt lay) (i - restAt lay) rest ∙ ap (λ (x : ℕ). getD w x 0) e
 
   section : (a : ℕ) → restAt lay ≤ a → part w′ a (lay .trips) ≡ part w a (lay .trips)
   unfolding part
   section a h =
       let e : restAt lay + (a - restAt lay) ≡ a = omega (arith, h) in
       let f : drop a w′ ≡ drop a w =
-      ap (λ (x : ℕ). drop x w′) (sym e) ∙ sym (drop-drop (a - restAt lay) (restAt lay) w′) ∙ ap (drop (a - restAt lay)) (same .rest)
+      ap (λ (x : ℕ). drop x w′) (sym e) ∙ sym (drop-drop (a - restAt lay) (restAt lay) w′) ∙ ap (drop (a - restAt lay)) rest
       ∙ drop-drop (a - restAt lay) (restAt lay) w ∙ ap (λ (x : ℕ). drop x w) e in
       ap (take (lay .trips)) f
 
@@ -116,8 +123,8 @@ module _ (lay : Lay) (stamp : ℕ) (w w′ : List ℕ) (same : Same lay w w′) 
   in-same : (l x : ℕ) → isIn x (chain lay stamp w′ l) ≡ true → isIn x (chain lay stamp w l) ≡ true
   in-same l x z = ap (isIn x) (sym (chain-same l)) ∙ z
 
-  pub chains-kept : Chains lay stamp w → Chains lay stamp w′
-  chains-kept ch =
+  pub chains-rest : Chains lay stamp w → Chains lay stamp w′
+  chains-rest ch =
       record {
         inside = λ l x h z. ch .inside l x h (in-same l x z);
         stamped = λ l x h z. at (tripStampsAt lay + x) (omega arith) ∙ ch .stamped l x h (in-same l x z);
@@ -126,8 +133,8 @@ module _ (lay : Lay) (stamp : ℕ) (w w′ : List ℕ) (same : Same lay w w′) 
         tripStamps = λ t h. rw (at (tripStampsAt lay + t) (omega arith)) (ch .tripStamps t h);
       }
 
-  pub books-kept : (T : Tables) (Q : Query) (b : Boardings) → Books lay stamp T Q w b → Books lay stamp T Q w′ b
-  books-kept T Q b bk =
+  pub books-rest : (T : Tables) (Q : Query) (b : Boardings) → Books lay stamp T Q w b → Books lay stamp T Q w′ b
+  books-rest T Q b bk =
       record {
         tripStamp = bk .tripStamp ∙ sym (section (tripStampsAt lay) (omega arith));
         boardOffset = bk .boardOffset ∙ sym (section (offsetsAt lay) (omega arith));
@@ -138,3 +145,11 @@ module _ (lay : Lay) (stamp : ℕ) (w w′ : List ℕ) (same : Same lay w w′) 
             ∙ sym (ap (someBefore lay w′ (position T t) o) (chain-same (lineAt T t))
             ∙ some-kept lay w w′ (position T t) o (chain lay stamp w (lineAt T t)) (λ x z. at (positionsAt lay + x) (omega arith)) (λ x z. at (leastAt lay + x) (omega arith)));
       }
+
+-- WHAT ARRIVALS LEAVE ALONE
+module _ (lay : Lay) (stamp : ℕ) (w w′ : List ℕ) (same : Same lay w w′) where
+  pub chains-kept : Chains lay stamp w → Chains lay stamp w′
+  chains-kept ch = chains-rest lay stamp w w′ (same .rest) ch
+
+  pub books-kept : (T : Tables) (Q : Query) (b : Boardings) → Books lay stamp T Q w b → Books lay stamp T Q w′ b
+  books-kept T Q b bk = books-rest lay stamp w w′ (same .rest) T Q b bk

@@ -152,6 +152,16 @@ trip-at T Q t c runs area i e m r b et h l ee em er eb =
     ∙ ap (some (λ k. not (holdsTarget T Q (transferAt area (runFirst runs (e + o) + k) .pattern))) 0) (omega arith))
     ∙ ap (λ (j : ℕ). someIn (λ o. eventSkips T Q runs area (e + o)) 0 j) n ∙ sym er ∙ eb
 
-pub in-use-is : (T : Tables) (Q : Query) (u e x s r : Bool) → u ≡ useArcFlags T Q → e ≡ skipsEdge T Q → x ≡ skipsTransfer T Q → s ≡ (e || x) → r ≡ (u && s) → r ≡ flagsInUse T Q
-unfolding flagsInUse
-in-use-is T Q u e x s r eu ee ex es er = rw (er, es, eu, ee, ex) refl
+-- the flags are in use, by the tests one after the other
+module _ (T : Tables) (Q : Query) where
+  pub put-off : {u : Bool} → u ≡ useArcFlags T Q → u ≡ false → false ≡ flagsInUse T Q
+  unfolding flagsInUse
+  put-off eu e = ap (λ (b : Bool). b && (skipsEdge T Q || skipsTransfer T Q)) (sym e ∙ eu)
+
+  pub by-edge : {u e : Bool} → u ≡ useArcFlags T Q → u ≡ true → e ≡ skipsEdge T Q → e ≡ true → true ≡ flagsInUse T Q
+  unfolding flagsInUse
+  by-edge eu u ee e = ap₂ (λ (b x : Bool). b && (x || skipsTransfer T Q)) (sym u ∙ eu) (sym e ∙ ee)
+
+  pub by-transfer : {u e x : Bool} → u ≡ useArcFlags T Q → u ≡ true → e ≡ skipsEdge T Q → e ≡ false → x ≡ skipsTransfer T Q → x ≡ flagsInUse T Q
+  unfolding flagsInUse
+  by-transfer eu u ee e ex = ex ∙ ap₂ (λ (b y : Bool). b && (y || skipsTransfer T Q)) (sym u ∙ eu) (sym e ∙ ee)

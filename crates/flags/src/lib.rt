@@ -179,8 +179,11 @@ pub fn flags_in_use(
     requires { ⌜ Sane (now t) c ⌝ ∗ ⌜ PatternsOk (now patterns) count ⌝ ∗ ⌜ RunsIn (now runs) (now area) (eventsBefore (timetable (now t) c) (c .trips)) ⌝ }
     ensures { λ r. ⌜ ((T : Tables) (Q : Query) → T .timetable ≡ timetable (now (t .entry)) c → Patterned T (now (patterns .entry)) count → Transferring T c (now (runs .entry)) (now (area .entry)) → target ≡ targetCells T Q → Q .flagsOff ≡ off → r ≡ flagsInUse T Q) ⌝ }
 {
-    let on = use_arc_flags(count, target, off);
-    let edge = skips_edge(t, c, patterns, count, target);
-    let transfer = skips_transfer(t, c, runs, area, patterns, count, target);
-    door::both(on, door::either(edge, transfer))
+    if !use_arc_flags(count, target, off) {
+        return false;
+    }
+    if skips_edge(t, c, patterns, count, target) {
+        return true;
+    }
+    skips_transfer(t, c, runs, area, patterns, count, target)
 }

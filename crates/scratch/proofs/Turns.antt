@@ -38,12 +38,12 @@ other-kept {lay} {w} {w′} ok p n h =
     ∙ ap (λ (x : List ℕ). getD x (i - lay .other) 0) (p .list)
     ∙ part-at w (lay .other) (lay .stops + 64) (i - lay .other) (omega (arith, u, h))))
 
--- the egress table filled changes nothing of the state
-pub egressed-view : (lay : Lay) (es : List (ℕ × ℕ)) (w w′ l : List ℕ) (m : List Float) (h : Head) (q : List ℕ) → WorkSized lay (length w)
-    → h .count ≤ lay .stops + 64 → Egressed es lay w w′ → arrivalsOf lay (memory w′ l m h) q ≡ arrivalsOf lay (memory w l m h) q
-egressed-view lay es w w′ l m h q ok few p =
+-- what stands below `restAt` as it came holds the same state
+pub below-view : (lay : Lay) (w w′ l : List ℕ) (m : List Float) (h : Head) (q : List ℕ) → WorkSized lay (length w) → h .count ≤ lay .stops + 64 → length w′ ≡ length w
+    → ((i : ℕ) → i < restAt lay → getD w′ i 0 ≡ getD w i 0) → arrivalsOf lay (memory w′ l m h) q ≡ arrivalsOf lay (memory w l m h) q
+below-view lay w w′ l m h q ok few size below =
     let low : (a n : ℕ) → a + n ≤ restAt lay → part w′ a n ≡ part w a n =
-    λ a n r. part-same-at w w′ a n (p .size) (omega (arith, r, ok .words)) (λ i l u. p .below i (omega (arith, u, r))) in
+    λ a n r. part-same-at w w′ a n size (omega (arith, r, ok .words)) (λ i v u. below i (omega (arith, u, r))) in
     λ i. record {
       labels = arrivalsOf lay (memory w l m h) q .labels;
       earliest = low 0 (lay .stops) (omega arith) i;
@@ -53,6 +53,11 @@ egressed-view lay es w w′ l m h q ok few p =
       segQueue = arrivalsOf lay (memory w l m h) q .segQueue;
       segReach = low (lay .stops * 2) (lay .trips) (omega arith) i;
     }
+
+-- the egress table filled changes nothing of the state
+pub egressed-view : (lay : Lay) (es : List (ℕ × ℕ)) (w w′ l : List ℕ) (m : List Float) (h : Head) (q : List ℕ) → WorkSized lay (length w)
+    → h .count ≤ lay .stops + 64 → Egressed es lay w w′ → arrivalsOf lay (memory w′ l m h) q ≡ arrivalsOf lay (memory w l m h) q
+egressed-view lay es w w′ l m h q ok few p = below-view lay w w′ l m h q ok few (p .size) (p .below)
 
 -- so the first origin may be gone through
 pub egressed-starting : (lay : Lay) (es : List (ℕ × ℕ)) (w w′ l : List ℕ) (m : List Float) (h : Head) → Sized lay (length w) (length l) (length m) → h .count ≡ 0
@@ -109,7 +114,7 @@ relax-queue T Q stamp s v how a = go (ltb v (at a s))
 pub small : Lay
 small = record { stops = 2; trips = 1; lines = 1; list = 5; other = 71 }
 
-pub small-sized : Sized small 150 208 26
+pub small-sized : Sized small 149 208 26
 unfolding small
 small-sized =
     record {

@@ -25,7 +25,7 @@ abbrev pub restAt : Lay → ℕ
 restAt lay = lay .stops * 4 + lay .trips + 128
 
 abbrev pub workSize : Lay → ℕ
-workSize lay = lay .stops * 5 + lay .trips * 9 + lay .lines * 3 + 128
+workSize lay = lay .stops * 5 + lay .trips * 8 + lay .lines * 3 + 128
 
 -- the numbers of a section
 abbrev pub earliestOf : Lay → List ℕ → List ℕ

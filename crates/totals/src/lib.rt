@@ -215,7 +215,7 @@ pub fn candidates(
     out: &mut [u32],
 ) -> usize
     requires { ⌜ LabelsOk stops (now labels) (now distances) ⌝ ∗ ⌜ EgressOk stops (now egress) ⌝ ∗ ⌜ rounds < 13 ⌝ ∗ ⌜ length (now out) ≡ 39 ⌝ }
-    ensures { λ r. ⌜ ZeroFrom (now (out .exit)) r ⌝ ∗ ⌜ ((T : Tables) (Q : Query) (a : Arrivals) → Labelled a stops (now (labels .entry)) (now (distances .entry)) → Q .egress ≡ egressRows (now (egress .entry)) → Q .settings .candidateSlack ≡ slack → candidatesIn (now (out .exit)) r ≡ candidatesFrom T Q a top (suc rounds) 0 never) ⌝ }
+    ensures { λ r. ⌜ ZeroFrom (now (out .exit)) r ⌝ ∗ ⌜ ((T : Tables) (Q : Query) (a : Arrivals) → Labelled a stops (now (labels .entry)) (now (distances .entry)) → Q .egress ≡ egressRows (now (egress .entry)) → Q .settings .candidateSlack ≡ slack → candidatesIn (now (out .exit)) r ≡ candidatesFrom T Q a top (suc rounds) 0 never) ⌝ ∗ ⌜ r ≤ 13 ⌝ }
 {
     clear(out);
     let mut last: u32 = 4294967295;

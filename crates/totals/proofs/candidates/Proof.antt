@@ -84,7 +84,7 @@ same-length c = let s = c .before .before .before .before .before .before .befor
 
 -- src/lib.rt:206:1
 returns : tie.Need-returns Inv-loop μ-loop
-returns c = let s = c .before .before .before .before .before .before .before .before .before .before in let w = c .before .loop in (w .inv .3, λ T Q a g e d. rows-end T Q a (s .args .top) (suc (s .args .rounds)) (w .row) (w .last) (candidatesIn (w .out) (w .m)) (omega (arith, c .loop-test .left)) ∙ sym (w .inv .4 T Q a g e d))
+returns c = let s = c .before .before .before .before .before .before .before .before .before .before in let w = c .before .loop in (w .inv .3, (λ T Q a g e d. rows-end T Q a (s .args .top) (suc (s .args .rounds)) (w .row) (w .last) (candidatesIn (w .out) (w .m)) (omega (arith, c .loop-test .left)) ∙ sym (w .inv .4 T Q a g e d), omega (arith, w .inv .0, w .inv .1, s .pre .1 .1 .0)))
 
 pub candidates-spec : {M : Type 1} → statement M
 candidates-spec =

@@ -1,0 +1,5 @@
+pub mod Sections
+pub mod Starting
+pub mod Reading
+pub mod Laying
+pub mod Beginning

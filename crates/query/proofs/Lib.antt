@@ -1,0 +1,5 @@
+pub mod Given
+pub mod Replying
+pub mod Ends
+pub mod Outcomes
+pub mod Demands

@@ -1,0 +1,364 @@
+// query: the two calls that answer a query: `run_tbr`, the Rust's answer, and `query`, the promise's: `run_tbr` with arc flags put off where
+// they would skip nothing.
+// Specs: the outcome of each (Outcome); what the inner functions are given and leave (Parts); the three demands of the calls (Claims).
+// Proves: each call's whole outcome is its definition, on every input; in proofs/Demands the three demands, of the calls.
+// Assumes nothing.
+ghost use mathlib.Core.Path.{_≡_};
+ghost use mathlib.Core.Bool.{true, false};
+ghost use mathlib.Core.List.{List};
+ghost use Prim.Native.Nat.{ℕ, _/_};
+ghost use lib.ListN.{length};
+ghost use lib.Ieee.{Float};
+ghost use Rattle.model.specs.Tables.{Tables, Query};
+ghost use Rattle.model.specs.Search.{Arrivals};
+ghost use Rattle.scratch.specs.View.{memory};
+ghost use Rattle.asking.specs.Lent.{lent, queryOf};
+ghost use Rattle.asking.specs.Sane.{Admitted};
+ghost use Rattle.begin.specs.Begin.{layOf, netOf};
+ghost use Rattle.rounds.specs.Rounds.{Ended};
+ghost use Rattle.query.specs.Outcome.{areas, lengthsOf, cleared, queueFull, settled, runTbrOutcome, queryOutcome};
+ghost use Rattle.query.specs.Parts.{outcomeBy, modeBy, answerBy, outcome, Flagging, Opened, Ending, Agrees, Replied, Finished};
+use asking::Lengths;
+use asking::QueryCounts;
+use scratch::Head;
+use trip_scan::Net;
+
+// What a call gives back: the number of the first question answered no, or 0; the best total and its stop; how many candidates.
+#[repr(C)]
+pub struct Reply {
+    pub code: u32,
+    pub total: u32,
+    pub stop: u32,
+    pub candidates: u32,
+}
+
+// Are arc flags in use? Of `run_tbr` (rust) where they are not put off; of `query` where besides they skip something.
+fn in_use(
+    rust: bool,
+    n: QueryCounts,
+    t: &[u32],
+    built: &[u32],
+    transfers: &[u32],
+    patterns: &[u8],
+    net: Net,
+    off: bool,
+) -> bool
+    requires { ⌜ Flagging n (now t) (now built) (now transfers) (now patterns) ⌝ }
+    ensures { λ r. ⌜ ((d : List Float) (q : List ℕ) → net ≡ netOf (lent n (now (t .entry)) (now (built .entry)) (now (transfers .entry)) (now (patterns .entry)) d q) → queryOf (lent n (now (t .entry)) (now (built .entry)) (now (transfers .entry)) (now (patterns .entry)) d q) .flagsOff ≡ off → r ≡ modeBy rust (lent n (now (t .entry)) (now (built .entry)) (now (transfers .entry)) (now (patterns .entry)) d q)) ⌝ }
+{
+    if rust {
+        return flags::use_arc_flags(n.patterns, net.target, off);
+    }
+    let runs = asking::transfer_runs(built, n);
+    flags::flags_in_use(
+        t,
+        n.timetable,
+        runs,
+        transfers,
+        patterns,
+        n.patterns,
+        net.target,
+        off,
+    )
+}
+
+// From the beginning to the end of the rounds.
+fn search(
+    rust: bool,
+    n: QueryCounts,
+    t: &[u32],
+    built: &[u32],
+    transfers: &[u32],
+    patterns: &[u8],
+    distances: &[f64],
+    q: &[u32],
+    labels: &mut [u32],
+    metres: &mut [f64],
+    work: &mut [u32],
+    queue_a: &mut [u32],
+    queue_b: &mut [u32],
+) -> Head
+    requires { ⌜ Opened (lent n (now t) (now built) (now transfers) (now patterns) (now distances) (now q)) (length (now labels)) (length (now metres)) (length (now work)) (length (now «queue_a»)) (length (now «queue_b»)) ⌝ }
+    ensures { λ h. ⌜ Ended (lent n (now (t .entry)) (now (built .entry)) (now (transfers .entry)) (now (patterns .entry)) (now (distances .entry)) (now (q .entry))) (modeBy rust (lent n (now (t .entry)) (now (built .entry)) (now (transfers .entry)) (now (patterns .entry)) (now (distances .entry)) (now (q .entry)))) (length (now («queue_a» .entry)) / 4) (layOf n) (memory (now (work .exit)) (now (labels .exit)) (now (metres .exit)) h) ⌝ }
+{
+    let lay = begin::lay_of(n);
+    let net = begin::net_of(n, t, built, distances, q);
+    let off = tables::field(q, 6) == 1;
+    let flagged = in_use(rust, n, t, built, transfers, patterns, net, off);
+    let h = begin::begin(n, t, built, distances, q, lay, work, labels, metres);
+    rounds::rounds(
+        n,
+        t,
+        built,
+        transfers,
+        patterns,
+        distances,
+        q,
+        net,
+        flagged,
+        lay,
+        work,
+        labels,
+        metres,
+        queue_a,
+        queue_b,
+        h,
+    )
+}
+
+// Total, stop and candidates, the candidate rows written.
+fn reply_of(
+    n: QueryCounts,
+    q: &[u32],
+    work: &[u32],
+    labels: &[u32],
+    label_distances: &[f64],
+    candidates: &mut [u32],
+) -> Reply
+    requires { ⌜ Ending n (now q) (now work) (now labels) (now «label_distances») ⌝ ∗ ⌜ length (now candidates) ≡ 39 ⌝ }
+    ensures { λ r. ⌜ ((T : Tables) (Q : Query) (a : Arrivals) → Agrees T Q a n (now (q .entry)) (now (work .entry)) (now (labels .entry)) (now («label_distances» .entry)) → Replied T Q a r (now (candidates .exit))) ⌝ }
+{
+    let stops = n.timetable.stops;
+    let egress = asking::egress_rows(q, n);
+    let best = totals::best_target(work, stops, egress);
+    if best.total == 4294967295 {
+        scratch::zero_words(candidates);
+        return Reply {
+            code: 0,
+            total: best.total,
+            stop: best.stop,
+            candidates: 0,
+        };
+    }
+    let rounds = walk::tbr_max_rounds(q[2], q[3]);
+    let m = totals::candidates(
+        labels,
+        label_distances,
+        stops,
+        egress,
+        best.total,
+        3600,
+        rounds,
+        candidates,
+    );
+    Reply {
+        code: 0,
+        total: best.total,
+        stop: best.stop,
+        candidates: m as u32,
+    }
+}
+
+// Workspace and queue become 0.
+fn zero_work(work: &mut [u32], queue_a: &mut [u32], queue_b: &mut [u32])
+    ensures { λ _. ⌜ now (work .exit) ≡ cleared (now (work .entry)) ⌝ ∗ ⌜ now («queue_a» .exit) ≡ cleared (now («queue_a» .entry)) ⌝ ∗ ⌜ now («queue_b» .exit) ≡ cleared (now («queue_b» .entry)) ⌝ }
+{
+    scratch::zero_words(work);
+    scratch::zero_words(queue_a);
+    scratch::zero_words(queue_b);
+}
+
+// After the rounds: 8 with all areas but the candidate rows zero, or the answer.
+fn finish(
+    n: QueryCounts,
+    q: &[u32],
+    h: Head,
+    labels: &mut [u32],
+    label_distances: &mut [f64],
+    work: &mut [u32],
+    queue_a: &mut [u32],
+    queue_b: &mut [u32],
+    candidates: &mut [u32],
+) -> Reply
+    requires { ⌜ (h .full ≡ false → Ending n (now q) (now work) (now labels) (now «label_distances»)) ⌝ ∗ ⌜ length (now candidates) ≡ 39 ⌝ }
+    ensures { λ r. ⌜ Finished n (now (q .entry)) (h .full) (areas (now (labels .entry)) (now («label_distances» .entry)) (now (work .entry)) (now («queue_a» .entry)) (now («queue_b» .entry)) (now (candidates .entry))) (areas (now (labels .exit)) (now («label_distances» .exit)) (now (work .exit)) (now («queue_a» .exit)) (now («queue_b» .exit)) (now (candidates .exit))) r ⌝ }
+{
+    if h.full {
+        zero_work(work, queue_a, queue_b);
+        scratch::zero_words(labels);
+        scratch::zero_distances(label_distances);
+        return Reply {
+            code: 8,
+            total: 0,
+            stop: 0,
+            candidates: 0,
+        };
+    }
+    let r = reply_of(n, q, work, labels, label_distances, candidates);
+    zero_work(work, queue_a, queue_b);
+    r
+}
+
+// A query that the door admits.
+fn answer_query(
+    rust: bool,
+    n: QueryCounts,
+    t: &[u32],
+    built: &[u32],
+    transfers: &[u32],
+    patterns: &[u8],
+    distances: &[f64],
+    q: &[u32],
+    labels: &mut [u32],
+    label_distances: &mut [f64],
+    work: &mut [u32],
+    queue_a: &mut [u32],
+    queue_b: &mut [u32],
+    candidates: &mut [u32],
+) -> Reply
+    requires { ⌜ Admitted (lent n (now t) (now built) (now transfers) (now patterns) (now distances) (now q)) (lengthsOf (areas (now labels) (now «label_distances») (now work) (now «queue_a») (now «queue_b») (now candidates))) ⌝ }
+    ensures { λ r. ⌜ outcome r (areas (now (labels .exit)) (now («label_distances» .exit)) (now (work .exit)) (now («queue_a» .exit)) (now («queue_b» .exit)) (now (candidates .exit))) ≡ settled 0 (queueFull (answerBy rust (lent n (now (t .entry)) (now (built .entry)) (now (transfers .entry)) (now (patterns .entry)) (now (distances .entry)) (now (q .entry)))) (areas (now (labels .entry)) (now («label_distances» .entry)) (now (work .entry)) (now («queue_a» .entry)) (now («queue_b» .entry)) (now (candidates .entry)))) (answerBy rust (lent n (now (t .entry)) (now (built .entry)) (now (transfers .entry)) (now (patterns .entry)) (now (distances .entry)) (now (q .entry)))) (areas (now (labels .entry)) (now («label_distances» .entry)) (now (work .entry)) (now («queue_a» .entry)) (now («queue_b» .entry)) (now (candidates .entry))) ⌝ }
+{
+    let h = search(
+        rust,
+        n,
+        t,
+        built,
+        transfers,
+        patterns,
+        distances,
+        q,
+        labels,
+        label_distances,
+        work,
+        queue_a,
+        queue_b,
+    );
+    finish(
+        n,
+        q,
+        h,
+        labels,
+        label_distances,
+        work,
+        queue_a,
+        queue_b,
+        candidates,
+    )
+}
+
+// The questions first; a no is returned at once.
+fn ask(
+    rust: bool,
+    n: QueryCounts,
+    t: &[u32],
+    built: &[u32],
+    transfers: &[u32],
+    patterns: &[u8],
+    distances: &[f64],
+    q: &[u32],
+    labels: &mut [u32],
+    label_distances: &mut [f64],
+    work: &mut [u32],
+    queue_a: &mut [u32],
+    queue_b: &mut [u32],
+    candidates: &mut [u32],
+) -> Reply
+    ensures { λ r. ⌜ outcome r (areas (now (labels .exit)) (now («label_distances» .exit)) (now (work .exit)) (now («queue_a» .exit)) (now («queue_b» .exit)) (now (candidates .exit))) ≡ outcomeBy rust (lent n (now (t .entry)) (now (built .entry)) (now (transfers .entry)) (now (patterns .entry)) (now (distances .entry)) (now (q .entry))) (areas (now (labels .entry)) (now («label_distances» .entry)) (now (work .entry)) (now («queue_a» .entry)) (now («queue_b» .entry)) (now (candidates .entry))) ⌝ }
+{
+    let l = Lengths {
+        labels: labels.len(),
+        label_distances: label_distances.len(),
+        work: work.len(),
+        queue_a: queue_a.len(),
+        queue_b: queue_b.len(),
+        candidates: candidates.len(),
+    };
+    let code = asking::questions(n, t, built, transfers, patterns, distances, q, l);
+    if code != 0 {
+        return Reply {
+            code: code,
+            total: 0,
+            stop: 0,
+            candidates: 0,
+        };
+    }
+    answer_query(
+        rust,
+        n,
+        t,
+        built,
+        transfers,
+        patterns,
+        distances,
+        q,
+        labels,
+        label_distances,
+        work,
+        queue_a,
+        queue_b,
+        candidates,
+    )
+}
+
+// THE CALL `run_tbr`.
+pub fn run_tbr(
+    n: QueryCounts,
+    t: &[u32],
+    built: &[u32],
+    transfers: &[u32],
+    patterns: &[u8],
+    distances: &[f64],
+    q: &[u32],
+    labels: &mut [u32],
+    label_distances: &mut [f64],
+    work: &mut [u32],
+    queue_a: &mut [u32],
+    queue_b: &mut [u32],
+    candidates: &mut [u32],
+) -> Reply
+    ensures { λ r. ⌜ record { reply = r; areas = areas (now (labels .exit)) (now («label_distances» .exit)) (now (work .exit)) (now («queue_a» .exit)) (now («queue_b» .exit)) (now (candidates .exit)) } ≡ runTbrOutcome (lent n (now (t .entry)) (now (built .entry)) (now (transfers .entry)) (now (patterns .entry)) (now (distances .entry)) (now (q .entry))) (areas (now (labels .entry)) (now («label_distances» .entry)) (now (work .entry)) (now («queue_a» .entry)) (now («queue_b» .entry)) (now (candidates .entry))) ⌝ }
+{
+    ask(
+        true,
+        n,
+        t,
+        built,
+        transfers,
+        patterns,
+        distances,
+        q,
+        labels,
+        label_distances,
+        work,
+        queue_a,
+        queue_b,
+        candidates,
+    )
+}
+
+// THE CALL `query`.
+pub fn query(
+    n: QueryCounts,
+    t: &[u32],
+    built: &[u32],
+    transfers: &[u32],
+    patterns: &[u8],
+    distances: &[f64],
+    q: &[u32],
+    labels: &mut [u32],
+    label_distances: &mut [f64],
+    work: &mut [u32],
+    queue_a: &mut [u32],
+    queue_b: &mut [u32],
+    candidates: &mut [u32],
+) -> Reply
+    ensures { λ r. ⌜ record { reply = r; areas = areas (now (labels .exit)) (now («label_distances» .exit)) (now (work .exit)) (now («queue_a» .exit)) (now («queue_b» .exit)) (now (candidates .exit)) } ≡ queryOutcome (lent n (now (t .entry)) (now (built .entry)) (now (transfers .entry)) (now (patterns .entry)) (now (distances .entry)) (now (q .entry))) (areas (now (labels .entry)) (now («label_distances» .entry)) (now (work .entry)) (now («queue_a» .entry)) (now («queue_b» .entry)) (now (candidates .entry))) ⌝ }
+{
+    ask(
+        false,
+        n,
+        t,
+        built,
+        transfers,
+        patterns,
+        distances,
+        q,
+        labels,
+        label_distances,
+        work,
+        queue_a,
+        queue_b,
+        candidates,
+    )
+}

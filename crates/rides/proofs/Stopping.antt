@@ -1,0 +1,201 @@
+-- The stops reached before: one of them, and one after the other. Assumes nothing.
+use Prim.Native.Nat.{ℕ, zero, suc, _+_, _-_, _/_, _≤_, _<_}
+use mathlib.Core.Path.{_≡_, refl, sym, ap, ap₂, subst, _∙_}
+use mathlib.Core.Bool.{Bool, true, false, _&&_, _||_}
+use mathlib.Core.List.{List, [], _∷_}
+use native.Mathlib.Omega.{arith}
+use native.Mathlib.Numerals.{add-one}
+use lib.ListN.{length, getD, drop, drop-of-length-le}
+use lib.Seq.{drop-cons}
+use lib.Ieee.{Float}
+use lib.Dec.{ltb, leb, eqb}
+use borrow.Author.Tests.{lt-ltb, lt-leb, le-leb, ne-eqb}
+use Rattle.loops.specs.Count.{tabFrom}
+use Rattle.tables.specs.Timetable.{Timetable, timetable}
+use Rattle.departures.specs.declared.DepartureRow.{DepartureRow}
+use Rattle.departures.specs.Departures.{rowAt, rowsOf, rowDeparture, runLength, departuresOf}
+use Rattle.departures.specs.Listed.{RowsKnown}
+use Rattle.departures.proofs.Parts.{stop-known}
+use Rattle.model.specs.Tables.{never, Tables, Query, changeBefore, stops, departure}
+use Rattle.model.specs.Search.{Arrivals, State, at, marginOf, departuresAt, markAt, notBefore, scanDepartures, scanStops}
+use Rattle.model.specs.Door.{InOrder}
+use Rattle.scratch.specs.declared.Lay.{Lay}
+use Rattle.scratch.specs.declared.Head.{Head}
+use Rattle.scratch.specs.Part.{part}
+use Rattle.scratch.specs.Places.{Sized}
+use Rattle.scratch.specs.View.{Memory, memory}
+use Rattle.scratch.proofs.Part.{first-at, part-at, part-length}
+use Rattle.asking.specs.declared.QueryCounts.{QueryCounts}
+use Rattle.asking.specs.Lent.{marksAt, stopRuns, departureRows}
+use Rattle.asking.proofs.Converse.{order-next}
+use Rattle.trip_scan.specs.declared.Net.{Net}
+use Rattle.listed.specs.Listed.{Ordered}
+use Rattle.rides.specs.Laid.{Rides, Laid, Kept, otherAt, Waiting}
+use Rattle.rides.specs.Phase.{Seen}
+use Rattle.rides.specs.Going.{Going, Rode, Changing}
+use Rattle.rides.proofs.Keep.{other-kept}
+use Rattle.rides.proofs.Riding.{ride-none, ride-as}
+
+module _ (T : Tables) (Q : Query) (flagged : Bool) (round stamp : ℕ) where
+  -- one stop, by its two tests
+  abbrev stopBy : Bool → Bool → ℕ → State → State
+  stopBy late mark x s =
+      elim late as (λ z. State) [
+        | true ↦ s
+        | false ↦ elim mark as (λ z. State) [
+          | true ↦ scanDepartures T Q flagged true round stamp x (at (s .arrivals) x + changeBefore Q round) (departuresAt T x) s
+          | false ↦ scanDepartures T Q flagged false round stamp x (at (s .arrivals) x + changeBefore Q round) (notBefore T (at (s .arrivals) x + changeBefore Q round - marginOf T Q) (departuresAt T x)) s
+        ]
+      ]
+
+  abbrev lateAt : ℕ → State → Bool
+  lateAt x s = eqb (at (s .arrivals) x) never || leb (s .arrivals .best) (at (s .arrivals) x + changeBefore Q round)
+
+  stops-cons : (x : ℕ) (xs : List ℕ) (s : State) → scanStops T Q flagged round stamp (x ∷ xs) s ≡ scanStops T Q flagged round stamp xs (stopBy (lateAt x s) (markAt T x) x s)
+  unfolding scanStops
+  stops-cons x xs s = go (lateAt x s) (markAt T x)
+    where
+      go : (b c : Bool)
+          → elim b as (λ z. State) [
+            | true ↦ scanStops T Q flagged round stamp xs s
+            | false ↦ elim c as (λ z. State) [
+              | true ↦ scanStops T Q flagged round stamp xs (scanDepartures T Q flagged true round stamp x (at (s .arrivals) x + changeBefore Q round) (departuresAt T x) s)
+              | false ↦ scanStops T Q flagged round stamp xs (scanDepartures T Q flagged false round stamp x (at (s .arrivals) x + changeBefore Q round) (notBefore T (at (s .arrivals) x + changeBefore Q round - marginOf T Q) (departuresAt T x)) s)
+            ]
+          ] ≡ scanStops T Q flagged round stamp xs (stopBy b c x s)
+      go true c = refl
+      go false true = refl
+      go false false = refl
+
+  stops-nil : (s : State) → scanStops T Q flagged round stamp [] s ≡ s
+  unfolding scanStops
+  stops-nil s = refl
+
+  stop-one : (x : ℕ) (s : State) → stopBy (lateAt x s) (markAt T x) x s ≡ scanStops T Q flagged round stamp (x ∷ []) s
+  stop-one x s = sym (stops-cons x [] s ∙ stops-nil _)
+
+  -- the stops of a list from place i on
+  pub stops-turn : (l : List ℕ) (i x : ℕ) (s : State) → getD l i 0 ≡ x → i < length l
+      → scanStops T Q flagged round stamp (drop (i + 1) l) (scanStops T Q flagged round stamp (x ∷ []) s) ≡ scanStops T Q flagged round stamp (drop i l) s
+  stops-turn l i x s e h =
+      ap₂ (λ (j : ℕ) (y : State). scanStops T Q flagged round stamp (drop j l) y) (add-one i) (sym (stop-one x s))
+      ∙ sym (stops-cons x (drop (suc i) l) s) ∙ ap (λ (y : ℕ). scanStops T Q flagged round stamp (y ∷ drop (suc i) l) s) (sym e)
+      ∙ sym (ap (λ (xs : List ℕ). scanStops T Q flagged round stamp xs s) (drop-cons l i 0 h))
+
+  pub stops-end : (l : List ℕ) (i : ℕ) (s : State) → length l ≤ i → s ≡ scanStops T Q flagged round stamp (drop i l) s
+  stops-end l i s h = sym (ap (λ (xs : List ℕ). scanStops T Q flagged round stamp xs s) (drop-of-length-le l h) ∙ stops-nil s)
+
+-- the other list
+pub other-length : {lay : Lay} {w : List ℕ} {n b c : ℕ} → Waiting lay w n → Sized lay (length w) b c → length (part w (lay .other) n) ≡ n
+other-length {lay} {w} {n} p s = part-length w (lay .other) n (omega (arith, p .few, s .sections .other-fits, s .sections .words))
+
+pub other-in : {lay : Lay} {w w′ : List ℕ} {n : ℕ} (i : ℕ) → Waiting lay w n → Kept lay w w′ → i < n → getD (part w (lay .other) n) i 0 ≡ otherAt lay w′ i
+other-in {lay} {w} {w′} {n} i p k h = part-at w (lay .other) n i h ∙ sym (other-kept i k (omega (arith, p .few)))
+
+-- departures in order: none is earlier than one before it
+order-at : (T : Tables) (f : ℕ → DepartureRow) (n : ℕ) → InOrder T (tabFrom f 0 n) → (i d : ℕ) → i + d < n
+    → departure T (f i .trip) (f i .offset) ≤ departure T (f (i + d) .trip) (f (i + d) .offset)
+order-at T f n r i zero u = let e : i + 0 ≡ i = omega arith in rw e (omega arith)
+order-at T f n r i (suc d) u =
+    let e : i + suc d ≡ suc (i + d) = omega arith in
+    rw e (omega (arith, order-at T f n r i d (omega arith), order-next T f 0 n r (i + d) (omega arith) (omega arith)))
+
+-- THE DEPARTURES of a stop, as they are handed on
+module _ {n : QueryCounts} {t rows stopRows built bytes area : List ℕ} {net : Net} {lay : Lay} {w : List ℕ} (L : Laid n t rows stopRows built bytes area net lay w)
+    (x : ℕ) (in-stops : x < n .timetable .stops) (list : List ℕ) (is : list ≡ departuresOf (stopRuns built n) (departureRows built n) x) where
+  run-known : RowsKnown t (n .timetable) list (runLength (stopRuns built n) x)
+  run-known = rw is (stop-known t (n .timetable) (stopRuns built n) (departureRows built n) (n .departures) x (L .listed .known) (L .listed .stops) in-stops)
+
+  halves : length list / 2 ≡ runLength (stopRuns built n) x
+  halves = omega (arith, run-known .size)
+
+  pub list-known : RowsKnown t (n .timetable) list (length list / 2)
+  list-known = rw halves run-known
+
+  rows-are : (T : Tables) (Q : Query) → Rides n t rows stopRows built bytes area net lay w T Q → T .departures x ≡ rowsOf list (length list / 2)
+  rows-are T Q y = y .departures x in-stops ∙ ap₂ (λ (l : List ℕ) (k : ℕ). rowsOf l k) (sym is) (sym halves)
+
+  pub list-ordered : Ordered t (n .timetable) list (length list / 2)
+  list-ordered =
+      record {
+        known = list-known;
+        order = λ i j u v.
+            let T = L .netted .T in
+            let y = L .rides in
+            let e : i + (j - i) ≡ j = omega arith in
+            let o = subst (InOrder T) (rows-are T (L .netted .Q) y) (L .netted .door .departures-sorted x (omega (arith, in-stops, ap (λ (z : Timetable). z .stops) (y .nets .agree .timetable)))) in
+            let r = order-at T (rowAt list) (length list / 2) o i (j - i) (omega arith) in
+            let p = ap (λ (z : Timetable). rowDeparture z (rowAt list i)) (y .nets .agree .timetable) in
+            let q = ap (λ (z : Timetable). rowDeparture z (rowAt list j)) (y .nets .agree .timetable) in
+            let s = ap (λ (k : ℕ). rowDeparture (T .timetable) (rowAt list k)) e in
+            omega (arith, r, p, q, s);
+      }
+
+  -- in the model
+  in-table : (T : Tables) (Q : Query) → Rides n t rows stopRows built bytes area net lay w T Q → ltb x (stops T) ≡ true
+  in-table T Q y = lt-ltb x (stops T) (omega (arith, in-stops, ap (λ (z : Timetable). z .stops) (y .nets .agree .timetable)))
+
+  listed-are : (T : Tables) (Q : Query) → Rides n t rows stopRows built bytes area net lay w T Q → departuresAt T x ≡ rowsOf list (length list / 2)
+  unfolding departuresAt
+  listed-are T Q y = ap (λ (b : Bool). elim b as (λ z. List DepartureRow) [ true ↦ T .departures x | false ↦ [] ]) (in-table T Q y) ∙ rows-are T Q y
+
+  mark-is : (T : Tables) (Q : Query) → Rides n t rows stopRows built bytes area net lay w T Q → markAt T x ≡ eqb (getD built (marksAt n + x) 0) 1
+  unfolding markAt
+  mark-is T Q y = ap (λ (b : Bool). b && eqb (T .mark x) 1) (in-table T Q y) ∙ ap (λ (k : ℕ). eqb k 1) (y .mark x in-stops)
+
+-- ONE STOP
+module _ {n : QueryCounts} {t rows stopRows built bytes area : List ℕ} {net : Net} {lay : Lay} {stamp : ℕ} {w l : List ℕ} {m : List Float} {h : Head} {q : List ℕ}
+    (G : Going n t rows stopRows built bytes area net lay stamp (memory w l m h) q) (flagged : Bool) (round change x : ℕ) (in-stops : x < n .timetable .stops)
+    (early : getD w x 0 ≤ 108003224) where
+  abbrev agree : Tables → Query → Type 0
+  agree = Changing n t rows stopRows built bytes area net lay round change w
+
+  reached-at : (T : Tables) (Q : Query) (s : State) → Seen lay stamp T Q (memory w l m h) q s → at (s .arrivals) x ≡ getD w x 0
+  reached-at T Q s e = ap (λ (a : Arrivals). at a x) (e .arrivals) ∙ first-at w (lay .stops) x (omega (arith, in-stops, G .laid .netted .stops))
+
+  after-is : (T : Tables) (Q : Query) → agree T Q → (s : State) → Seen lay stamp T Q (memory w l m h) q s → at (s .arrivals) x + changeBefore Q round ≡ getD w x 0 + change
+  after-is T Q y s e = ap₂ (λ (i j : ℕ). i + j) (reached-at T Q s e) (y .before)
+
+  late-is : (T : Tables) (Q : Query) → agree T Q → (s : State) → Seen lay stamp T Q (memory w l m h) q s → lateAt T Q flagged round stamp x s ≡ leb (h .best) (getD w x 0 + change)
+  late-is T Q y s e =
+      ap (λ (b : Bool). b || leb (s .arrivals .best) (at (s .arrivals) x + changeBefore Q round)) (ne-eqb (at (s .arrivals) x) never (λ z. omega (arith, z, reached-at T Q s e, early)))
+      ∙ ap₂ (λ (i j : ℕ). leb i j) (ap (λ (a : Arrivals). a .best) (e .arrivals)) (after-is T Q y s e)
+
+  -- no earlier than the best total
+  pub stop-late : h .best ≤ getD w x 0 + change → Rode lay stamp agree (λ T Q. scanStops T Q flagged round stamp (x ∷ [])) (memory w l m h) (memory w l m h) q q
+  stop-late u =
+      ride-none (λ T Q. scanStops T Q flagged round stamp (x ∷ [])) (memory w l m h) q (G .ready) (G .chains) (G .room)
+      (λ T Q y s e. sym (ap (λ (b : Bool). stopBy T Q flagged round stamp b (markAt T x) x s) (late-is T Q y s e ∙ le-leb (h .best) (getD w x 0 + change) u)) ∙ stop-one T Q flagged round stamp x s)
+
+  module _ (u : getD w x 0 + change < h .best) (list : List ℕ) (is : list ≡ departuresOf (stopRuns built n) (departureRows built n) x)
+      (mark : Bool) (told : mark ≡ eqb (getD built (marksAt n + x) 0) 1) where
+    stop-by : (b : Bool) → mark ≡ b → (T : Tables) (Q : Query) → agree T Q → (s : State) → Seen lay stamp T Q (memory w l m h) q s
+        → stopBy T Q flagged round stamp false b x s ≡ scanStops T Q flagged round stamp (x ∷ []) s
+    stop-by b o T Q y s e =
+        ap₂ (λ (i j : Bool). stopBy T Q flagged round stamp i j x s) (sym (late-is T Q y s e ∙ lt-leb (h .best) (getD w x 0 + change) u))
+        (sym o ∙ told ∙ sym (mark-is (G .laid) x in-stops list is T Q (y .rides)))
+        ∙ stop-one T Q flagged round stamp x s
+
+    -- a marked stop: all its departures
+    pub stop-marked : mark ≡ true → {b : Memory} {q′ : List ℕ}
+        → Rode lay stamp (Rides n t rows stopRows built bytes area net lay w) (λ T Q. scanDepartures T Q flagged true round stamp x (getD w x 0 + change) (rowsOf list (length list / 2))) (memory w l m h) b q q′
+        → Rode lay stamp agree (λ T Q. scanStops T Q flagged round stamp (x ∷ [])) (memory w l m h) b q q′
+    stop-marked o z =
+        ride-as (λ T Q. scanStops T Q flagged round stamp (x ∷ [])) z (λ T Q y. y .rides)
+        (λ T Q y s e.
+        ap₂ (λ (k : ℕ) (ds : List DepartureRow). scanDepartures T Q flagged true round stamp x k ds s) (sym (after-is T Q y s e)) (sym (listed-are (G .laid) x in-stops list is T Q (y .rides)))
+        ∙ stop-by true o T Q y s e)
+
+    -- an unmarked one: those that a delay may bring to the time or later
+    pub stop-plain : mark ≡ false → (from : ℕ) → from ≡ getD w x 0 + change - net .terms .margin → (late : List ℕ)
+        → ((T : Tables) → T .timetable ≡ timetable t (n .timetable) → rowsOf late (length late / 2) ≡ notBefore T from (rowsOf list (length list / 2))) → {b : Memory} {q′ : List ℕ}
+        → Rode lay stamp (Rides n t rows stopRows built bytes area net lay w) (λ T Q. scanDepartures T Q flagged false round stamp x (getD w x 0 + change) (rowsOf late (length late / 2))) (memory w l m h) b q q′
+        → Rode lay stamp agree (λ T Q. scanStops T Q flagged round stamp (x ∷ [])) (memory w l m h) b q q′
+    stop-plain o from f late g z =
+        ride-as (λ T Q. scanStops T Q flagged round stamp (x ∷ [])) z (λ T Q y. y .rides)
+        (λ T Q y s e.
+        let v = sym (after-is T Q y s e) in
+        let c = f ∙ ap₂ (λ (i j : ℕ). i - j) v (sym (y .rides .nets .asks .margin)) in
+        ap₂ (λ (k : ℕ) (ds : List DepartureRow). scanDepartures T Q flagged false round stamp x k ds s) v
+        (g T (y .rides .nets .agree .timetable) ∙ ap₂ (λ (k : ℕ) (ds : List DepartureRow). notBefore T k ds) c (sym (listed-are (G .laid) x in-stops list is T Q (y .rides))))
+        ∙ stop-by false o T Q y s e)

@@ -1,0 +1,255 @@
+// rounds: the rounds of a query: ride phase and walk phase, one after the other, the two queue halves and the two lists of stops in turn.
+// Specs: question 8, the state after the rounds (Rounds); one round in memory (Round).
+// Proves: after `rounds` memory holds the model's `final` of the tables and the query that the lent slices say, or question 8 is answered no.
+// Assumes nothing.
+ghost use mathlib.Core.Path.{_≡_};
+ghost use mathlib.Core.Bool.{_||_};
+ghost use Prim.Native.Nat.{ℕ, _+_, _*_, _/_, _≤_, _<_};
+ghost use lib.ListN.{length};
+ghost use Rattle.model.specs.Tables.{Query, changeBefore};
+ghost use Rattle.scratch.specs.View.{memory};
+ghost use Rattle.asking.specs.Lent.{lent};
+ghost use Rattle.rounds.specs.Round.{idleHead, read, filled, Opened, Round};
+ghost use Rattle.rounds.specs.Rounds.{Started, Ended};
+use asking::QueryCounts;
+use scratch::Head;
+use scratch::Lay;
+use trip_scan::Net;
+use walks::Rules;
+
+// The change time before a boarding in round r: none in the first.
+fn change_before(r: u32, change: u32) -> u32
+    ensures { λ x. ⌜ ((Q : Query) → Q .change ≡ change → changeBefore Q r ≡ x) ⌝ }
+{
+    if r == 0 { 0 } else { change }
+}
+
+// ONE ROUND: the segments in `from` are ridden, the stops of lay.other boarded at; then walks. Segments are queued in `to`.
+fn round(
+    n: QueryCounts,
+    t: &[u32],
+    rows: &[u32],
+    stop_rows: &[u32],
+    built: &[u32],
+    bytes: &[u8],
+    area: &[u32],
+    distances: &[f64],
+    net: Net,
+    flagged: bool,
+    change: u32,
+    r: u32,
+    lay: Lay,
+    from: &[u32],
+    work: &mut [u32],
+    labels: &mut [u32],
+    metres: &mut [f64],
+    to: &mut [u32],
+    h: Head,
+) -> Head
+    requires { ⌜ Opened n (now t) (now rows) (now «stop_rows») (now built) (now bytes) (now area) (now distances) net lay flagged change r (memory (now work) (now labels) (now metres) h) (now from) (length (now to)) ⌝ }
+    ensures { λ x. ⌜ Round n (now (t .entry)) (now (rows .entry)) (now («stop_rows» .entry)) (now (built .entry)) (now (bytes .entry)) (now (area .entry)) (now (distances .entry)) net lay flagged change r (memory (now (work .entry)) (now (labels .entry)) (now (metres .entry)) h) (memory (now (work .exit)) (now (labels .exit)) (now (metres .exit)) x) (now (from .entry)) (now (to .entry)) (now (to .exit)) ⌝ }
+{
+    let stamp = r + 2;
+    let before = change_before(r, change);
+    let g = rides::ride_phase(
+        n,
+        t,
+        rows,
+        stop_rows,
+        built,
+        bytes,
+        area,
+        net,
+        flagged,
+        stamp,
+        before,
+        lay,
+        from,
+        work,
+        labels,
+        metres,
+        to,
+        h,
+    );
+    if g.full {
+        return g;
+    }
+    let counts = n.timetable;
+    let targets = net.target;
+    let terms = net.terms;
+    let rules = Rules {
+        counts,
+        patterns: net.patterns,
+        targets,
+        flagged,
+        wheelchair: terms.wheelchair,
+    };
+    walks::walk_phase(
+        lay,
+        rules,
+        stamp,
+        t,
+        distances,
+        bytes,
+        work,
+        labels,
+        metres,
+        g,
+    )
+}
+
+// The same with the halves of the queue in turn: an even round reads the first and fills the second.
+fn turn(
+    n: QueryCounts,
+    t: &[u32],
+    rows: &[u32],
+    stop_rows: &[u32],
+    built: &[u32],
+    bytes: &[u8],
+    area: &[u32],
+    distances: &[f64],
+    net: Net,
+    flagged: bool,
+    change: u32,
+    r: u32,
+    even: bool,
+    lay: Lay,
+    work: &mut [u32],
+    labels: &mut [u32],
+    metres: &mut [f64],
+    queue_a: &mut [u32],
+    queue_b: &mut [u32],
+    h: Head,
+) -> Head
+    requires { ⌜ Opened n (now t) (now rows) (now «stop_rows») (now built) (now bytes) (now area) (now distances) net lay flagged change r (memory (now work) (now labels) (now metres) h) (read even (now «queue_a») (now «queue_b»)) (length (filled even (now «queue_a») (now «queue_b»))) ⌝ }
+    ensures { λ x. ⌜ Round n (now (t .entry)) (now (rows .entry)) (now («stop_rows» .entry)) (now (built .entry)) (now (bytes .entry)) (now (area .entry)) (now (distances .entry)) net lay flagged change r (memory (now (work .entry)) (now (labels .entry)) (now (metres .entry)) h) (memory (now (work .exit)) (now (labels .exit)) (now (metres .exit)) x) (read even (now («queue_a» .entry)) (now («queue_b» .entry))) (filled even (now («queue_a» .entry)) (now («queue_b» .entry))) (filled even (now («queue_a» .exit)) (now («queue_b» .exit))) ⌝ }
+{
+    if even {
+        return round(
+            n,
+            t,
+            rows,
+            stop_rows,
+            built,
+            bytes,
+            area,
+            distances,
+            net,
+            flagged,
+            change,
+            r,
+            lay,
+            queue_a,
+            work,
+            labels,
+            metres,
+            queue_b,
+            h,
+        );
+    }
+    round(
+        n,
+        t,
+        rows,
+        stop_rows,
+        built,
+        bytes,
+        area,
+        distances,
+        net,
+        flagged,
+        change,
+        r,
+        lay,
+        queue_b,
+        work,
+        labels,
+        metres,
+        queue_a,
+        h,
+    )
+}
+
+// Is no stop left to board at and, flagged, no segment to ride?
+fn idle(flagged: bool, h: Head) -> bool
+    ensures { λ x. ⌜ x ≡ idleHead flagged h ⌝ }
+{
+    if h.count != 0 {
+        return false;
+    }
+    if !flagged {
+        return true;
+    }
+    h.queued == 0
+}
+
+// Do the rounds end: did a segment not fit, or is nothing left to do?
+fn ends(flagged: bool, h: Head) -> bool
+    ensures { λ x. ⌜ x ≡ (h .full || idleHead flagged h) ⌝ }
+{
+    if h.full {
+        return true;
+    }
+    idle(flagged, h)
+}
+
+// THE ROUNDS of a query.
+pub fn rounds(
+    n: QueryCounts,
+    t: &[u32],
+    built: &[u32],
+    transfers: &[u32],
+    patterns: &[u8],
+    distances: &[f64],
+    q: &[u32],
+    net: Net,
+    flagged: bool,
+    lay: Lay,
+    work: &mut [u32],
+    labels: &mut [u32],
+    metres: &mut [f64],
+    queue_a: &mut [u32],
+    queue_b: &mut [u32],
+    h: Head,
+) -> Head
+    requires { ⌜ Started (lent n (now t) (now built) (now transfers) (now patterns) (now distances) (now q)) net lay (memory (now work) (now labels) (now metres) h) (length (now «queue_a»)) (length (now «queue_b»)) ⌝ }
+    ensures { λ x. ⌜ Ended (lent n (now (t .entry)) (now (built .entry)) (now (transfers .entry)) (now (patterns .entry)) (now (distances .entry)) (now (q .entry))) flagged (length (now («queue_a» .entry)) / 4) lay (memory (now (work .exit)) (now (labels .exit)) (now (metres .exit)) x) ⌝ }
+{
+    let rows = asking::delay_rows(q, n);
+    let stop_rows = asking::stop_rows(q, n);
+    let change = q[1];
+    let limit = walk::tbr_max_rounds(q[2], q[3]);
+    let mut g = h;
+    let mut even = true;
+    let mut r: u32 = 0;
+    while r < limit {
+        if ends(flagged, g) {
+            return g;
+        }
+        g = turn(
+            n,
+            t,
+            rows,
+            stop_rows,
+            built,
+            patterns,
+            transfers,
+            distances,
+            net,
+            flagged,
+            change,
+            r,
+            even,
+            lay,
+            work,
+            labels,
+            metres,
+            queue_a,
+            queue_b,
+            g,
+        );
+        even = !even;
+        r += 1;
+    }
+    g
+}
