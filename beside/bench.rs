@@ -3,6 +3,7 @@
 #![allow(dead_code, unused)]
 include!(concat!(env!("ORACLE"), "/oracle.rs"));
 include!(concat!(env!("BESIDE"), "/ffi.rs"));
+include!(concat!(env!("BESIDE"), "/random.rs"));
 include!(concat!(env!("BESIDE"), "/cases.rs"));
 include!(concat!(env!("BESIDE"), "/ours.rs"));
 use std::hint::black_box;

@@ -3,6 +3,7 @@
 #![allow(dead_code, unused)]
 include!(concat!(env!("ORACLE"), "/oracle.rs"));
 include!(concat!(env!("BESIDE"), "/ffi.rs"));
+include!(concat!(env!("BESIDE"), "/random.rs"));
 use gtfs::cell_bitset::CellBitSet as Oracle;
 use std::hint::black_box;
 use std::time::Instant;

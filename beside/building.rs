@@ -3,7 +3,9 @@
 #![allow(dead_code, unused)]
 include!(concat!(env!("ORACLE"), "/oracle.rs"));
 include!(concat!(env!("BESIDE"), "/ffi.rs"));
+include!(concat!(env!("BESIDE"), "/random.rs"));
 include!(concat!(env!("BESIDE"), "/cases.rs"));
+include!(concat!(env!("BESIDE"), "/rows.rs"));
 include!(concat!(env!("BESIDE"), "/timetables.rs"));
 
 const TABLES: u64 = 300_000;

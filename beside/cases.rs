@@ -3,54 +3,12 @@ use gtfs::cell_bitset::CellBitSet as Oracle;
 use gtfs::pack::{FrequencyWindow, GlobalTrip, PackedStopTime, StaticEpoch, WalkEdge};
 use routing::journey::{ItineraryQuery, RtTripAdjust};
 
-pub const LIMIT: u32 = 1_048_575;
-pub const UNKNOWN: u32 = u32::MAX;
-
 pub fn refused(code: u32) -> Answer {
     Answer { code, value: 0 }
 }
 
 pub fn given(value: u32) -> Answer {
     Answer { code: 0, value }
-}
-
-// Numbers from a seed (splitmix64).
-pub struct Random(pub u64);
-
-impl Random {
-    pub fn next(&mut self) -> u64 {
-        self.0 = self.0.wrapping_add(0x9E37_79B9_7F4A_7C15);
-        let mut z = self.0;
-        z = (z ^ (z >> 30)).wrapping_mul(0xBF58_476D_1CE4_E5B9);
-        z = (z ^ (z >> 27)).wrapping_mul(0x94D0_49BB_1331_11EB);
-        z ^ (z >> 31)
-    }
-    pub fn below(&mut self, n: u32) -> u32 {
-        (self.next() % n as u64) as u32
-    }
-    // any u32, the limits and small numbers often
-    pub fn any(&mut self) -> u32 {
-        match self.below(8) {
-            0 => self.next() as u32,
-            1 => u32::MAX - self.below(3),
-            2 => LIMIT + 2 - self.below(4),
-            _ => self.below(70),
-        }
-    }
-    // a time, now and then past the limit
-    pub fn time(&mut self) -> u32 {
-        match self.below(10) {
-            0 => LIMIT + 1 - self.below(3),
-            1 | 2 => self.below(LIMIT + 1),
-            3 if self.below(20) == 0 => self.next() as u32,
-            _ => self.below(2000),
-        }
-    }
-    // the bits of a signed size, now and then past the limit
-    pub fn signed(&mut self) -> u32 {
-        let v = self.time() as i64;
-        (if self.below(2) == 0 { v } else { -v }) as u32
-    }
 }
 
 pub fn near_limit() -> [u32; 5] {
@@ -180,6 +138,20 @@ impl Delays {
         Delays { trips: n.min(4096), rows, stop_rows, row_count: n, stop_row_count: n }
     }
 
+    // questions 4, 5 and 6 of the rows, each: is it answered yes? (4 to 6 may be asked only where 2 is yes.)
+    pub fn numbered(&self) -> bool {
+        self.rows.chunks(2).all(|c| c[0] == UNKNOWN || c[0] < self.trips) && self.stop_rows.chunks(5).all(|c| c[0] < self.row_count)
+    }
+    pub fn ranged(&self) -> bool {
+        !self.rows.chunks(2).any(|c| large(c[1])) && !self.stop_rows.chunks(5).any(|c| c[2] > 7 || large(c[3]) || large(c[4]))
+    }
+    pub fn ordered(&self) -> bool {
+        let rows: Vec<_> = self.rows.chunks(2).collect();
+        let stops: Vec<_> = self.stop_rows.chunks(5).collect();
+        let falls = rows.windows(2).any(|p| p[0][0] > p[1][0] || (p[0][0] == p[1][0] && p[0][0] != UNKNOWN));
+        !falls && stops.windows(2).all(|p| (p[0][0], p[0][1]) < (p[1][0], p[1][1]))
+    }
+
     // the number of the first no of document 01, read independently
     pub fn door(&self) -> u32 {
         if self.trips > 4096 || self.row_count > 4096 || self.stop_row_count > 4096 {
@@ -188,19 +160,13 @@ impl Delays {
         if self.rows.len() as u64 != 2 * self.row_count as u64 || self.stop_rows.len() as u64 != 5 * self.stop_row_count as u64 {
             return 2;
         }
-        if self.rows.chunks(2).any(|c| c[0] != UNKNOWN && c[0] >= self.trips) || self.stop_rows.chunks(5).any(|c| c[0] >= self.row_count) {
+        if !self.numbered() {
             return 4;
         }
-        if self.rows.chunks(2).any(|c| large(c[1])) || self.stop_rows.chunks(5).any(|c| c[2] > 7 || large(c[3]) || large(c[4])) {
+        if !self.ranged() {
             return 5;
         }
-        let rows: Vec<_> = self.rows.chunks(2).collect();
-        let stops: Vec<_> = self.stop_rows.chunks(5).collect();
-        let falls = rows.windows(2).any(|p| p[0][0] > p[1][0] || (p[0][0] == p[1][0] && p[0][0] != UNKNOWN));
-        if falls || stops.windows(2).any(|p| (p[0][0], p[0][1]) >= (p[1][0], p[1][1])) {
-            return 6;
-        }
-        0
+        if self.ordered() { 0 } else { 6 }
     }
 
     // the delay rows as the Rust has them
@@ -271,26 +237,4 @@ pub fn random_delays(r: &mut Random) -> Delays {
         _ => {}
     }
     d
-}
-
-impl Random {
-    pub fn signed_inside(&mut self) -> u32 {
-        let v = match self.below(6) {
-            0 => LIMIT - self.below(2),
-            1 => self.below(LIMIT + 1),
-            2 => 21600 + self.below(3) - 1,
-            _ => self.below(900),
-        } as i64;
-        (if self.below(2) == 0 { v } else { -v }) as u32
-    }
-    // a distance: any bits, among them NaNs with a payload, -0.0 and the infinities
-    pub fn distance(&mut self) -> f64 {
-        f64::from_bits(match self.below(8) {
-            0 => 0x8000_0000_0000_0000,
-            1 => 0x7FF0_0000_0000_0000 | (self.next() & 0x800F_FFFF_FFFF_FFFF),
-            2 => 0x7FF8_0000_0000_0000 | (self.next() & 0x8007_FFFF_FFFF_FFFF),
-            3 => (self.below(5000) as f64).to_bits(),
-            _ => self.next(),
-        })
-    }
 }

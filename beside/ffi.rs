@@ -111,3 +111,50 @@ extern "C" {
         transfer_runs: *mut u32, transfer_runs_len: usize,
     ) -> Answer;
 }
+
+// How many there are of each (a query's counts).
+#[repr(C)]
+#[derive(Clone, Copy, PartialEq, Debug, Default)]
+pub struct QuerySizes {
+    pub stops: u32,
+    pub trips: u32,
+    pub times: u32,
+    pub windows: u32,
+    pub edges: u32,
+    pub cells: u32,
+    pub patterns: u32,
+    pub lines: u32,
+    pub entries: u32,
+    pub departures: u32,
+    pub transfers: u32,
+    pub delays: u32,
+    pub stop_rows: u32,
+    pub origins: u32,
+    pub egress: u32,
+}
+
+#[repr(C)]
+#[derive(Clone, Copy, PartialEq, Debug)]
+pub struct Reply {
+    pub code: u32,
+    pub total: u32,
+    pub stop: u32,
+    pub candidates: u32,
+}
+
+#[cfg(not(mock))]
+extern "C" {
+    pub fn savoiky_run_tbr(
+        sizes: QuerySizes, tables: *const u32, tables_len: usize, built: *const u32, built_len: usize, transfers: *const u32, transfers_len: usize,
+        patterns: *const u8, patterns_len: usize, distances: *const f64, distances_len: usize, query: *const u32, query_len: usize, labels: *mut u32,
+        labels_len: usize, label_distances: *mut f64, label_distances_len: usize, work: *mut u32, work_len: usize, queue_a: *mut u32, queue_a_len: usize,
+        queue_b: *mut u32, queue_b_len: usize, candidates: *mut u32, candidates_len: usize,
+    ) -> Reply;
+    pub fn savoiky_query(
+        sizes: QuerySizes, tables: *const u32, tables_len: usize, built: *const u32, built_len: usize, transfers: *const u32, transfers_len: usize,
+        patterns: *const u8, patterns_len: usize, distances: *const f64, distances_len: usize, query: *const u32, query_len: usize, labels: *mut u32,
+        labels_len: usize, label_distances: *mut f64, label_distances_len: usize, work: *mut u32, work_len: usize, queue_a: *mut u32, queue_a_len: usize,
+        queue_b: *mut u32, queue_b_len: usize, candidates: *mut u32, candidates_len: usize,
+    ) -> Reply;
+    pub fn savoiky_work_size(sizes: QuerySizes) -> Answer;
+}

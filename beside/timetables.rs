@@ -34,31 +34,11 @@ pub struct Timetable {
 }
 
 impl Timetable {
-    fn at(&self, section: usize, row: usize, field: usize) -> u32 {
-        let c = self.counts.map(|n| n as usize);
-        let base = [0, 6 * c[2], 6 * c[2] + 8 * c[1], 6 * c[2] + 8 * c[1] + 3 * c[3]];
-        self.tables[base[section] + row * [6, 8, 3, 5][section] + field]
+    fn known(&self) -> Rows {
+        Rows { counts: self.counts, tables: &self.tables }
     }
-
-    // the timetable as the Rust has it
     fn epoch(&self) -> StaticEpoch {
-        let mut e = StaticEpoch::default();
-        e.stops = (0..self.counts[0]).collect();
-        for i in 0..self.counts[2] as usize {
-            let f = |k| self.at(0, i, k);
-            e.stop_times.push(PackedStopTime {
-                stop_idx: f(0), arrival_s: f(1), departure_s: f(2), stop_sequence: f(3), pickup_type: f(4) as u8, drop_off_type: f(5) as u8,
-                stop_headsign_idx: 0, timepoint: 0, shape_dist_traveled: None,
-            });
-        }
-        for i in 0..self.counts[1] as usize {
-            let f = |k| self.at(1, i, k);
-            let windows = (f(4)..f(4) + f(5))
-                .map(|w| FrequencyWindow { start_s: self.at(2, w as usize, 0), end_s: self.at(2, w as usize, 1), headway_s: self.at(2, w as usize, 2) })
-                .collect();
-            e.trips.push(GlobalTrip { stop_time_start: f(0), stop_time_len: f(1), frequency_windows: windows });
-        }
-        e
+        self.known().epoch()
     }
 
     fn listed(&self, e: &mut StaticEpoch) {
@@ -68,48 +48,21 @@ impl Timetable {
         }
     }
 
-    // Questions 1 to 5 of the timetable alone, each: is it answered no? (3 to 5 may be asked only where 1 and 2 are yes.)
-    fn small(&self) -> bool {
-        let c = self.counts;
-        c[0] <= 4096 && c[1] <= 4096 && c[2] <= 65536 && c[3] <= 65536 && c[4] <= 65536
-    }
-    fn sized(&self) -> bool {
-        let c = self.counts.map(|n| n as u64);
-        self.tables.len() as u64 == 6 * c[2] + 8 * c[1] + 3 * c[3] + 5 * c[4] + c[0]
-    }
-    fn runs_lie(&self) -> bool {
-        (0..self.counts[1] as usize).all(|i| {
-            let f = |k| self.at(1, i, k) as u64;
-            f(1) > 0 && f(0) + f(1) <= self.counts[2] as u64 && f(4) + f(5) <= self.counts[3] as u64
-        })
-    }
-    fn numbered(&self) -> bool {
-        let stops = self.counts[0];
-        (0..self.counts[2] as usize).all(|i| self.at(0, i, 0) < stops)
-            && (0..self.counts[4] as usize).all(|i| self.at(3, i, 0) < stops && self.at(3, i, 1) < stops)
-    }
-    fn ranged(&self) -> bool {
-        (0..self.counts[2] as usize).all(|i| self.at(0, i, 1) <= LIMIT && self.at(0, i, 2) <= LIMIT && self.at(0, i, 4) <= 3 && self.at(0, i, 5) <= 3)
-            && (0..self.counts[1] as usize).all(|i| self.at(1, i, 2) <= 6 && self.at(1, i, 3) <= 2 && self.at(1, i, 6) <= 1 && self.at(1, i, 7) <= 1)
-            && (0..self.counts[3] as usize).all(|i| (0..3).all(|k| self.at(2, i, k) <= LIMIT))
-            && (0..self.counts[4] as usize).all(|i| self.at(3, i, 2) <= LIMIT && self.at(3, i, 3) <= 7)
-    }
-
     // the first no of a call that also asks these of its own tables
     fn door(&self, small: bool, sized: bool, runs: impl Fn() -> bool, numbers: impl Fn() -> bool) -> u32 {
-        if !(self.small() && small) {
+        if !(self.known().small() && small) {
             return 1;
         }
-        if !(self.sized() && sized) {
+        if !(self.known().sized() && sized) {
             return 2;
         }
-        if !(self.runs_lie() && runs()) {
+        if !(self.known().runs_lie() && runs()) {
             return 3;
         }
-        if !(self.numbered() && numbers()) {
+        if !(self.known().numbered() && numbers()) {
             return 4;
         }
-        if !self.ranged() {
+        if !self.known().ranged() {
             return 5;
         }
         0
@@ -127,7 +80,7 @@ impl Timetable {
             d <= 65536,
             sized,
             || (0..stops as usize).all(|s| run(s).0 + run(s).1 <= d),
-            || self.listed_right(),
+            || self.known().listed_right(&self.runs, &self.rows),
         )
     }
 
@@ -151,21 +104,17 @@ impl Timetable {
         )
     }
 
-    fn events(&self) -> u64 {
-        (0..self.counts[1] as usize).map(|i| self.at(1, i, 1) as u64).sum()
-    }
-
     fn transfers_door(&self) -> u32 {
         let (stops, d) = (self.counts[0] as u64, self.departures as u64);
         let run = |s: usize| (self.runs[2 * s] as u64, self.runs[2 * s + 1] as u64);
-        if !(self.small() && self.line_count <= 4096 && d <= 65536) {
+        if !(self.known().small() && self.line_count <= 4096 && d <= 65536) {
             return 1;
         }
-        if !(self.sized()
+        if !(self.known().sized()
             && self.lines_of.len() as u64 == self.counts[1] as u64
             && self.runs.len() as u64 == 2 * stops
             && self.rows.len() as u64 == 2 * d
-            && self.transfer_runs.len() as u64 == 2 * self.events())
+            && self.transfer_runs.len() as u64 == 2 * self.known().events())
         {
             return 2;
         }
@@ -173,19 +122,8 @@ impl Timetable {
             true,
             true,
             || (0..stops as usize).all(|s| run(s).0 + run(s).1 <= d),
-            || self.lines_of.iter().all(|&l| l < self.line_count) && self.listed_right(),
+            || self.lines_of.iter().all(|&l| l < self.line_count) && self.known().listed_right(&self.runs, &self.rows),
         )
-    }
-
-    fn listed_right(&self) -> bool {
-        self.rows.chunks(2).all(|c| c[0] < self.counts[1] && c[1] < self.at(1, c[0] as usize, 1))
-            && (0..self.counts[0] as usize).all(|s| {
-                let (a, n) = (self.runs[2 * s] as usize, self.runs[2 * s + 1] as usize);
-                (a..a + n).all(|k| {
-                    let (t, o) = (self.rows[2 * k] as usize, self.rows[2 * k + 1]);
-                    self.at(0, (self.at(1, t, 0) + o) as usize, 0) == s as u32
-                })
-            })
     }
 
     pub fn damage(&mut self, r: &mut Random) {

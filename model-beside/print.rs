@@ -65,11 +65,11 @@ fn print_tables(n: u64, c: &Case) {
 
 fn print_answer(n: u64, what: &str, tag: &str, c: &Case, g: &Given, scans: &[(u32, u32, u32)], queue: &[usize]) {
     let mut labels = vec!["Empty".to_string(); 13 * c.e.stops.len()];
-    for (k, l) in &g.labels {
-        labels[*k] = match l {
-            Shown::Access(s, a, d, m) => format!("Access {s} {a} {d} {}", float(*m)),
-            Shown::Transit(w) => format!("Transit {} {} {} {} {} {} {}", w[0], w[1], w[2], w[3], w[4], w[5], w[6]),
-            Shown::Walk(a, f, t, d, m, p) => format!("Walk {a} {f} {t} {d} {} {p}", float(*m)),
+    for (k, w, d) in &g.labels {
+        labels[*k] = match w[0] {
+            1 => format!("Access {} {} {} {}", w[1], w[2], w[3], float(*d)),
+            2 => format!("Transit {} {} {} {} {} {} {}", w[1], w[2], w[3], w[4], w[5], w[6], w[7]),
+            _ => format!("Walk {} {} {} {} {} {}", w[1], w[2], w[3], w[4], float(*d), w[5]),
         };
     }
     let (total, stop) = g.best.unwrap_or((u32::MAX, u32::MAX));

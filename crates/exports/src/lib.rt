@@ -16,8 +16,12 @@ ghost use Rattle.departures.specs.Call.{areas as departureAreas, outcomeOf as d
 ghost use Rattle.lines.specs.Call.{areas as lineAreas, outcome as linesOutcome};
 ghost use Rattle.line_layout.specs.Call.{areas as layoutAreas, outcomeOf as layoutOutcomeOf, outcome as layoutOutcome};
 ghost use Rattle.transfers.specs.Call.{areas as transferAreas, lent, outcome as transfersOutcome};
-ghost use Rattle.exports.specs.Counts.{countsOf};
+ghost use Rattle.asking.specs.Lent.{lent as lentForQuery};
+ghost use Rattle.asking.specs.Door.{workspaceAnswer};
+ghost use Rattle.query.specs.Outcome.{areas, runTbrOutcome, queryOutcome};
+ghost use Rattle.exports.specs.Counts.{countsOf, gathered, queryCountsOf};
 ghost use Rattle.exports.specs.Shown.{shown, shownOf, shownTransfers, shownTransfersOf};
+use asking::QueryCounts;
 use cell_bitset::CellBitSet;
 use cell_bitset::CellSetAnswer;
 use delays::DelayAt;
@@ -25,6 +29,7 @@ use door::Answer;
 use frequency::FreqAnswer;
 use label::LabelAnswer;
 use lines::Grouped;
+use query::Reply;
 use tables::Counts;
 use transfers::Built;
 
@@ -457,4 +462,160 @@ pub extern "C" fn savoiky_compute_trip_transfers(
         Built::Refused(v) => door::refused(v),
         Built::Rows(n) => door::given(n),
     }
+}
+
+// The counts of a query.
+#[repr(C)]
+pub struct QuerySizes {
+    pub stops: u32,
+    pub trips: u32,
+    pub times: u32,
+    pub windows: u32,
+    pub edges: u32,
+    pub cells: u32,
+    pub patterns: u32,
+    pub lines: u32,
+    pub entries: u32,
+    pub departures: u32,
+    pub transfers: u32,
+    pub delays: u32,
+    pub stop_rows: u32,
+    pub origins: u32,
+    pub egress: u32,
+}
+
+fn gather(
+    timetable: Counts,
+    cells: u32,
+    patterns: u32,
+    lines: u32,
+    entries: u32,
+    departures: u32,
+    transfers: u32,
+    delays: u32,
+    stop_rows: u32,
+    origins: u32,
+    egress: u32,
+) -> QueryCounts
+    ensures { λ r. ⌜ r ≡ gathered timetable cells patterns lines entries departures transfers delays «stop_rows» origins egress ⌝ }
+{
+    QueryCounts {
+        timetable: timetable,
+        cells: cells as usize,
+        patterns: patterns as usize,
+        lines: lines as usize,
+        entries: entries as usize,
+        departures: departures as usize,
+        transfers: transfers as usize,
+        delays: delays as usize,
+        stop_rows: stop_rows as usize,
+        origins: origins as usize,
+        egress: egress as usize,
+    }
+}
+
+fn query_counts(s: QuerySizes) -> QueryCounts
+    ensures { λ r. ⌜ r ≡ queryCountsOf s ⌝ }
+{
+    let timetable = counts(s.stops, s.trips, s.times, s.windows, s.edges);
+    gather(
+        timetable,
+        s.cells,
+        s.patterns,
+        s.lines,
+        s.entries,
+        s.departures,
+        s.transfers,
+        s.delays,
+        s.stop_rows,
+        s.origins,
+        s.egress,
+    )
+}
+
+// How many numbers of workspace a query needs. Question 1.
+#[no_mangle]
+pub extern "C" fn savoiky_work_size(sizes: QuerySizes) -> Answer
+    ensures { λ r. ⌜ r ≡ workspaceAnswer (queryCountsOf sizes) ⌝ }
+{
+    asking::workspace(query_counts(sizes))
+}
+
+// A query. `built` is what the building calls wrote, one after the other: each trip's line, the lines' runs, their entries, the
+// stops' runs, the departures, the marks, the transfer runs. Patterns are 64 bytes each. Distances: the walk edges', then the
+// origins'. The query's numbers: start, change time, wanted rounds, transfers, modes, wheelchair, switch; origins and egress
+// stops (stop, duration); delay rows (2 words), stop rows (5). Lent to be written: labels of eight words, 13 to a stop, and
+// their distances; workspace; two halves of a queue, four words a segment; candidates of three words, 13 of them.
+// Questions 1 to 6, and 8.
+
+// As the Rust answers.
+#[no_mangle]
+pub extern "C" fn savoiky_run_tbr(
+    sizes: QuerySizes,
+    tables: &[u32],
+    built: &[u32],
+    transfers: &[u32],
+    patterns: &[u8],
+    distances: &[f64],
+    query: &[u32],
+    labels: &mut [u32],
+    label_distances: &mut [f64],
+    work: &mut [u32],
+    queue_a: &mut [u32],
+    queue_b: &mut [u32],
+    candidates: &mut [u32],
+) -> Reply
+    ensures { λ r. ⌜ record { reply = r; areas = areas (now (labels .exit)) (now («label_distances» .exit)) (now (work .exit)) (now («queue_a» .exit)) (now («queue_b» .exit)) (now (candidates .exit)) } ≡ runTbrOutcome (lentForQuery (queryCountsOf sizes) (now (tables .entry)) (now (built .entry)) (now (transfers .entry)) (now (patterns .entry)) (now (distances .entry)) (now (query .entry))) (areas (now (labels .entry)) (now («label_distances» .entry)) (now (work .entry)) (now («queue_a» .entry)) (now («queue_b» .entry)) (now (candidates .entry))) ⌝ }
+{
+    query::run_tbr(
+        query_counts(sizes),
+        tables,
+        built,
+        transfers,
+        patterns,
+        distances,
+        query,
+        labels,
+        label_distances,
+        work,
+        queue_a,
+        queue_b,
+        candidates,
+    )
+}
+
+// As promised: with arc flags put off where they would skip nothing.
+#[no_mangle]
+pub extern "C" fn savoiky_query(
+    sizes: QuerySizes,
+    tables: &[u32],
+    built: &[u32],
+    transfers: &[u32],
+    patterns: &[u8],
+    distances: &[f64],
+    query: &[u32],
+    labels: &mut [u32],
+    label_distances: &mut [f64],
+    work: &mut [u32],
+    queue_a: &mut [u32],
+    queue_b: &mut [u32],
+    candidates: &mut [u32],
+) -> Reply
+    ensures { λ r. ⌜ record { reply = r; areas = areas (now (labels .exit)) (now («label_distances» .exit)) (now (work .exit)) (now («queue_a» .exit)) (now («queue_b» .exit)) (now (candidates .exit)) } ≡ queryOutcome (lentForQuery (queryCountsOf sizes) (now (tables .entry)) (now (built .entry)) (now (transfers .entry)) (now (patterns .entry)) (now (distances .entry)) (now (query .entry))) (areas (now (labels .entry)) (now («label_distances» .entry)) (now (work .entry)) (now («queue_a» .entry)) (now («queue_b» .entry)) (now (candidates .entry))) ⌝ }
+{
+    query::query(
+        query_counts(sizes),
+        tables,
+        built,
+        transfers,
+        patterns,
+        distances,
+        query,
+        labels,
+        label_distances,
+        work,
+        queue_a,
+        queue_b,
+        candidates,
+    )
 }

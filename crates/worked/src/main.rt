@@ -1,15 +1,15 @@
 // worked: the program behind ./run. It answers the worked examples of document 01's leaves (Timetable K) by the exported
 // calls and prints them for a person to read; the gate holds what it prints to the file `stdout`.
 // Proves: that it is safe and ends. Assumes the contracts of the kit's io and libc.
-use libc::STDOUT_FILENO;
+mod asking;
+mod building;
+mod k;
+mod legs;
+mod town;
+mod words;
 
-fn say(text: &[u8]) {
-    io::write_all(STDOUT_FILENO, text);
-}
-
-fn number(n: u32) {
-    io::print_decimal(STDOUT_FILENO, n as u64);
-}
+use crate::words::number;
+use crate::words::say;
 
 // A value, or the question that refused it.
 fn answer(a: door::Answer) {
@@ -93,4 +93,6 @@ fn main() {
     say(b"Service seconds of clock readings\n");
     clock(b"  25:10:00 is ", 25, 10, 0);
     clock(b"  48:00:00 is ", 48, 0, 0);
+    k::run();
+    town::run();
 }

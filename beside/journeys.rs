@@ -1,0 +1,183 @@
+// Plain days, and all journeys and ways on them, as crates/model/specs/Promise.antt defines them; no search of the Rust's stands here.
+use std::collections::BTreeSet;
+
+// no time falls
+fn rising_times(e: &mut StaticEpoch) {
+    for t in &e.trips {
+        let mut last = 0;
+        for s in &mut e.stop_times[t.stop_time_start as usize..(t.stop_time_start + t.stop_time_len) as usize] {
+            s.arrival_s = s.arrival_s.max(last);
+            s.departure_s = s.departure_s.max(s.arrival_s);
+            last = s.departure_s;
+        }
+    }
+}
+
+// where one trip of a line is listed all are, save some whose pickup is 1
+fn list_evenly(r: &mut Random, e: &mut StaticEpoch) {
+    let mut listed = vec![vec![]; e.stops.len()];
+    for line in &e.line_trips {
+        let len = e.trips[line[0] as usize].stop_time_len;
+        for o in 0..len {
+            if !(o + 1 < len || r.yes(20)) || r.yes(8) {
+                continue;
+            }
+            for t in line {
+                let s = &e.stop_times[(e.trips[*t as usize].stop_time_start + o) as usize];
+                if s.pickup_type != 1 || r.yes(50) {
+                    listed[s.stop_idx as usize].push((*t, o));
+                }
+            }
+        }
+    }
+    e.stop_departures = listed;
+}
+
+// the shortest walks between stops, of any number of edges, with this query's durations
+fn shortest(c: &Case) -> Vec<Vec<u64>> {
+    let n = c.e.stops.len();
+    let mut d = vec![vec![u64::MAX / 4; n]; n];
+    for w in &c.e.walk_edges {
+        let at = &mut d[w.from_stop_idx as usize][w.to_stop_idx as usize];
+        *at = (*at).min(w.effective_duration_s(c.q.wheelchair) as u64);
+    }
+    for k in 0..n {
+        for i in 0..n {
+            for j in 0..n {
+                d[i][j] = d[i][j].min(d[i][k] + d[k][j]);
+            }
+        }
+    }
+    d
+}
+
+// walks complete: an edge, and an origin, for each shortest walk
+fn complete_walks(c: &mut Case) {
+    let d = shortest(c);
+    let n = c.e.stops.len();
+    for (i, row) in d.iter().enumerate() {
+        for (j, v) in row.iter().enumerate().filter(|(j, v)| *j != i && **v <= LIMIT as u64) {
+            c.e.walk_edges.push(WalkEdge { from_stop_idx: i as u32, to_stop_idx: j as u32, duration_s: *v as u32, distance_m: 1.0, pathway_mode: None });
+        }
+    }
+    c.e.walk_edges.sort_by_key(|w| w.from_stop_idx);
+    c.e.walk_adj = (0..n).map(|s| (0..c.e.walk_edges.len()).filter(|k| c.e.walk_edges[*k].from_stop_idx as usize == s).collect()).collect();
+    c.e.arc_flag_pattern = c.e.walk_edges.iter().enumerate().map(|(i, _)| i as u32 % 4).collect();
+    for j in 0..n {
+        let walked = c.origins.iter().map(|o| o.duration_s as u64 + d[o.stop_idx as usize][j]).min();
+        if let Some(v) = walked.filter(|v| *v <= LIMIT as u64) {
+            c.origins.push(access(j as u32, v as u32, 0.5));
+        }
+    }
+}
+
+fn plain_day(r: &mut Random) -> Case {
+    let kind = 4 * r.below(2);
+    let which = [1, 3][r.below(2) as usize];
+    let mut c = lively(r, kind, which);
+    rising_times(&mut c.e);
+    build_lines(&mut c.e);
+    list_evenly(r, &mut c.e);
+    complete_walks(&mut c);
+    build_all(&mut c.e);
+    // the flags skip nothing
+    for p in c.e.flag_patterns.iter_mut() {
+        *p = gtfs::cell_bitset::CellBitSet::new(130);
+        (0..130).for_each(|k| p.set_bit(k));
+    }
+    c
+}
+
+fn stop_time_of(e: &StaticEpoch, t: u32, o: u32) -> &PackedStopTime {
+    &e.stop_times[(e.trips[t as usize].stop_time_start + o) as usize]
+}
+
+fn permitted(c: &Case, t: u32) -> bool {
+    let trip = &c.e.trips[t as usize];
+    c.e.active[t as usize]
+        && !c.q.excluded_trip_ids.contains(&trip.id)
+        && (c.modes == 0 || c.modes >> MODES.iter().position(|m| *m == trip.mode).unwrap() & 1 == 1)
+        && !(c.q.wheelchair && trip.wheelchair == 2)
+}
+
+// may trip t be boarded at offset o at stop x, standing there at v with so much change time before it?
+fn boards(c: &Case, x: u32, t: u32, o: u32, v: u32, change: u32) -> bool {
+    let s = stop_time_of(&c.e, t, o);
+    permitted(c, t) && s.pickup_type != 1 && v + change <= s.departure_s && c.e.stop_departures[x as usize].contains(&(t, o))
+}
+
+// where and when it may be left
+fn alights(c: &Case, t: u32, o: u32) -> Vec<(u32, u32)> {
+    let len = c.e.trips[t as usize].stop_time_len;
+    (o + 1..len).map(|p| stop_time_of(&c.e, t, p)).filter(|s| s.drop_off_type != 1).map(|s| (s.stop_idx, s.arrival_s)).collect()
+}
+
+fn walked(c: &Case, x: u32, v: u32) -> Vec<(u32, u32)> {
+    c.e.walk_edges.iter().filter(|w| w.from_stop_idx == x).map(|w| (w.to_stop_idx, v + w.effective_duration_s(c.q.wheelchair))).collect()
+}
+
+// the earliest arrival of a whole journey of at most n rides, for each n up to the rounds
+fn journeys(c: &Case) -> Vec<u32> {
+    let mut at: BTreeSet<(u32, u32)> = c.origins.iter().map(|o| (o.stop_idx, c.start + o.duration_s)).collect();
+    let mut out = vec![];
+    for n in 0..=routing::tbr::rounds(&c.q) as u32 {
+        let arrives = at.iter().filter_map(|(x, v)| c.egress.get(x).map(|e| v + e.duration_s)).min().unwrap_or(u32::MAX);
+        out.push(arrives.min(*out.last().unwrap_or(&u32::MAX)));
+        let change = if n == 0 { 0 } else { c.q.default_transfer_s };
+        let mut rode = BTreeSet::new();
+        for (x, v) in &at {
+            for (t, o) in c.e.stop_departures[*x as usize].iter().filter(|d| boards(c, *x, d.0, d.1, *v, change)) {
+                rode.extend(alights(c, *t, *o));
+            }
+        }
+        at = rode.iter().flat_map(|(x, v)| walked(c, *x, *v)).chain(rode.iter().copied()).collect();
+    }
+    out
+}
+
+// all ways that stand at a stop no later than `end`: (stop, time, round of the last ride)
+fn ways(c: &Case, scans: &[(u32, u32, u32)], end: u32) -> BTreeSet<(u32, u32, u32)> {
+    let mut todo: Vec<(u32, u32, u32)> = c.origins.iter().map(|o| (o.stop_idx, c.start + o.duration_s, 0)).collect();
+    let mut seen = BTreeSet::new();
+    while let Some((x, v, q)) = todo.pop() {
+        if v > end || !seen.insert((x, v, q)) {
+            continue;
+        }
+        todo.extend(walked(c, x, v).into_iter().map(|(y, w)| (y, w, q)));
+        for (r, t, o) in scans.iter().filter(|s| s.0 >= q) {
+            if boards(c, x, *t, *o, v, if *r == 0 { 0 } else { c.q.default_transfer_s }) {
+                todo.extend(alights(c, *t, *o).into_iter().map(|(y, w)| (y, w, *r)));
+            }
+        }
+    }
+    seen
+}
+
+// demand 3 of an answer: no journey arrives earlier, "no way" only if there is none, each total is the arrival of a way; and for at most n rides a
+// candidate of row n or lower arrives no later than any journey within 3,600 s of the best
+fn demand_3(c: &Case, total: u32, stop: u32, candidates: &[[u32; 3]]) -> bool {
+    let earliest = journeys(c);
+    if earliest.iter().any(|v| *v < total) {
+        return false;
+    }
+    if total == u32::MAX {
+        return true;
+    }
+    let scans = run(c, switch(Call::Query, c)).1;
+    let last = candidates.iter().map(|k| k[0]).max().unwrap_or(0).max(total);
+    let ways = ways(c, &scans, last);
+    let arrives = |v: u32, s: u32| c.egress.contains_key(&s) && ways.iter().any(|w| w.0 == s && w.1 + c.egress[&s].duration_s == v);
+    let covered = |n: usize, v: u32| v > total + 3600 || candidates.iter().any(|k| k[0] <= v && k[2] as usize <= n);
+    arrives(total, stop) && candidates.iter().all(|k| arrives(k[0], k[1])) && earliest.iter().enumerate().all(|(n, v)| *v == u32::MAX || covered(n, *v))
+}
+
+fn plain_search(r: &mut Random, t: &mut Tallies) {
+    let c = plain_day(r);
+    let x = lend(r, &c, false);
+    let mut a = areas(r, &x.sizes, 4096);
+    let reply = ask_ours(Call::Query, &x, &mut a);
+    let candidates: Vec<[u32; 3]> = a.candidates.chunks(3).take(reply.candidates as usize).map(|k| k.try_into().unwrap()).collect();
+    t.plain.compared += 1;
+    t.plain.no_way += (reply.total == u32::MAX) as u64;
+    t.plain.differed += (reply.code != 0 || !demand_3(&c, reply.total, reply.stop, &candidates)) as u64;
+}

@@ -1,0 +1,81 @@
+// Stand-ins for the calls (`--cfg mock`), to try the comparison itself: they give what it expects. MUTANT=1.. makes them wrong in one way each.
+fn mutant() -> u32 {
+    static N: std::sync::OnceLock<u32> = std::sync::OnceLock::new();
+    *N.get_or_init(|| std::env::var("MUTANT").map(|m| m.parse().unwrap()).unwrap_or(0))
+}
+
+// one thing wrong, where it can show
+fn wrong(call: Call, x: &Lent, a: &Areas, o: &mut Outcome) {
+    let ok = o.reply.code == 0;
+    match mutant() {
+        // a label row that keeps what was in it
+        1 if ok && a.labels.len() > 103 => o.areas.labels[97] = a.labels[97],
+        // a queue half that is just full, taken as too short
+        2 if ok && o.flagged && run(&x.read(), switch(call, &x.read())).2.iter().any(|n| *n > 0 && *n == a.queue_a.len() / 4) => {
+            *o = Outcome { reply: reply(8, 0, 0, 0), areas: a.clone(), flagged: true };
+            clear(&mut o.areas);
+        }
+        // a candidate's row
+        3 if o.reply.candidates > 1 => o.areas.candidates[5] += 1,
+        // `query` with the flags on, though they skip nothing
+        4 if ok && call == Call::Query => *o = searched(Call::RunTbr, &x.read(), a),
+        // equal totals go to the highest stop
+        5 if ok && o.reply.total != u32::MAX => {
+            let c = x.read();
+            let labels = run(&c, switch(call, &c)).0.labels;
+            let total = |s: &u32| reached(&labels, *s).map(|v| v + c.egress[s].duration_s);
+            o.reply.stop = *c.egress.keys().rev().find(|s| total(s) == Some(o.reply.total)).unwrap();
+        }
+        // a NaN that loses its payload
+        6 => o.areas.label_distances.iter_mut().filter(|d| f64::from_bits(**d).is_nan() && ok).for_each(|d| *d = f64::NAN.to_bits()),
+        // a refusal by 6 that has cleared the workspace
+        7 if o.reply.code == 6 => o.areas.work.fill(0),
+        // question 5 before question 4
+        8 if o.reply.code == 4 && !x.question_5(&x.sections()) => o.reply.code = 5,
+        // egress stops or departures out of order, let in
+        9 if o.reply.code == 6 && x.sections().delays.ordered() && x.rows().ordered() => o.reply.code = 0,
+        // the workspace's last word
+        10 if ok => *o.areas.work.last_mut().unwrap() = 1,
+        // candidates cleared after 8
+        11 if o.reply.code == 8 => o.areas.candidates.fill(0),
+        // a best total that is one second late, where there are three candidates
+        12 if ok && call == Call::Query && o.reply.total != u32::MAX && o.reply.candidates > 2 => o.reply.total += 1,
+        _ => {}
+    }
+}
+
+unsafe fn words<T: Clone>(p: *const T, n: usize) -> Vec<T> {
+    std::slice::from_raw_parts(p, n).to_vec()
+}
+
+macro_rules! stand_in {
+    ($name:ident, $call:expr) => {
+        pub unsafe extern "C" fn $name(
+            sizes: QuerySizes, t: *const u32, tn: usize, b: *const u32, bn: usize, x: *const u32, xn: usize, p: *const u8, pn: usize, d: *const f64, dn: usize,
+            q: *const u32, qn: usize, l: *mut u32, ln: usize, ld: *mut f64, ldn: usize, w: *mut u32, wn: usize, qa: *mut u32, qan: usize, qb: *mut u32,
+            qbn: usize, c: *mut u32, cn: usize,
+        ) -> Reply {
+            let lent = Lent {
+                sizes, tables: words(t, tn), built: words(b, bn), transfers: words(x, xn), patterns: words(p, pn), distances: words(d as *const u64, dn),
+                query: words(q, qn),
+            };
+            let a = Areas {
+                labels: words(l, ln), label_distances: words(ld as *const u64, ldn), work: words(w, wn), queue_a: words(qa, qan), queue_b: words(qb, qbn),
+                candidates: words(c, cn),
+            };
+            let mut o = outcome($call, &lent, &a);
+            wrong($call, &lent, &a, &mut o);
+            for (to, from) in [(l, &o.areas.labels), (w, &o.areas.work), (qa, &o.areas.queue_a), (qb, &o.areas.queue_b), (c, &o.areas.candidates)] {
+                std::ptr::copy_nonoverlapping(from.as_ptr(), to, from.len());
+            }
+            std::ptr::copy_nonoverlapping(o.areas.label_distances.as_ptr(), ld as *mut u64, ldn);
+            o.reply
+        }
+    };
+}
+stand_in!(savoiky_run_tbr, Call::RunTbr);
+stand_in!(savoiky_query, Call::Query);
+
+pub unsafe extern "C" fn savoiky_work_size(n: QuerySizes) -> Answer {
+    work_outcome(&n)
+}

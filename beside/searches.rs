@@ -1,0 +1,470 @@
+// Random searches: tables and queries as the Rust has them, and the reference's answers to them.
+// KIND, a sum: 1 frequency windows, 2 delays, 4 arc flags, 8 hand-made lines, marks, departures and transfers.
+// Every case has a yes to every question at the door.
+use gtfs::pack::*;
+use routing::journey::*;
+use routing::tbr::{ask, Given};
+use routing::walk::AccessStop;
+use std::cell::RefCell;
+use std::collections::{BTreeMap, HashMap, HashSet};
+
+thread_local! {
+    static SCANS: RefCell<Vec<(u32, u32, u32)>> = RefCell::new(vec![]);
+    static QUEUED: RefCell<Vec<usize>> = RefCell::new(vec![]);
+}
+pub fn record_scan(round: u32, trip: u32, offset: u32) {
+    SCANS.with(|s| s.borrow_mut().push((round, trip, offset)))
+}
+pub fn record_queue(n: usize) {
+    QUEUED.with(|q| q.borrow_mut().push(n))
+}
+
+// a pattern: its cells, and for how many cells it was made
+type Cells = (u32, Vec<u32>);
+
+#[derive(Clone)]
+struct Case {
+    e: StaticEpoch,
+    listed: Vec<Vec<(u32, u32)>>,
+    patterns: Vec<Cells>,
+    q: ItineraryQuery,
+    modes: u32,
+    delays: Vec<(u32, i32)>,
+    stop_rows: Vec<[u32; 5]>,
+    start: u32,
+    origins: Vec<AccessStop>,
+    egress: BTreeMap<u32, AccessStop>,
+    off: bool,
+}
+
+const MODES: [RouteMode; 7] = [RouteMode::Tram, RouteMode::Metro, RouteMode::Rail, RouteMode::Bus, RouteMode::Ferry, RouteMode::Coach, RouteMode::Other];
+
+fn access(s: u32, d: u32, m: f64) -> AccessStop {
+    AccessStop { stop_idx: s, duration_s: d, distance_m: m, geometry: None }
+}
+
+fn at_stop(stop_idx: u32, arrival_s: u32, departure_s: u32, stop_sequence: u32, (pickup_type, drop_off_type): (u8, u8)) -> PackedStopTime {
+    PackedStopTime { stop_idx, arrival_s, departure_s, stop_sequence, pickup_type, drop_off_type, stop_headsign_idx: 0, timepoint: 1, shape_dist_traveled: None }
+}
+
+// how many stops, shapes and trips a case has at most beyond the least (3, 1, 3); and of a hundred: shapes that begin where the one before ends,
+// to be left later; queries from the first shape's begin to a shape's end; queries for 20 rounds; queries for some modes only;
+// stops with walk edges
+struct Size {
+    stops: u32,
+    shapes: u32,
+    trips: u32,
+    chained: u32,
+    far: u32,
+    long: u32,
+    choosy: u32,
+    walks: u32,
+}
+
+const SMALL: Size = Size { stops: 3, shapes: 3, trips: 7, chained: 0, far: 0, long: 5, choosy: 35, walks: 50 };
+const LARGE: Size = Size { stops: 57, shapes: 14, trips: 77, chained: 90, far: 85, long: 50, choosy: 6, walks: 50 };
+const LADDER: Size = Size { stops: 0, shapes: 0, trips: 0, chained: 0, far: 90, long: 70, choosy: 3, walks: 8 };
+
+// shapes, each with how much later than others its trips leave
+fn shapes(r: &mut Random, ns: u32, size: &Size) -> Vec<(Vec<u32>, u32)> {
+    let mut out: Vec<(Vec<u32>, u32)> = vec![];
+    for _ in 0..1 + r.below(size.shapes + 1) {
+        let mut shape: Vec<u32> = (0..2 + r.below(4)).map(|_| r.below(ns)).collect();
+        let mut later = 0;
+        if r.yes(size.chained) {
+            if let Some((before, late)) = out.last() {
+                (shape[0], later) = (*before.last().unwrap(), late + 60 + r.below(250));
+            }
+        }
+        out.push((shape, later));
+    }
+    out
+}
+
+// trips over a few shapes, some of them on stop times that another trip has too
+fn trips(r: &mut Random, e: &mut StaticEpoch, windows: bool, size: &Size, shapes: &[(Vec<u32>, u32)]) -> Vec<Vec<(u32, u32)>> {
+    let ns = e.stops.len() as u32;
+    let mut listed = vec![vec![]; ns as usize];
+    for t in 0..3 + r.below(size.trips + 1) {
+        let shared = t > 0 && r.yes(12);
+        let (first, len) = if shared {
+            let u = &e.trips[r.below(t as u32) as usize];
+            let cut = if u.stop_time_len > 2 && r.yes(30) { 1 } else { 0 };
+            (u.stop_time_start + if r.yes(50) { cut } else { 0 }, u.stop_time_len - cut)
+        } else {
+            let (shape, later) = &shapes[r.below(shapes.len() as u32) as usize];
+            let first = e.stop_times.len() as u32;
+            let mut time = 50 + 30 * r.below(20) + later;
+            for (o, s) in shape.iter().enumerate() {
+                let arrival_s = time;
+                let departure_s = if r.yes(4) { arrival_s.saturating_sub(20) } else { arrival_s + 10 * r.below(3) };
+                time = if r.yes(4) { departure_s.saturating_sub(15) } else { departure_s + 20 * r.below(7) };
+                let mut code = || if r.yes(12) { r.below(4) as u8 } else { 0 };
+                let codes = (code(), code());
+                e.stop_times.push(at_stop(*s, arrival_s, departure_s, o as u32 + r.below(2), codes));
+            }
+            (first, shape.len() as u32)
+        };
+        enter(r, e, &mut listed, windows, size, (first, len));
+    }
+    shuffle(r, &mut listed);
+    listed
+}
+
+// its departures, listed in any order
+fn shuffle(r: &mut Random, listed: &mut [Vec<(u32, u32)>]) {
+    for d in listed.iter_mut().filter(|d| d.len() > 1) {
+        for _ in 0..3 {
+            let (i, j) = (r.below(d.len() as u32) as usize, r.below(d.len() as u32) as usize);
+            d.swap(i, j);
+        }
+    }
+}
+
+// a trip on these stop times; most of its departures but the last are listed
+fn enter(r: &mut Random, e: &mut StaticEpoch, listed: &mut [Vec<(u32, u32)>], windows: bool, size: &Size, (first, len): (u32, u32)) {
+    let t = e.trips.len() as u32;
+    for o in 0..len {
+        if (o + 1 < len || r.yes(20)) && !r.yes(6) {
+            listed[e.stop_times[(first + o) as usize].stop_idx as usize].push((t, o));
+        }
+    }
+    let mut w = vec![];
+    if windows && r.yes(40) {
+        for _ in 0..1 + r.below(2) {
+            let s = 60 * r.below(10);
+            w.push(FrequencyWindow { start_s: s, end_s: s + 50 * r.below(10), headway_s: 20 * r.below(6) });
+        }
+    }
+    let (wheelchair, mode) = (if r.yes(80) { 0 } else { r.below(3) as u8 }, MODES[r.below(7) as usize]);
+    e.trips.push(GlobalTrip { id: format!("t{t}"), wheelchair, mode, stop_time_start: first, stop_time_len: len, frequency_windows: w });
+    e.trip_id_to_idx.insert(format!("t{t}"), t);
+    e.active.push(!r.yes(size.choosy / 3));
+}
+
+// a ladder: rides from each stop to the next, and from each one to the last, the earlier there the more rides came before
+fn rungs(r: &mut Random, m: u32) -> Vec<(u32, u32, u32, u32)> {
+    let mut rides = vec![];
+    for k in 0..m {
+        rides.extend((0..1 + r.below(2)).map(|late| (k, k + 1, 200 * k + 100 + 5 * late, 200 * k + 170)));
+        rides.push((k, m, 200 * k + 110, 6000 - 150 * k + r.below(200)));
+    }
+    rides
+}
+
+// trips of one ride each: from, to, departure, arrival
+fn rides_of(r: &mut Random, e: &mut StaticEpoch, windows: bool, rides: &[(u32, u32, u32, u32)]) -> Vec<Vec<(u32, u32)>> {
+    let mut listed = vec![vec![]; e.stops.len()];
+    for &(from, to, leaves, arrives) in rides {
+        let first = e.stop_times.len() as u32;
+        e.stop_times.extend([at_stop(from, leaves, leaves, 0, (0, 0)), at_stop(to, arrives, arrives, 1, (0, 0))]);
+        let windows = windows && r.yes(10);
+        enter(r, e, &mut listed, windows, &LADDER, (first, 2));
+    }
+    shuffle(r, &mut listed);
+    listed
+}
+
+fn walks(r: &mut Random, e: &mut StaticEpoch, size: &Size) {
+    let ns = e.stops.len() as u32;
+    e.walk_adj = vec![vec![]; ns as usize];
+    for from in 0..ns {
+        for _ in 0..if r.yes(size.walks) { r.below(3) } else { 0 } {
+            e.walk_adj[from as usize].push(e.walk_edges.len());
+            let (to_stop_idx, duration_s, distance_m) = (r.below(ns), 10 * r.below(8), (2 * r.below(3) + 1) as f64);
+            let pathway_mode = if r.yes(30) { None } else { Some(1 + r.below(7) as u8) };
+            e.walk_edges.push(WalkEdge { from_stop_idx: from, to_stop_idx, duration_s, distance_m, pathway_mode });
+        }
+    }
+}
+
+// cells, and patterns that hold some, all or none of them; numbers past the tables
+fn flags(r: &mut Random, e: &mut StaticEpoch, on: bool) -> Vec<Cells> {
+    e.num_cells = [1, 3, 3, 64, 65, 130, 0][r.below(if on { 6 } else { 7 }) as usize];
+    let cells = [0, 1, 2, 63, 64, 127, 128, 129];
+    let near = if e.num_cells < 64 { 3 } else { 8 };
+    for _ in 0..e.stops.len() {
+        e.stop_partition.push(if r.yes(5) { 1000 } else { cells[r.below(near) as usize] });
+    }
+    let mut patterns = vec![];
+    let dense = [30, 65, 100][r.below(3) as usize];
+    for _ in 0..if on { 1 + r.below(3) } else { 0 } {
+        let made = if r.yes(20) { [1, 65, 130][r.below(3) as usize] } else { e.num_cells };
+        let held: Vec<u32> = cells.iter().copied().filter(|_| r.yes(dense)).collect();
+        let mut c = gtfs::cell_bitset::CellBitSet::new(made);
+        held.iter().for_each(|&k| c.set_bit(k as usize));
+        e.flag_patterns.push(c);
+        patterns.push((made, held));
+    }
+    let np = patterns.len() as u32;
+    for _ in 0..e.walk_edges.len() {
+        e.arc_flag_pattern.push(if r.yes(90) { r.below(np.max(1)) } else { r.below(5) });
+    }
+    if on && r.yes(70) {
+        for x in e.trip_transfers.iter_mut().flatten().flatten() {
+            x.flag_pattern = if r.yes(90) { r.below(np) } else { r.below(5) };
+        }
+    }
+    patterns
+}
+
+// a transfer's target is not active; in its line there follow about as many entries that are not active either as a transfer tries
+fn long_line(r: &mut Random, e: &mut StaticEpoch) {
+    let nt = e.trips.len() as u32;
+    let targets: Vec<u32> = e.trip_transfers.iter().flatten().flatten().map(|x| x.target_trip).collect();
+    let y = r.below(nt);
+    if targets.is_empty() {
+        return;
+    }
+    let a = targets[r.below(targets.len() as u32) as usize];
+    if a == y {
+        return;
+    }
+    (e.active[a as usize], e.active[y as usize]) = (false, false);
+    let line = &mut e.line_trips[e.line_of_trip[a as usize] as usize];
+    line.retain(|t| *t != a);
+    (0..61 + r.below(4)).for_each(|_| line.insert(0, y));
+    line.insert(0, a);
+}
+
+// lines, marks, departures and transfers that no building call wrote
+fn by_hand(r: &mut Random, e: &mut StaticEpoch) {
+    let (nt, nl) = (e.trips.len() as u32, e.line_trips.len() as u32);
+    for m in e.stop_has_freq.iter_mut().filter(|_| r.yes(30)) {
+        *m = !*m;
+    }
+    for i in 0..e.line_of_trip.len() {
+        if r.yes(15) {
+            e.line_of_trip[i] = r.below(nl);
+        }
+    }
+    for l in e.line_trips.iter_mut() {
+        if r.yes(30) && !l.is_empty() {
+            let i = r.below(l.len() as u32) as usize;
+            l[i] = r.below(nt);
+        }
+        if r.yes(20) {
+            l.push(r.below(nt));
+        }
+        if r.yes(10) {
+            l.pop();
+        }
+    }
+    if r.yes(40) {
+        long_line(r, e);
+    }
+    for d in e.stop_departures.iter_mut() {
+        if r.yes(30) && !d.is_empty() {
+            let i = r.below(d.len() as u32) as usize;
+            if r.yes(50) {
+                d.remove(i);
+            } else {
+                d.insert(i, d[i]);
+            }
+        }
+    }
+    for x in e.trip_transfers.iter_mut().flatten().flatten() {
+        if r.yes(8) {
+            (x.target_trip, x.target_board_off) = (r.below(nt + 2), r.below(5));
+        }
+        if r.yes(15) {
+            x.min_transfer_s = 30 * r.below(5);
+        }
+    }
+    for _ in 0..r.below(3) {
+        let t = r.below(nt) as usize;
+        let o = r.below(e.trip_transfers[t].len() as u32) as usize;
+        e.trip_transfers[t][o].push(TripTransferEntry { target_trip: r.below(nt), target_board_off: r.below(4), min_transfer_s: 30 * r.below(5), flag_pattern: r.below(4) });
+    }
+}
+
+// delay rows by trip, stop rows by row and sequence, some skipped, and one of an unknown trip, at times past the margin's cap
+fn late(r: &mut Random, c: &mut Case) {
+    // at times all delays are longer than the cap, and the query is as much later; at times most trips run early
+    let far = if r.yes(12) { 22000 } else if r.yes(20) { -250 } else { 0 };
+    c.start += if far > 0 { 21800 } else { 0 };
+    for t in 0..c.e.trips.len() as u32 {
+        if !r.yes(if far != 0 { 85 } else { 45 }) {
+            continue;
+        }
+        let mut adj = RtTripAdjust { trip_delay_s: far + r.below(400) as i32 - 150, ..Default::default() };
+        for sequence in 0..5u32 {
+            if !r.yes(35) {
+                continue;
+            }
+            let (flags, dep, arr) = (r.below(8), far + r.below(300) as i32 - 120, far + r.below(300) as i32 - 120);
+            if flags & 1 != 0 {
+                adj.dep_delay.insert(sequence, dep);
+            }
+            if flags & 2 != 0 {
+                adj.arr_delay.insert(sequence, arr);
+            }
+            if flags & 4 != 0 {
+                adj.skipped.insert(sequence);
+            }
+            c.stop_rows.push([c.delays.len() as u32, sequence, flags, dep as u32, arr as u32]);
+        }
+        c.delays.push((t, adj.trip_delay_s));
+        c.q.rt_adjust.insert(format!("t{t}"), adj);
+    }
+    if r.yes(25) {
+        let delay = if r.yes(30) { 30000 - 60000 * r.below(2) as i32 } else { r.below(900) as i32 - 450 };
+        c.q.rt_adjust.insert("unknown".into(), RtTripAdjust { trip_delay_s: delay, ..Default::default() });
+        c.delays.push((u32::MAX, delay));
+    }
+}
+
+// modes, rounds, wheelchair, change time, excluded trips
+fn settings(r: &mut Random, e: &StaticEpoch, size: &Size) -> (ItineraryQuery, u32) {
+    let mut q = ItineraryQuery {
+        raptor_max_rounds: if r.yes(size.long) { 20 } else { r.below(7) }, max_transfers: if r.yes(5) { u32::MAX } else { r.below(4) }, wheelchair: r.yes(30),
+        default_transfer_s: [0, 30, 120, 121][r.below(4) as usize], ..Default::default()
+    };
+    let modes = if r.yes(size.choosy) { r.below(127) + 1 } else { 0 };
+    if modes > 0 {
+        q.modes = Some((0..7).filter(|m| (modes >> m) & 1 == 1).map(|m| MODES[m]).collect());
+    }
+    for t in 0..e.trips.len() {
+        if r.yes(size.choosy / 3) {
+            q.excluded_trip_ids.insert(format!("t{t}"));
+        }
+    }
+    (q, modes)
+}
+
+// origins, some at one stop, and egress stops; now and then none
+fn ends(r: &mut Random, ns: u32) -> (Vec<AccessStop>, BTreeMap<u32, AccessStop>) {
+    let mut origins: Vec<AccessStop> = (0..1 + r.below(3)).map(|_| access(r.below(ns), 10 * r.below(6), r.below(4) as f64)).collect();
+    if r.yes(25) {
+        let again = origins[0].stop_idx;
+        origins.push(access(again, 10 * r.below(6), r.below(4) as f64));
+    }
+    let mut egress = BTreeMap::new();
+    for _ in 0..1 + r.below(3) {
+        let s = r.below(ns);
+        egress.insert(s, access(s, 7 * r.below(5), 0.0));
+    }
+    // a long walk to an egress stop: a candidate of row 0, at times later than the best by more than the slack
+    if r.yes(15) {
+        origins.push(access(*egress.keys().next().unwrap(), 3600 + 100 * r.below(12), 1.0));
+    }
+    if r.yes(1) {
+        origins.clear();
+    }
+    if r.yes(1) {
+        egress.clear();
+    }
+    (origins, egress)
+}
+
+// from the first shape's begin to the end of a later one, early
+fn far(r: &mut Random, shapes: &[(Vec<u32>, u32)]) -> (Vec<AccessStop>, BTreeMap<u32, AccessStop>, u32) {
+    let mut egress = BTreeMap::new();
+    for _ in 0..1 + r.below(2) {
+        let shape = &shapes[(r.below(shapes.len() as u32).max(r.below(shapes.len() as u32))) as usize].0;
+        egress.insert(*shape.last().unwrap(), access(*shape.last().unwrap(), 7 * r.below(400), 0.0));
+    }
+    let mut origins = vec![access(shapes[0].0[0], 10 * r.below(6), r.below(4) as f64)];
+    if r.yes(20) {
+        origins.push(access(*egress.keys().next().unwrap(), 2500 + r.below(4000), 2.0));
+    }
+    (origins, egress, 30 * r.below(3))
+}
+
+fn build_all(e: &mut StaticEpoch) {
+    build_departures(e);
+    build_lines(e);
+    build_transfers(e);
+}
+
+fn case(r: &mut Random, kind: u32, size: &Size) -> Case {
+    let mut e = StaticEpoch::default();
+    e.stops = (0..3 + r.below(size.stops + 1)).collect();
+    let ns = e.stops.len() as u32;
+    let shapes = shapes(r, ns, size);
+    let listed = trips(r, &mut e, kind & 1 != 0, size, &shapes);
+    asked_of(r, e, listed, &shapes, kind, size)
+}
+
+fn ladder(r: &mut Random, kind: u32) -> Case {
+    let mut e = StaticEpoch::default();
+    e.stops = (0..4 + r.below(14)).collect();
+    let m = e.stops.len() as u32 - 1;
+    let rides = rungs(r, m);
+    let listed = rides_of(r, &mut e, kind & 1 != 0, &rides);
+    asked_of(r, e, listed, &[(vec![0, m], 0)], kind, &LADDER)
+}
+
+// one ride, then a line of close departures, and a walk to the end that is about as fast: delays decide
+fn close(r: &mut Random, kind: u32) -> Case {
+    let mut e = StaticEpoch::default();
+    e.stops = (0..4).collect();
+    let mut rides = vec![(0, 1, 100, 200)];
+    rides.extend((0..2 + r.below(5)).map(|k| (1, 2, 320 + 40 * k, 400 + 40 * k)));
+    let listed = rides_of(r, &mut e, kind & 1 != 0, &rides);
+    let mut c = asked_of(r, e, listed, &[(vec![0, 2], 0)], kind, &LADDER);
+    c.origins.push(access(2, 250 + r.below(400), 3.0));
+    c.egress.values_mut().for_each(|a| a.duration_s = r.below(30));
+    c
+}
+
+// walks, flags and a query on these trips
+fn asked_of(r: &mut Random, mut e: StaticEpoch, listed: Vec<Vec<(u32, u32)>>, shapes: &[(Vec<u32>, u32)], kind: u32, size: &Size) -> Case {
+    let ns = e.stops.len() as u32;
+    e.stop_departures = listed.clone();
+    build_all(&mut e);
+    walks(r, &mut e, size);
+    let patterns = flags(r, &mut e, kind & 4 != 0);
+    if kind & 8 != 0 {
+        by_hand(r, &mut e);
+    }
+    let (q, modes) = settings(r, &e, size);
+    let (mut origins, mut egress) = ends(r, ns);
+    let mut start = 30 * r.below(16);
+    if r.yes(size.far) {
+        (origins, egress, start) = far(r, shapes);
+    }
+    let off = r.yes(15);
+    let mut c = Case { e, listed, patterns, q, modes, delays: vec![], stop_rows: vec![], start, origins, egress, off };
+    if kind & 2 != 0 {
+        late(r, &mut c);
+    }
+    c
+}
+
+// the reference's answer; then its scans and queue lengths, last first
+fn run(c: &Case, off: bool) -> (Given, Vec<(u32, u32, u32)>, Vec<usize>) {
+    SCANS.with(|s| s.borrow_mut().clear());
+    QUEUED.with(|q| q.borrow_mut().clear());
+    let egress = c.egress.iter().map(|(s, a)| (*s, a.clone())).collect();
+    let g = ask(&c.e, &c.q, c.start, &c.origins, &egress, off);
+    let (mut s, mut q) = (SCANS.with(|s| s.borrow().clone()), QUEUED.with(|q| q.borrow().clone()));
+    s.reverse();
+    q.reverse();
+    (g, s, q)
+}
+
+// the cells of the egress stops; are the flags on (`use_arc_flags`)?
+fn target_cells(c: &Case) -> gtfs::cell_bitset::CellBitSet {
+    let mut target = gtfs::cell_bitset::CellBitSet::new(c.e.num_cells);
+    c.egress.keys().for_each(|s| target.set_bit(c.e.stop_partition[*s as usize] as usize));
+    target
+}
+fn flags_on(c: &Case) -> bool {
+    !target_cells(c).is_empty() && !c.e.flag_patterns.is_empty() && !c.off
+}
+
+// are the flags on, and do they skip nothing? Then `query` puts them off.
+fn skip_nothing(c: &Case) -> bool {
+    let target = target_cells(c);
+    let holds = |p: u32| c.e.flag_patterns.get(p as usize).map(|p| p.intersects(&target)).unwrap_or(true);
+    flags_on(c) && c.e.arc_flag_pattern.iter().all(|p| holds(*p)) && c.e.trip_transfers.iter().flatten().flatten().all(|x| holds(x.flag_pattern))
+}
+
+// few scans, or all in round 0; with flags, no segment queued; with delays, no delay row
+fn dull(c: &Case, kind: u32, scans: &[(u32, u32, u32)], queue: &[usize]) -> bool {
+    scans.len() < 4
+        || scans.iter().all(|x| x.0 < 1)
+        || kind & 4 != 0 && !c.off && queue.iter().all(|n| *n == 0)
+        || kind & 2 != 0 && c.delays.is_empty()
+}

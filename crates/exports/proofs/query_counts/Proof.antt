@@ -1,0 +1,27 @@
+use mathlib.Core.Path.{ap, _∙_}
+use Rattle.tables.specs.declared.Counts.{Counts}
+use Rattle.exports.specs.Counts.{gathered}
+use borrow.Author.Needs.{needs}
+use Rattle.exports.proofs.query_counts.Statement.{statement}
+use Rattle.exports.proofs.query_counts.Tie as tie
+use Rattle.exports.proofs.query_counts.Reads as reads
+use Rattle.exports.proofs.query_counts.Lts as lts
+use Rattle.exports.proofs.counts.Reads as counts-reads
+use Rattle.exports.proofs.gather.Reads as gather-reads
+
+-- src/lib.rt:520:9
+counts-requires : tie.Need-counts-requires
+counts-requires c κs = search needs
+
+-- src/lib.rt:521:5
+gather-requires : tie.Need-gather-requires
+gather-requires c κs = search needs
+
+-- src/lib.rt:517:1
+returns : tie.Need-returns
+returns c =
+    let s = c .before .before .args .s in
+    (c .gather .ensures) ∙ ap (λ (k : Counts). gathered k (s .cells) (s .patterns) (s .lines) (s .entries) (s .departures) (s .transfers) (s .delays) (s .«stop_rows») (s .origins) (s .egress)) (c .before .counts .ensures)
+
+pub query-counts-spec : {M : Type 1} → statement M
+query-counts-spec = tie.close (tie.spec counts-requires gather-requires returns)

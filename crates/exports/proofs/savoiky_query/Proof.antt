@@ -1,0 +1,64 @@
+use denote.Ref.{now}
+use mathlib.Core.Path.{ap, _∙_}
+use Rattle.asking.specs.declared.QueryCounts.{QueryCounts}
+use Rattle.asking.specs.Lent.{lent}
+use Rattle.query.specs.Outcome.{areas, queryOutcome}
+use borrow.Author.Needs.{needs}
+use Rattle.exports.proofs.savoiky_query.Statement.{statement}
+use Rattle.exports.proofs.savoiky_query.Tie as tie
+use Rattle.exports.proofs.savoiky_query.Reads as reads
+use Rattle.exports.proofs.savoiky_query.Lts as lts
+use Rattle.exports.proofs.query_counts.Reads as query-counts-reads
+use Rattle.query.proofs.query.Reads as query-reads
+
+-- src/lib.rt:576:9
+query-counts-requires : tie.Need-query-counts-requires
+query-counts-requires c κs = search needs
+
+-- src/lib.rt:575:5
+query-requires : tie.Need-query-requires
+query-requires c κs = search needs
+
+-- src/lib.rt:557:1
+same-length : tie.Need-same-length
+same-length c = search needs
+
+-- src/lib.rt:557:1
+same-length-2 : tie.Need-same-length-2
+same-length-2 c = search needs
+
+-- src/lib.rt:557:1
+same-length-3 : tie.Need-same-length-3
+same-length-3 c = search needs
+
+-- src/lib.rt:557:1
+same-length-4 : tie.Need-same-length-4
+same-length-4 c = search needs
+
+-- src/lib.rt:557:1
+same-length-5 : tie.Need-same-length-5
+same-length-5 c = search needs
+
+-- src/lib.rt:557:1
+same-length-6 : tie.Need-same-length-6
+same-length-6 c = search needs
+
+-- src/lib.rt:557:1
+returns : tie.Need-returns
+returns c =
+    let a = c .before .before .before .before .before .before .before .before .before .before .before .before .before .before .before .before .before .before .before .before .before .before .before .before .before .before .before .before .before .before .before .before .args in
+    (c .before .before .before .before .before .before .before .before .before .before .before .before .query .ensures) ∙ ap (λ (k : QueryCounts). queryOutcome (lent k (now (a .tables)) (now (a .built)) (now (a .transfers)) (now (a .patterns)) (now (a .distances)) (now (a .query))) (areas (now (a .labels)) (now (a .label-distances)) (now (a .work)) (now (a .queue-a)) (now (a .queue-b)) (now (a .candidates)))) (c .before .before .before .before .before .before .before .before .before .before .before .before .before .before .before .before .before .before .before .query-counts .ensures)
+
+pub savoiky-query-spec : {M : Type 1} → statement M
+savoiky-query-spec =
+    tie.close
+    (tie.spec
+    query-counts-requires
+    query-requires
+    same-length
+    same-length-2
+    same-length-3
+    same-length-4
+    same-length-5
+    same-length-6
+    returns)

@@ -1,0 +1,64 @@
+use denote.Ref.{now}
+use mathlib.Core.Path.{ap, _∙_}
+use Rattle.asking.specs.declared.QueryCounts.{QueryCounts}
+use Rattle.asking.specs.Lent.{lent}
+use Rattle.query.specs.Outcome.{areas, runTbrOutcome}
+use borrow.Author.Needs.{needs}
+use Rattle.exports.proofs.savoiky_run_tbr.Statement.{statement}
+use Rattle.exports.proofs.savoiky_run_tbr.Tie as tie
+use Rattle.exports.proofs.savoiky_run_tbr.Reads as reads
+use Rattle.exports.proofs.savoiky_run_tbr.Lts as lts
+use Rattle.exports.proofs.query_counts.Reads as query-counts-reads
+use Rattle.query.proofs.run_tbr.Reads as run-tbr-reads
+
+-- src/lib.rt:540:9
+query-counts-requires : tie.Need-query-counts-requires
+query-counts-requires c κs = search needs
+
+-- src/lib.rt:539:5
+run-tbr-requires : tie.Need-run-tbr-requires
+run-tbr-requires c κs = search needs
+
+-- src/lib.rt:521:1
+same-length : tie.Need-same-length
+same-length c = search needs
+
+-- src/lib.rt:521:1
+same-length-2 : tie.Need-same-length-2
+same-length-2 c = search needs
+
+-- src/lib.rt:521:1
+same-length-3 : tie.Need-same-length-3
+same-length-3 c = search needs
+
+-- src/lib.rt:521:1
+same-length-4 : tie.Need-same-length-4
+same-length-4 c = search needs
+
+-- src/lib.rt:521:1
+same-length-5 : tie.Need-same-length-5
+same-length-5 c = search needs
+
+-- src/lib.rt:521:1
+same-length-6 : tie.Need-same-length-6
+same-length-6 c = search needs
+
+-- src/lib.rt:521:1
+returns : tie.Need-returns
+returns c =
+    let a = c .before .before .before .before .before .before .before .before .before .before .before .before .before .before .before .before .before .before .before .before .before .before .before .before .before .before .before .before .before .before .before .before .args in
+    (c .before .before .before .before .before .before .before .before .before .before .before .before .run-tbr .ensures) ∙ ap (λ (k : QueryCounts). runTbrOutcome (lent k (now (a .tables)) (now (a .built)) (now (a .transfers)) (now (a .patterns)) (now (a .distances)) (now (a .query))) (areas (now (a .labels)) (now (a .label-distances)) (now (a .work)) (now (a .queue-a)) (now (a .queue-b)) (now (a .candidates)))) (c .before .before .before .before .before .before .before .before .before .before .before .before .before .before .before .before .before .before .before .query-counts .ensures)
+
+pub savoiky-run-tbr-spec : {M : Type 1} → statement M
+savoiky-run-tbr-spec =
+    tie.close
+    (tie.spec
+    query-counts-requires
+    run-tbr-requires
+    same-length
+    same-length-2
+    same-length-3
+    same-length-4
+    same-length-5
+    same-length-6
+    returns)

@@ -1,0 +1,24 @@
+use mathlib.Core.Path.{ap, _∙_}
+use Rattle.asking.specs.Door.{workspaceAnswer}
+use borrow.Author.Needs.{needs}
+use Rattle.exports.proofs.savoiky_work_size.Statement.{statement}
+use Rattle.exports.proofs.savoiky_work_size.Tie as tie
+use Rattle.exports.proofs.savoiky_work_size.Reads as reads
+use Rattle.exports.proofs.savoiky_work_size.Lts as lts
+use Rattle.asking.proofs.workspace.Reads as workspace-reads
+use Rattle.exports.proofs.query_counts.Reads as query-counts-reads
+
+-- src/lib.rt:510:23
+query-counts-requires : tie.Need-query-counts-requires
+query-counts-requires c κs = search needs
+
+-- src/lib.rt:510:5
+workspace-requires : tie.Need-workspace-requires
+workspace-requires c κs = search needs
+
+-- src/lib.rt:506:1
+returns : tie.Need-returns
+returns c = (c .workspace .ensures) ∙ ap workspaceAnswer (c .before .query-counts .ensures)
+
+pub savoiky-work-size-spec : {M : Type 1} → statement M
+savoiky-work-size-spec = tie.close (tie.spec query-counts-requires workspace-requires returns)

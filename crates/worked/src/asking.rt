@@ -1,0 +1,142 @@
+// A query put to the compiled call, and its answer printed.
+use crate::legs::arrival;
+use crate::legs::label_at;
+use crate::legs::legs;
+use crate::words::at;
+use crate::words::number;
+use crate::words::part;
+use crate::words::refused;
+use crate::words::say;
+use crate::words::time;
+use crate::words::wide;
+use exports::QuerySizes;
+use query::Reply;
+
+// The total of "no way".
+const NEVER: u32 = 4294967295;
+
+// The last leg: from the candidate's stop, reached at its label's arrival, on foot.
+fn egress(total: u32, stop: u32, reached: u32) {
+    if total < reached {
+        return;
+    }
+    say(b"walk ");
+    number(total - reached);
+    say(b" s from stop ");
+    number(stop);
+    say(b"\n");
+}
+
+fn candidate(
+    k: u32,
+    s: QuerySizes,
+    tables: &[u32],
+    candidates: &[u32],
+    labels: &[u32],
+    distances: &[f64],
+) {
+    let i = wide(k) * 3;
+    let total = at(candidates, i);
+    let stop = at(candidates, i + 1);
+    let row = at(candidates, i + 2);
+    say(b"  candidate of row ");
+    number(row);
+    say(b", at stop ");
+    number(stop);
+    say(b", ");
+    time(total);
+    say(b":\n    ");
+    legs(26, s, tables, labels, distances, stop, row);
+    let l = label_at(s.stops, stop, row, labels, distances);
+    egress(total, stop, arrival(l));
+}
+
+fn show(
+    reply: Reply,
+    s: QuerySizes,
+    tables: &[u32],
+    candidates: &[u32],
+    labels: &[u32],
+    distances: &[f64],
+) {
+    if reply.code != 0 {
+        refused(reply.code);
+        return;
+    }
+    if reply.total == NEVER {
+        say(b"  no way\n");
+        return;
+    }
+    say(b"  best ");
+    time(reply.total);
+    say(b" at stop ");
+    number(reply.stop);
+    say(b"\n");
+    let mut k: u32 = 0;
+    while k < reply.candidates {
+        candidate(k, s, tables, candidates, labels, distances);
+        k += 1;
+    }
+}
+
+// Asks with these labels and this workspace, and prints. Room for 64 segments in each half of the queue; no patterns.
+fn ask_in(
+    s: QuerySizes,
+    tables: &[u32],
+    built: &[u32],
+    area: &[u32],
+    distances: &[f64],
+    query: &[u32],
+    labels: &mut [u32],
+    label_distances: &mut [f64],
+    work: &mut [u32],
+) {
+    let mut queue_a = [0u32; 256];
+    let mut queue_b = [0u32; 256];
+    let mut candidates = [0u32; 39];
+    let reply = exports::savoiky_query(
+        s,
+        tables,
+        built,
+        area,
+        b"",
+        distances,
+        query,
+        labels,
+        label_distances,
+        work,
+        &mut queue_a,
+        &mut queue_b,
+        &mut candidates,
+    );
+    show(reply, s, tables, &candidates, labels, label_distances);
+}
+
+// Asks and prints. Room for 12 stops and 384 numbers of workspace.
+pub fn ask(
+    s: QuerySizes,
+    tables: &[u32],
+    built: &[u32],
+    area: &[u32],
+    distances: &[f64],
+    query: &[u32],
+) {
+    let mut labels = [0u32; 1248];
+    let mut label_distances = [0.0f64; 156];
+    let mut work = [0u32; 384];
+    let words = part(wide(s.stops) * 104, 1248);
+    let records = part(wide(s.stops) * 13, 156);
+    let size = exports::savoiky_work_size(s);
+    let n = part(wide(size.value), 384);
+    ask_in(
+        s,
+        tables,
+        built,
+        area,
+        distances,
+        query,
+        &mut labels[..words],
+        &mut label_distances[..records],
+        &mut work[..n],
+    );
+}

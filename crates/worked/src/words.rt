@@ -1,0 +1,78 @@
+// Text, numbers and times on standard output; words of a slice; how long a part of a slice may be.
+ghost use Prim.Native.Nat.{_≤_, _<_};
+use libc::STDOUT_FILENO;
+
+pub fn say(text: &[u8]) {
+    io::write_all(STDOUT_FILENO, text);
+}
+
+pub fn number(n: u32) {
+    io::print_decimal(STDOUT_FILENO, n as u64);
+}
+
+fn two_digits(n: u32) {
+    if n < 10 {
+        say(b"0");
+        number(n);
+        return;
+    }
+    number(n);
+}
+
+// A service second, and the clock reading of it.
+pub fn time(n: u32) {
+    number(n);
+    say(b" s (");
+    number(n / 3600);
+    say(b":");
+    two_digits(n / 60 % 60);
+    say(b":");
+    two_digits(n % 60);
+    say(b")");
+}
+
+pub fn refused(code: u32) {
+    say(b"  refused by question ");
+    number(code);
+    say(b"\n");
+}
+
+// A number as a length.
+pub fn wide(n: u32) -> usize
+    ensures { λ r. ⌜ r < 4294967296 ⌝ }
+{
+    n as usize
+}
+
+// So many words, or as many as there is room for: where that is fewer, the call that is lent them refuses them (question 2).
+pub fn part(n: usize, room: usize) -> usize
+    ensures { λ r. ⌜ r ≤ room ⌝ }
+{
+    if room < n {
+        return room;
+    }
+    n
+}
+
+// Word i, 0 past the end.
+pub fn at(w: &[u32], i: usize) -> u32 {
+    if i < w.len() {
+        return w[i];
+    }
+    0
+}
+
+// Puts the words of a piece into a slice from word `from` on, as many as have room, and says where the next piece begins.
+pub fn put(piece: &[u32], from: usize, to: &mut [u32]) -> usize {
+    let room = to.len();
+    if room < from {
+        return from;
+    }
+    let left = part(piece.len(), room - from);
+    let mut i: usize = 0;
+    while i < left {
+        to[from + i] = at(piece, i);
+        i += 1;
+    }
+    from + i
+}
