@@ -9,13 +9,13 @@ ghost use mathlib.Core.Path.{_≡_};
 ghost use mathlib.Core.Bool.{_&&_};
 ghost use Prim.Native.Nat.{_+_, _*_, _-_, _≤_, _<_};
 ghost use lib.ListN.{length, getD};
-ghost use lib.Dec.{ltb};
+ghost use lib.Dec.{ltb, leb};
 ghost use Rattle.tables.specs.Timetable.{timetable};
 ghost use Rattle.tables.specs.Sane.{CountsOk, SlicesOk, RunsOk};
-ghost use Rattle.departures.specs.Departures.{rowDeparture, departuresOf, runLength};
+ghost use Rattle.departures.specs.Departures.{rowAt, rowDeparture, departuresOf, runLength};
 ghost use Rattle.departures.specs.Listed.{RunsListed, RowKnown, RowsKnown, RowsListed};
 ghost use Rattle.asking.specs.Lent.{marksAt, transferRunsAt, builtSize, querySize, delaysOf, part, lineRuns, lineEntries, stopRuns, departureRows, delayRows, stopRows, egressPart, transferRuns, transferRunAt, transferRows, lent};
-ghost use Rattle.asking.specs.Door.{question1, workspaceAnswer, readOk, workSize, columnAt, writtenOk, question2, transferRunsOk, question3, columnBelow, lineNumbers, queryNumbers, question4, markRanges, transferRanges, settingRanges, walkRanges, question5, notEarlier, partOrder, departureOrder, columnRises, question6, verdict};
+ghost use Rattle.asking.specs.Door.{question1, workspaceAnswer, readOk, workSize, columnAt, writtenOk, question2, transferRunsOk, question3, columnBelow, lineNumbers, queryNumbers, question4, markRanges, transferRanges, settingRanges, walkRanges, question5, partOrder, departureOrder, columnRises, question6, verdict};
 ghost use Rattle.asking.specs.Sane.{Limits, Sized, Placed, Column};
 ghost use Rattle.delays.specs.Asked.{rowsAsked};
 use departures::DepartureRow;
@@ -434,26 +434,36 @@ pub fn row_departure(t: &[u32], c: Counts, r: DepartureRow) -> usize
     tables::time(t, c, tables::trip(t, c, r.trip, 0) + r.offset, 2)
 }
 
-// Question 6 of row k of a stop's part: is it not earlier than the one before it?
-fn not_earlier(t: &[u32], c: Counts, rows: &[u32], count: usize, k: usize) -> bool
-    requires { ⌜ RowsKnown (now t) c (now rows) count ⌝ ∗ ⌜ 0 < k ⌝ ∗ ⌜ k < count ⌝ }
-    ensures { λ b. ⌜ b ≡ notEarlier (timetable (now (t .entry)) c) (now (rows .entry)) k ⌝ }
+// The departure of row k of a stop's part.
+fn departure_at(t: &[u32], c: Counts, rows: &[u32], count: usize, k: usize) -> usize
+    requires { ⌜ RowsKnown (now t) c (now rows) count ⌝ ∗ ⌜ k < count ⌝ }
+    ensures { λ b. ⌜ b ≡ rowDeparture (timetable (now (t .entry)) c) (rowAt (now (rows .entry)) k) ⌝ }
 {
-    let a = row_departure(t, c, departures::departure_row(rows, k - 1));
-    let b = row_departure(t, c, departures::departure_row(rows, k));
-    a <= b
+    row_departure(t, c, departures::departure_row(rows, k))
 }
 
-// Of a stop's part.
+fn in_order(before: usize, after: usize) -> bool
+    ensures { λ b. ⌜ b ≡ leb before after ⌝ }
+{
+    before <= after
+}
+
+// Question 6 of a stop's part: is no row earlier than the one before it?
 fn part_order(t: &[u32], c: Counts, rows: &[u32], count: usize) -> bool
     requires { ⌜ RowsKnown (now t) c (now rows) count ⌝ }
     ensures { λ b. ⌜ b ≡ partOrder (timetable (now (t .entry)) c) (now (rows .entry)) count ⌝ }
 {
+    if count == 0 {
+        return true;
+    }
+    let mut last = departure_at(t, c, rows, count, 0);
     let mut k: usize = 1;
     while k < count {
-        if !not_earlier(t, c, rows, count, k) {
+        let next = departure_at(t, c, rows, count, k);
+        if !in_order(last, next) {
             return false;
         }
+        last = next;
         k += 1;
     }
     true

@@ -3,11 +3,11 @@ use crate::legs::arrival;
 use crate::legs::label_at;
 use crate::legs::legs;
 use crate::words::at;
-use crate::words::number;
 use crate::words::part;
 use crate::words::refused;
 use crate::words::say;
-use crate::words::time;
+use crate::words::say_number;
+use crate::words::say_time;
 use crate::words::wide;
 use exports::QuerySizes;
 use query::Reply;
@@ -20,10 +20,8 @@ fn egress(total: u32, stop: u32, reached: u32) {
     if total < reached {
         return;
     }
-    say(b"walk ");
-    number(total - reached);
-    say(b" s from stop ");
-    number(stop);
+    say_number(b"walk ", total - reached);
+    say_number(b" s from stop ", stop);
     say(b"\n");
 }
 
@@ -39,12 +37,9 @@ fn candidate(
     let total = at(candidates, i);
     let stop = at(candidates, i + 1);
     let row = at(candidates, i + 2);
-    say(b"  candidate of row ");
-    number(row);
-    say(b", at stop ");
-    number(stop);
-    say(b", ");
-    time(total);
+    say_number(b"  candidate of row ", row);
+    say_number(b", at stop ", stop);
+    say_time(b", ", total);
     say(b":\n    ");
     legs(26, s, tables, labels, distances, stop, row);
     let l = label_at(s.stops, stop, row, labels, distances);
@@ -67,10 +62,8 @@ fn show(
         say(b"  no way\n");
         return;
     }
-    say(b"  best ");
-    time(reply.total);
-    say(b" at stop ");
-    number(reply.stop);
+    say_time(b"  best ", reply.total);
+    say_number(b" at stop ", reply.stop);
     say(b"\n");
     let mut k: u32 = 0;
     while k < reply.candidates {

@@ -1,11 +1,11 @@
 // A timetable built by the exported calls, and what they made of it.
 ghost use Prim.Native.Nat.{_<_};
 use crate::words::at;
-use crate::words::number;
 use crate::words::part;
 use crate::words::put;
 use crate::words::refused;
 use crate::words::say;
+use crate::words::say_number;
 use crate::words::wide;
 use door::Answer;
 use exports::QuerySizes;
@@ -283,16 +283,14 @@ pub fn build(
 fn line_trips(first: u32, count: u32, entries: &[u32]) {
     let mut k: u32 = 0;
     while k < count {
-        say(b" ");
-        number(at(entries, wide(first) + wide(k)));
+        say_number(b" ", at(entries, wide(first) + wide(k)));
         k += 1;
     }
 }
 
 fn line(l: u32, runs: &[u32], entries: &[u32], fifo: &[u32]) {
     let i = wide(l);
-    say(b"  line ");
-    number(l);
+    say_number(b"  line ", l);
     say(b": trips");
     line_trips(at(runs, i * 2), at(runs, i * 2 + 1), entries);
     if at(fifo, i) == 1 {
@@ -371,10 +369,8 @@ fn transfer_runs_at(s: QuerySizes) -> usize
 fn transfer(area: &[u32], row: usize)
     requires { ⌜ row < 8589934592 ⌝ }
 {
-    say(b"    to trip ");
-    number(at(area, row * 4));
-    say(b" at its offset ");
-    number(at(area, row * 4 + 1));
+    say_number(b"    to trip ", at(area, row * 4));
+    say_number(b" at its offset ", at(area, row * 4 + 1));
     say(b"\n");
 }
 

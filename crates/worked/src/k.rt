@@ -4,11 +4,11 @@ use crate::building::Made;
 use crate::building::build;
 use crate::building::show_lines;
 use crate::building::show_transfers;
-use crate::words::number;
 use crate::words::part;
 use crate::words::refused;
 use crate::words::say;
-use crate::words::time;
+use crate::words::say_number;
+use crate::words::say_time;
 use exports::QuerySizes;
 
 // Three stops, three trips, five listed departures, an origin and an egress stop.
@@ -58,10 +58,8 @@ fn build_k(tables: &[u32], area: &mut [u32], built: &mut [u32]) -> Made {
 fn asked(start: u32, change: u32, s: QuerySizes, tables: &[u32], built: &[u32], area: &[u32]) {
     let distances = [12.5f64];
     let query = [start, change, 0, 0, 0, 0, 0, 0, 10, 2, 5];
-    say(b"Start ");
-    time(start);
-    say(b", change time ");
-    number(change);
+    say_time(b"Start ", start);
+    say_number(b", change time ", change);
     say(b" s\n");
     ask(s, tables, built, area, &distances, &query);
 }

@@ -1,9 +1,9 @@
 // The legs of an answer: the labels followed back from a stop and a row to an access label.
 ghost use Prim.Native.Nat.{_<_};
 use crate::words::at;
-use crate::words::number;
 use crate::words::say;
-use crate::words::time;
+use crate::words::say_number;
+use crate::words::say_time;
 use crate::words::wide;
 use exports::QuerySizes;
 use label::LabelRow;
@@ -37,35 +37,25 @@ fn departure(s: QuerySizes, tables: &[u32], trip: u32, offset: u32) -> u32 {
 }
 
 fn access(l: LabelRow) {
-    say(b"walk ");
-    number(l.word3);
-    say(b" s to stop ");
-    number(l.word1);
+    say_number(b"walk ", l.word3);
+    say_number(b" s to stop ", l.word1);
     say(b"; ");
 }
 
 fn ride(s: QuerySizes, tables: &[u32], l: LabelRow, stop: u32) {
     let scheduled = departure(s, tables, l.word2, l.word4);
-    say(b"trip ");
-    number(l.word2);
-    say(b" from stop ");
-    number(l.word3);
-    say(b" at ");
-    time(std::num::wrapping_add_u32(scheduled, l.word7));
-    say(b" to stop ");
-    number(stop);
-    say(b", arriving ");
-    time(l.word1);
+    say_number(b"trip ", l.word2);
+    say_number(b" from stop ", l.word3);
+    say_time(b" at ", std::num::wrapping_add_u32(scheduled, l.word7));
+    say_number(b" to stop ", stop);
+    say_time(b", arriving ", l.word1);
     say(b"; ");
 }
 
 fn walk(l: LabelRow) {
-    say(b"walk ");
-    number(l.word4);
-    say(b" s from stop ");
-    number(l.word2);
-    say(b" to stop ");
-    number(l.word3);
+    say_number(b"walk ", l.word4);
+    say_number(b" s from stop ", l.word2);
+    say_number(b" to stop ", l.word3);
     say(b"; ");
 }
 

@@ -10,12 +10,12 @@ mod words;
 
 use crate::words::number;
 use crate::words::say;
+use crate::words::say_number;
 
 // A value, or the question that refused it.
 fn answer(a: door::Answer) {
     if a.code != 0 {
-        say(b"refused by question ");
-        number(a.code);
+        say_number(b"refused by question ", a.code);
     } else {
         number(a.value);
     }
@@ -23,28 +23,22 @@ fn answer(a: door::Answer) {
 }
 
 fn rounds(wanted: u32, transfers: u32) {
-    say(b"  wanted ");
-    number(wanted);
-    say(b", transfers ");
-    number(transfers);
-    say(b": ");
-    number(exports::savoiky_max_rounds(wanted, transfers));
+    say_number(b"  wanted ", wanted);
+    say_number(b", transfers ", transfers);
+    say_number(b": ", exports::savoiky_max_rounds(wanted, transfers));
     say(b" rounds\n");
 }
 
 fn boarding(wanted: u32) {
     let windows = [600u32, 1200, 300];
     let a = exports::savoiky_freq_board(1, &windows, 600, 660, wanted);
-    say(b"  wanted ");
-    number(wanted);
+    say_number(b"  wanted ", wanted);
     if a.found == 0 {
         say(b": none\n");
         return;
     }
-    say(b": departs ");
-    number(a.departure);
-    say(b", shift ");
-    number(a.time_shift_s);
+    say_number(b": departs ", a.departure);
+    say_number(b", shift ", a.time_shift_s);
     say(b"\n");
 }
 
@@ -56,8 +50,7 @@ fn walk(name: &[u8], duration: u32, mode: u32, wheelchair: u32) {
 fn cell(number_of: u32) {
     let made = exports::savoiky_cell_bitset_new(65);
     let set = exports::savoiky_cell_bitset_set_bit(made.set, number_of);
-    say(b"  cell ");
-    number(number_of);
+    say_number(b"  cell ", number_of);
     if exports::savoiky_cell_bitset_get_bit(set, number_of) {
         say(b" is kept\n");
     } else {

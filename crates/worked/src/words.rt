@@ -10,30 +10,31 @@ pub fn number(n: u32) {
     io::print_decimal(STDOUT_FILENO, n as u64);
 }
 
-fn two_digits(n: u32) {
-    if n < 10 {
-        say(b"0");
-        number(n);
-        return;
-    }
+// A text and a number after it.
+pub fn say_number(text: &[u8], n: u32) {
+    say(text);
     number(n);
 }
 
-// A service second, and the clock reading of it.
-pub fn time(n: u32) {
-    number(n);
-    say(b" s (");
-    number(n / 3600);
-    say(b":");
+fn two_digits(n: u32) {
+    if n < 10 {
+        say_number(b":0", n);
+        return;
+    }
+    say_number(b":", n);
+}
+
+// A text and after it a service second with its clock reading.
+pub fn say_time(text: &[u8], n: u32) {
+    say_number(text, n);
+    say_number(b" s (", n / 3600);
     two_digits(n / 60 % 60);
-    say(b":");
     two_digits(n % 60);
     say(b")");
 }
 
 pub fn refused(code: u32) {
-    say(b"  refused by question ");
-    number(code);
+    say_number(b"  refused by question ", code);
     say(b"\n");
 }
 

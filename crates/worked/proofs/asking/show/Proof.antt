@@ -24,29 +24,23 @@ say-requires c κs = search needs
 returns-2 : tie.Need-returns-2 Inv-loop μ-loop
 returns-2 c = search needs
 
+slice-aggregate-say-time : tie.Need-slice-aggregate-say-time Inv-loop μ-loop
+slice-aggregate-say-time c = search needs
+
+say-time-requires : tie.Need-say-time-requires Inv-loop μ-loop
+say-time-requires c κs = search needs
+
+slice-aggregate-say-number : tie.Need-slice-aggregate-say-number Inv-loop μ-loop
+slice-aggregate-say-number c = search needs
+
+say-number-requires : tie.Need-say-number-requires Inv-loop μ-loop
+say-number-requires c κs = search needs
+
 slice-aggregate-say-2 : tie.Need-slice-aggregate-say-2 Inv-loop μ-loop
 slice-aggregate-say-2 c = search needs
 
 say-requires-2 : tie.Need-say-requires-2 Inv-loop μ-loop
 say-requires-2 c κs = search needs
-
-time-requires : tie.Need-time-requires Inv-loop μ-loop
-time-requires c κs = search needs
-
-slice-aggregate-say-3 : tie.Need-slice-aggregate-say-3 Inv-loop μ-loop
-slice-aggregate-say-3 c = search needs
-
-say-requires-3 : tie.Need-say-requires-3 Inv-loop μ-loop
-say-requires-3 c κs = search needs
-
-number-requires : tie.Need-number-requires Inv-loop μ-loop
-number-requires c κs = search needs
-
-slice-aggregate-say-4 : tie.Need-slice-aggregate-say-4 Inv-loop μ-loop
-slice-aggregate-say-4 c = search needs
-
-say-requires-4 : tie.Need-say-requires-4 Inv-loop μ-loop
-say-requires-4 c κs = search needs
 
 loop-holds : tie.Need-loop-holds Inv-loop μ-loop
 loop-holds c = search needs
@@ -77,14 +71,12 @@ show-spec =
     slice-aggregate-say
     say-requires
     returns-2
+    slice-aggregate-say-time
+    say-time-requires
+    slice-aggregate-say-number
+    say-number-requires
     slice-aggregate-say-2
     say-requires-2
-    time-requires
-    slice-aggregate-say-3
-    say-requires-3
-    number-requires
-    slice-aggregate-say-4
-    say-requires-4
     loop-holds
     candidate-requires
     add-k
