@@ -18,100 +18,6 @@ pub struct Made {
     pub length: usize,
 }
 
-// Each stop's departures in order, and the marks.
-fn sorted(s: QuerySizes, tables: &[u32], runs: &[u32], rows: &mut [u32], marks: &mut [u32]) -> u32 {
-    let mut work = [0u64; 48];
-    let mut other = [0u64; 48];
-    let n = part(wide(s.departures), 48);
-    exports::savoiky_sort_stop_departures(
-        s.stops,
-        s.trips,
-        s.times,
-        s.windows,
-        s.edges,
-        s.departures,
-        tables,
-        runs,
-        rows,
-        marks,
-        &mut work[..n],
-        &mut other[..n],
-    )
-}
-
-// Each trip's line, the lines' runs, their entries.
-fn grouped(
-    s: QuerySizes,
-    tables: &[u32],
-    lines: &mut [u32],
-    runs: &mut [u32],
-    entries: &mut [u32],
-) -> Answer {
-    let mut work = [0u64; 12];
-    let mut other = [0u64; 12];
-    let n = part(wide(s.trips), 12);
-    exports::savoiky_compute_line_groups(
-        s.stops,
-        s.trips,
-        s.times,
-        s.windows,
-        s.edges,
-        tables,
-        lines,
-        runs,
-        entries,
-        &mut work[..n],
-        &mut other[..n],
-    )
-}
-
-// The transfers, and a run of them for each stop event.
-fn linked(
-    s: QuerySizes,
-    tables: &[u32],
-    lines: &[u32],
-    runs: &[u32],
-    rows: &[u32],
-    area: &mut [u32],
-    transfer_runs: &mut [u32],
-) -> Answer {
-    exports::savoiky_compute_trip_transfers(
-        s.stops,
-        s.trips,
-        s.times,
-        s.windows,
-        s.edges,
-        s.lines,
-        s.departures,
-        tables,
-        lines,
-        runs,
-        rows,
-        area,
-        transfer_runs,
-    )
-}
-
-// The pieces one after the other, as a query reads them; how many words they are.
-fn joined(
-    lines: &[u32],
-    line_runs: &[u32],
-    entries: &[u32],
-    stop_runs: &[u32],
-    rows: &[u32],
-    marks: &[u32],
-    transfer_runs: &[u32],
-    built: &mut [u32],
-) -> usize {
-    let a = put(lines, 0, built);
-    let b = put(line_runs, a, built);
-    let c = put(entries, b, built);
-    let d = put(stop_runs, c, built);
-    let e = put(rows, d, built);
-    let f = put(marks, e, built);
-    put(transfer_runs, f, built)
-}
-
 fn refusal(code: u32, s: QuerySizes) -> Made {
     Made {
         code: code,
@@ -120,147 +26,190 @@ fn refusal(code: u32, s: QuerySizes) -> Made {
     }
 }
 
-fn with_lines(s: QuerySizes, lines: u32) -> QuerySizes {
-    let mut n = s;
-    n.lines = lines;
-    n.entries = s.trips;
-    n
-}
-
-fn with_transfers(s: QuerySizes, transfers: u32) -> QuerySizes {
-    let mut n = s;
-    n.transfers = transfers;
-    n
-}
-
-// The transfers into these runs; then all is joined.
-fn link_last(
-    s: QuerySizes,
-    tables: &[u32],
-    lines: &[u32],
-    line_runs: &[u32],
-    entries: &[u32],
-    stop_runs: &[u32],
-    rows: &[u32],
-    marks: &[u32],
-    transfer_runs: &mut [u32],
-    area: &mut [u32],
-    built: &mut [u32],
-) -> Made {
-    let a = linked(s, tables, lines, stop_runs, rows, area, transfer_runs);
-    if a.code != 0 {
-        return refusal(a.code, s);
-    }
-    let length = joined(
-        lines,
-        line_runs,
-        entries,
-        stop_runs,
-        rows,
-        marks,
-        transfer_runs,
-        built,
-    );
-    Made {
-        code: 0,
-        sizes: with_transfers(s, a.value),
-        length: length,
-    }
-}
-
-// Third, the transfers, with room for a run for each stop event.
-fn link_next(
+// Each trip's line, the lines' runs and their entries stand first in `built`.
+fn put_lines(
     grouped: Answer,
     s: QuerySizes,
-    tables: &[u32],
     lines: &[u32],
-    line_runs: &[u32],
+    runs: &[u32],
     entries: &[u32],
-    stop_runs: &[u32],
-    rows: &[u32],
-    marks: &[u32],
-    area: &mut [u32],
     built: &mut [u32],
 ) -> Made {
-    let mut transfer_runs = [0u32; 96];
     if grouped.code != 0 {
         return refusal(grouped.code, s);
     }
-    let events = part(wide(s.times) * 2, 96);
-    let runs = part(wide(grouped.value) * 2, line_runs.len());
-    link_last(
-        with_lines(s, grouped.value),
-        tables,
-        lines,
-        &line_runs[..runs],
-        entries,
-        stop_runs,
-        rows,
-        marks,
-        &mut transfer_runs[..events],
-        area,
-        built,
-    )
+    let mut n = s;
+    n.lines = grouped.value;
+    n.entries = s.trips;
+    let pairs = part(wide(grouped.value) * 2, runs.len());
+    let a = put(lines, 0, built);
+    let b = put(&runs[..pairs], a, built);
+    let c = put(entries, b, built);
+    Made {
+        code: 0,
+        sizes: n,
+        length: c,
+    }
 }
 
-// Second, the lines.
-fn group_next(
+fn group_in(
     s: QuerySizes,
     tables: &[u32],
     lines: &mut [u32],
-    line_runs: &mut [u32],
+    runs: &mut [u32],
     entries: &mut [u32],
-    stop_runs: &[u32],
-    rows: &[u32],
-    marks: &[u32],
-    area: &mut [u32],
     built: &mut [u32],
 ) -> Made {
-    let a = grouped(s, tables, lines, line_runs, entries);
-    link_next(
-        a,
-        s,
+    let mut work = [0u64; 12];
+    let mut other = [0u64; 12];
+    let n = part(wide(s.trips), 12);
+    let a = exports::savoiky_compute_line_groups(
+        s.stops,
+        s.trips,
+        s.times,
+        s.windows,
+        s.edges,
         tables,
         lines,
-        line_runs,
+        runs,
         entries,
-        stop_runs,
-        rows,
-        marks,
-        area,
+        &mut work[..n],
+        &mut other[..n],
+    );
+    put_lines(a, s, lines, runs, entries, built)
+}
+
+fn group(s: QuerySizes, tables: &[u32], built: &mut [u32]) -> Made {
+    let mut lines = [0u32; 12];
+    let mut runs = [0u32; 24];
+    let mut entries = [0u32; 12];
+    let trips = part(wide(s.trips), 12);
+    let pairs = part(wide(s.trips) * 2, 24);
+    group_in(
+        s,
+        tables,
+        &mut lines[..trips],
+        &mut runs[..pairs],
+        &mut entries[..trips],
         built,
     )
 }
 
-// First, the departures and the marks.
-fn sort_first(
-    s: QuerySizes,
+// The stops' runs, the sorted departures and the marks stand next.
+fn sort_in(
+    m: Made,
     tables: &[u32],
     stop_runs: &[u32],
     rows: &mut [u32],
     marks: &mut [u32],
-    area: &mut [u32],
     built: &mut [u32],
 ) -> Made {
-    let mut lines = [0u32; 12];
-    let mut line_runs = [0u32; 24];
-    let mut entries = [0u32; 12];
-    let trips = part(wide(s.trips), 12);
-    let pairs = part(wide(s.trips) * 2, 24);
-    let code = sorted(s, tables, stop_runs, rows, marks);
-    if code != 0 {
-        return refusal(code, s);
-    }
-    group_next(
-        s,
+    let mut work = [0u64; 48];
+    let mut other = [0u64; 48];
+    let s = m.sizes;
+    let n = part(wide(s.departures), 48);
+    let code = exports::savoiky_sort_stop_departures(
+        s.stops,
+        s.trips,
+        s.times,
+        s.windows,
+        s.edges,
+        s.departures,
         tables,
-        &mut lines[..trips],
-        &mut line_runs[..pairs],
-        &mut entries[..trips],
         stop_runs,
         rows,
         marks,
+        &mut work[..n],
+        &mut other[..n],
+    );
+    if code != 0 {
+        return refusal(code, s);
+    }
+    let a = put(stop_runs, m.length, built);
+    let b = put(rows, a, built);
+    let c = put(marks, b, built);
+    Made {
+        code: 0,
+        sizes: s,
+        length: c,
+    }
+}
+
+fn sort(m: Made, tables: &[u32], stop_runs: &[u32], rows: &mut [u32], built: &mut [u32]) -> Made {
+    let mut marks = [0u32; 12];
+    if m.code != 0 {
+        return m;
+    }
+    let s = m.sizes;
+    let stops = part(wide(s.stops), 12);
+    sort_in(m, tables, stop_runs, rows, &mut marks[..stops], built)
+}
+
+// The transfer runs stand last; the transfers stand in the area.
+fn put_transfers(a: Answer, m: Made, transfer_runs: &[u32], built: &mut [u32]) -> Made {
+    let mut s = m.sizes;
+    if a.code != 0 {
+        return refusal(a.code, s);
+    }
+    s.transfers = a.value;
+    let n = put(transfer_runs, m.length, built);
+    Made {
+        code: 0,
+        sizes: s,
+        length: n,
+    }
+}
+
+fn link_in(
+    m: Made,
+    tables: &[u32],
+    stop_runs: &[u32],
+    rows: &[u32],
+    area: &mut [u32],
+    transfer_runs: &mut [u32],
+    built: &mut [u32],
+) -> Made {
+    let s = m.sizes;
+    let trips = part(wide(s.trips), built.len());
+    let a = exports::savoiky_compute_trip_transfers(
+        s.stops,
+        s.trips,
+        s.times,
+        s.windows,
+        s.edges,
+        s.lines,
+        s.departures,
+        tables,
+        &built[..trips],
+        stop_runs,
+        rows,
         area,
+        transfer_runs,
+    );
+    put_transfers(a, m, transfer_runs, built)
+}
+
+fn link(
+    m: Made,
+    tables: &[u32],
+    stop_runs: &[u32],
+    rows: &[u32],
+    area: &mut [u32],
+    built: &mut [u32],
+) -> Made {
+    let mut transfer_runs = [0u32; 96];
+    if m.code != 0 {
+        return m;
+    }
+    let s = m.sizes;
+    let events = part(wide(s.times) * 2, 96);
+    link_in(
+        m,
+        tables,
+        stop_runs,
+        rows,
+        area,
+        &mut transfer_runs[..events],
         built,
     )
 }
@@ -275,9 +224,9 @@ pub fn build(
     area: &mut [u32],
     built: &mut [u32],
 ) -> Made {
-    let mut marks = [0u32; 12];
-    let stops = part(wide(s.stops), 12);
-    sort_first(s, tables, stop_runs, rows, &mut marks[..stops], area, built)
+    let grouped = group(s, tables, built);
+    let sorted = sort(grouped, tables, stop_runs, rows, built);
+    link(sorted, tables, stop_runs, rows, area, built)
 }
 
 fn line_trips(first: u32, count: u32, entries: &[u32]) {

@@ -1,5 +1,6 @@
-// worked: the program behind ./run. It answers the worked examples of document 01's leaves (Timetable K) by the exported
-// calls and prints them for a person to read; the gate holds what it prints to the file `stdout`.
+// worked: the program behind ./run. By the exported calls alone it answers the worked examples of document 01's leaves,
+// builds and asks Timetable K (k) and a larger timetable (town), and prints the answers with their legs for a person to
+// read; the gate holds what it prints to the file `stdout`.
 // Proves: that it is safe and ends. Assumes the contracts of the kit's io and libc.
 mod asking;
 mod building;
@@ -63,29 +64,53 @@ fn clock(name: &[u8], hour: u32, minute: u32, second: u32) {
     answer(exports::savoiky_service_second(hour, minute, second));
 }
 
-fn main() {
-    say(b"Timetable K: worked examples of the leaves\n\nRounds of a query\n");
+fn query_rounds() {
+    say(b"Rounds of a query\n");
     rounds(0, 0);
     rounds(0, 3);
     rounds(20, 0);
+}
+
+fn boardings() {
     say(b"Frequency boarding: window 600 to 1200 every 300, template from 600, boarding at 660\n");
     boarding(660);
     boarding(661);
     boarding(961);
-    say(
-        b"Arrival 200, shift 50, trip delay 10, only a departure delay of 40 given at the stop\n  arrives at ",
-    );
+}
+
+fn arrival() {
+    say(b"Arrival 200, shift 50, trip delay 10, only a departure delay of 40 given at the stop\n");
+    say(b"  arrives at ");
     answer(exports::savoiky_effective_arrival(200, 50, 10, 1, 0));
+}
+
+fn walks() {
     say(b"Walks of 30 seconds in a wheelchair query\n");
     walk(b"  stairs: ", 30, 2, 1);
     walk(b"  moving sidewalk: ", 30, 3, 1);
     walk(b"  pathway mode 8: ", 30, 8, 1);
+}
+
+fn cells() {
     say(b"A set of 65 cells\n");
     cell(127);
     cell(128);
+}
+
+fn clocks() {
     say(b"Service seconds of clock readings\n");
     clock(b"  25:10:00 is ", 25, 10, 0);
     clock(b"  48:00:00 is ", 48, 0, 0);
+}
+
+fn main() {
+    say(b"Timetable K: worked examples of the leaves\n\n");
+    query_rounds();
+    boardings();
+    arrival();
+    walks();
+    cells();
+    clocks();
     k::run();
     town::run();
 }

@@ -1,8 +1,8 @@
 use lib.Seq.{length-take-le}
 use mathlib.Core.Path.{sym}
 use borrow.Author.Needs.{needs}
-use Rattle.worked.proofs.building.grouped.Statement.{statement}
-use Rattle.worked.proofs.building.grouped.Tie as tie
+use Rattle.worked.proofs.building.group_in.Statement.{statement}
+use Rattle.worked.proofs.building.group_in.Tie as tie
 
 wide-requires : tie.Need-wide-requires
 wide-requires c κs = search needs
@@ -26,6 +26,9 @@ slice-aggregate-savoiky-compute-line-groups-2 c = sym (length-take-le _ _ (searc
 savoiky-compute-line-groups-requires : tie.Need-savoiky-compute-line-groups-requires
 savoiky-compute-line-groups-requires c κs = search needs
 
+put-lines-requires : tie.Need-put-lines-requires
+put-lines-requires c κs = search needs
+
 same-length : tie.Need-same-length
 same-length c = search needs
 
@@ -35,11 +38,14 @@ same-length-2 c = search needs
 same-length-3 : tie.Need-same-length-3
 same-length-3 c = search needs
 
+same-length-4 : tie.Need-same-length-4
+same-length-4 c = search needs
+
 returns : tie.Need-returns
 returns c = search needs
 
-pub grouped-spec : {M : Type 1} → statement M
-grouped-spec =
+pub group-in-spec : {M : Type 1} → statement M
+group-in-spec =
     tie.close
     (tie.spec
     wide-requires
@@ -49,7 +55,9 @@ grouped-spec =
     array-borrow-prefix-other
     slice-aggregate-savoiky-compute-line-groups-2
     savoiky-compute-line-groups-requires
+    put-lines-requires
     same-length
     same-length-2
     same-length-3
+    same-length-4
     returns)
