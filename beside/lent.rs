@@ -220,8 +220,10 @@ impl Lent {
     }
 
     fn question_2(&self, a: &Areas) -> bool {
-        let mut n = self.sizes;
-        let [stops, trips, _, _, edges, _, patterns, lines, entries, departures, _, delays, stop_rows, origins, egress] = n.numbers().map(|x| x as u64);
+        let n = &self.sizes;
+        let (stops, trips, edges, patterns, lines) = (n.stops as u64, n.trips as u64, n.edges as u64, n.patterns as u64, n.lines as u64);
+        let (entries, departures, delays, stop_rows) = (n.entries as u64, n.departures as u64, n.delays as u64, n.stop_rows as u64);
+        let (origins, egress) = (n.origins as u64, n.egress as u64);
         self.rows().sized()
             && self.built.len() as u64 == trips + 2 * lines + entries + 3 * stops + 2 * departures + 2 * self.rows().events()
             && self.patterns.len() as u64 == 64 * patterns
