@@ -1,10 +1,7 @@
 // The leaves timed beside the Rust: same inputs, one run, both optimised, each call through a function that is not inlined.
 // Prints nanoseconds a call (median of 15 passes) and the ratio.
 #![allow(dead_code, unused)]
-include!(concat!(env!("ORACLE"), "/oracle.rs"));
-include!(concat!(env!("BESIDE"), "/ffi.rs"));
-include!(concat!(env!("BESIDE"), "/random.rs"));
-include!(concat!(env!("BESIDE"), "/cases.rs"));
+include!(concat!(env!("BESIDE"), "/parts.rs"));
 include!(concat!(env!("BESIDE"), "/ours.rs"));
 use std::hint::black_box;
 use std::time::Instant;

@@ -1,10 +1,7 @@
 // The building calls timed beside the Rust: same tables, one run, both optimised, doors included (the Rust has none).
 // Prints milliseconds a call (median of 9 passes) and the ratio.
 #![allow(dead_code, unused)]
-include!(concat!(env!("ORACLE"), "/oracle.rs"));
-include!(concat!(env!("BESIDE"), "/ffi.rs"));
-include!(concat!(env!("BESIDE"), "/random.rs"));
-include!(concat!(env!("BESIDE"), "/cases.rs"));
+include!(concat!(env!("BESIDE"), "/parts.rs"));
 include!(concat!(env!("BESIDE"), "/rows.rs"));
 include!(concat!(env!("BESIDE"), "/timetables.rs"));
 use std::hint::black_box;

@@ -2,16 +2,7 @@
 // no doors). Prints microseconds a query, the median of all queries and passes, taken in turn; beside it what a refusal by the last question
 // costs (the doors' share) and what zeroing areas of these sizes costs.
 #![allow(dead_code, unused)]
-include!(concat!(env!("ORACLE"), "/oracle.rs"));
-include!(concat!(env!("BESIDE"), "/ffi.rs"));
-include!(concat!(env!("BESIDE"), "/random.rs"));
-include!(concat!(env!("BESIDE"), "/cases.rs"));
-include!(concat!(env!("BESIDE"), "/rows.rs"));
-include!(concat!(env!("BESIDE"), "/searches.rs"));
-include!(concat!(env!("BESIDE"), "/lent.rs"));
-include!(concat!(env!("BESIDE"), "/outcomes.rs"));
-#[cfg(mock)]
-include!(concat!(env!("BESIDE"), "/mock.rs"));
+include!(concat!(env!("BESIDE"), "/query_parts.rs"));
 use std::hint::black_box;
 use std::time::Instant;
 

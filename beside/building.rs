@@ -1,10 +1,7 @@
 // The building calls beside the Rust: random and hand-made tables, every limit, damaged copies; every word of every slice
 // compared, after refusals too. It prints only how many were compared and how many differed; status 1 where any did.
 #![allow(dead_code, unused)]
-include!(concat!(env!("ORACLE"), "/oracle.rs"));
-include!(concat!(env!("BESIDE"), "/ffi.rs"));
-include!(concat!(env!("BESIDE"), "/random.rs"));
-include!(concat!(env!("BESIDE"), "/cases.rs"));
+include!(concat!(env!("BESIDE"), "/parts.rs"));
 include!(concat!(env!("BESIDE"), "/rows.rs"));
 include!(concat!(env!("BESIDE"), "/timetables.rs"));
 

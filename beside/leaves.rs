@@ -1,10 +1,7 @@
 // The leaves beside the Rust: the same inputs to the exported calls and to docs/src, every answer compared.
 // It prints only how many inputs of each leaf were compared and how many differed; status 1 where any did.
 #![allow(dead_code, unused)]
-include!(concat!(env!("ORACLE"), "/oracle.rs"));
-include!(concat!(env!("BESIDE"), "/ffi.rs"));
-include!(concat!(env!("BESIDE"), "/random.rs"));
-include!(concat!(env!("BESIDE"), "/cases.rs"));
+include!(concat!(env!("BESIDE"), "/parts.rs"));
 include!(concat!(env!("BESIDE"), "/ours.rs"));
 
 const RANDOM: u64 = 1_000_000;

@@ -13,10 +13,7 @@
 //      positions (5), FIFO (3); transfers: code, count, area (96), runs (30). What is lent to be written holds 7 in every word.
 //   10 label: kind, seven fields, distance (a whole number), stop, row of three stops; then the record's eight words and its distance
 #![allow(dead_code, unused)]
-include!(concat!(env!("ORACLE"), "/oracle.rs"));
-include!(concat!(env!("BESIDE"), "/ffi.rs"));
-include!(concat!(env!("BESIDE"), "/random.rs"));
-include!(concat!(env!("BESIDE"), "/cases.rs"));
+include!(concat!(env!("BESIDE"), "/parts.rs"));
 include!(concat!(env!("BESIDE"), "/rows.rs"));
 include!(concat!(env!("BESIDE"), "/timetables.rs"));
 

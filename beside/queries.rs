@@ -3,18 +3,9 @@
 // word of every area is compared, after a refusal too. It prints only how many were compared, by the code expected, and how many differed;
 // status 1 where any did, or where a code was never met.
 #![allow(dead_code, unused)]
-include!(concat!(env!("ORACLE"), "/oracle.rs"));
-include!(concat!(env!("BESIDE"), "/ffi.rs"));
-include!(concat!(env!("BESIDE"), "/random.rs"));
-include!(concat!(env!("BESIDE"), "/cases.rs"));
-include!(concat!(env!("BESIDE"), "/rows.rs"));
-include!(concat!(env!("BESIDE"), "/searches.rs"));
-include!(concat!(env!("BESIDE"), "/lent.rs"));
-include!(concat!(env!("BESIDE"), "/outcomes.rs"));
+include!(concat!(env!("BESIDE"), "/query_parts.rs"));
 include!(concat!(env!("BESIDE"), "/damage.rs"));
 include!(concat!(env!("BESIDE"), "/journeys.rs"));
-#[cfg(mock)]
-include!(concat!(env!("BESIDE"), "/mock.rs"));
 
 const COUNT: u32 = 100_000;
 

@@ -1,0 +1,5 @@
+// What every program here takes: the Rust, the exported calls, random numbers and cases.
+include!(concat!(env!("ORACLE"), "/oracle.rs"));
+include!(concat!(env!("BESIDE"), "/ffi.rs"));
+include!(concat!(env!("BESIDE"), "/random.rs"));
+include!(concat!(env!("BESIDE"), "/cases.rs"));
