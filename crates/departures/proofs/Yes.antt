@@ -46,7 +46,7 @@ runs-listed c runs d k f n h =
     record { counts = k; few = f; size = n; run = λ s u. leb-true (runEnd runs s) d (everyIn-at (λ i. runIn d (runAt runs i)) (c .stops) s h u) }
 
 -- 4, of the rows' numbers
-row-known : (t : List ℕ) (c : Counts) (r : DepartureRow) → rowNumbers t c r ≡ true → RowKnown t c r
+pub row-known : (t : List ℕ) (c : Counts) (r : DepartureRow) → rowNumbers t c r ≡ true → RowKnown t c r
 unfolding rowNumbers
 row-known t c r h =
     record { trip = ltb-true _ _ (and-left (ltb (r .trip) (c .trips)) (ltb (r .offset) (countOf t c (r .trip))) h); offset = ltb-true _ _ (and-right (ltb (r .trip) (c .trips)) (ltb (r .offset) (countOf t c (r .trip))) h) }

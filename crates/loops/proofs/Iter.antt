@@ -99,7 +99,22 @@ every-no f i b inv e h = sym (inv ∙ every-turn f i b h ∙ simp e)
 pub every-left : (f : ℕ → Bool) (i b : ℕ) {whole : Bool} → whole ≡ everyIn f i b → b ≤ i → true ≡ whole
 every-left f i b inv h = sym (inv ∙ every-done f i b h)
 
--- A search, with the invariant `whole ≡ firstIn f i b`: a turn that goes on, one that finds it, the end.
+-- A loop that looks at every number and keeps what it found, with the invariant `whole ≡ found && everyIn f i b`: a turn, the end.
+and-again : (a b c : Bool) → a && (b && c) ≡ (a && b) && c
+and-again true b c = refl
+and-again false b c = refl
+
+pub every-keep : (f : ℕ → Bool) (i b : ℕ) (found : Bool) {whole more : Bool} → whole ≡ found && everyIn f i b → more ≡ found && f i → i < b → whole ≡ more && everyIn f (i + 1) b
+every-keep f i b found {whole} {more} inv e h =
+    inv ∙ ap (λ (x : Bool). found && x) (every-turn f i b h) ∙ and-again found (f i) (everyIn f (i + 1) b) ∙ ap (λ (x : Bool). x && everyIn f (i + 1) b) (sym e)
+
+pub every-kept : (f : ℕ → Bool) (i b : ℕ) (found : Bool) {whole : Bool} → whole ≡ found && everyIn f i b → b ≤ i → found ≡ whole
+every-kept f i b found {whole} inv h = sym (inv ∙ ap (λ (x : Bool). found && x) (every-done f i b h) ∙ and-true found)
+  where
+    and-true : (a : Bool) → a && true ≡ a
+    and-true true = refl
+    and-true false = refl
+
 -- two tests at once
 pub every-both : (f g : ℕ → Bool) (i n : ℕ) → every (λ k. f k && g k) i n ≡ every f i n && every g i n
 unfolding every
@@ -112,6 +127,7 @@ every-both f g i (suc n) = ap (λ (x : Bool). (f i && g i) && x) (every-both f g
     go true false false y = refl
     go false b x y = refl
 
+-- A search, with the invariant `whole ≡ firstIn f i b`: a turn that goes on, one that finds it, the end.
 pub first-again : (f : ℕ → Bool) (i b : ℕ) {whole : Hit} → whole ≡ firstIn f i b → f i ≡ false → i < b → whole ≡ firstIn f (i + 1) b
 first-again f i b inv e h =
     let n : b - i ≡ suc (b - (i + 1)) = omega arith in

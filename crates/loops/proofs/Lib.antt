@@ -1,3 +1,4 @@
 pub mod Iter
 pub mod Count
 pub mod Search
+pub mod Most

@@ -1,19 +1,21 @@
 -- What a yes to each question gives.
 use Rattle.loops.specs.Iter.{some}
 use Rattle.loops.specs.Count.{one}
-use Prim.Native.Nat.{ℕ, suc, _+_, _*_, _-_, _<_, _≤_}
-use mathlib.Core.Path.{_≡_, _∙_, ap, sym, refl}
+use Prim.Native.Nat.{ℕ, suc, max, _+_, _*_, _-_, _^_, _<_, _≤_}
+use mathlib.Core.Path.{_≡_, _∙_, ap, ap₂, sym, refl}
 use mathlib.Core.Bool.{Bool, true, false, _&&_}
 use mathlib.Core.List.{List}
 use native.Mathlib.Omega.{arith}
 use native.Mathlib.Numerals.{add-one}
-use lib.ListN.{length}
+use lib.ListN.{length, getD}
 use lib.Dec.{leb, ltb}
-use borrow.Author.Tests.{eqb-true, leb-true, ltb-true}
-use Rattle.loops.proofs.Iter.{and-left, and-right, every-both, everyIn-at}
+use lib.Bits.{bitOr}
+use borrow.Author.Tests.{eqb-true, le-leb, leb-true, ltb-true}
+use Rattle.loops.proofs.Iter.{and-left, and-right, everyIn-at}
+use Rattle.loops.proofs.Most.{max-most, or-most}
 use Rattle.tables.specs.declared.Counts.{Counts}
 use Rattle.tables.specs.declared.Check.{Check}
-use Rattle.tables.specs.declared.Check.the-variants.{TripRuns, StopTimeNumbers, EdgeNumbers, StopTimeRanges, TripRanges, WindowRanges, EdgeRanges, EdgeOrder, StopTimes}
+use Rattle.tables.specs.declared.Check.the-variants.{TripRuns, StopTimeNumbers, EdgeNumbers, StopTimeRanges, TripRanges, WindowRanges, EdgeRanges, EdgeOrder}
 use Rattle.tables.specs.Tables.{countOf, firstOf, sizeOf, tripOf, edgeOf, timeOf, windowOf, stopTimeAt, tripAt, windowAt, edgeAt}
 use Rattle.tables.specs.Door.{countsOk, slicesOk, tripRuns, stopTimeNumbers, edgeNumbers, stopTimeRanges, tripRanges, windowRanges, edgeRanges, edgeRises, rowsOf, rowOk, everyRow, runsOk, numbersOk, rangesOk, orderOk}
 use Rattle.tables.specs.Sane.{CountsOk, SlicesOk, RunsOk, NumbersOk, RangesOk, OrderOk, Sane}
@@ -139,12 +141,11 @@ sane t c a b d e f = record { counts = counts-yes c a; slices = slices-yes t c b
 
 -- questions 4 and 5 at once
 pub rows-both : (t : List ℕ) (c : Counts)
-    → (everyRow t c StopTimes && (everyRow t c EdgeNumbers && everyRow t c TripRanges)) && (everyRow t c WindowRanges && everyRow t c EdgeRanges) ≡ numbersOk t c && rangesOk t c
+    → ((everyRow t c StopTimeNumbers && everyRow t c StopTimeRanges) && (everyRow t c EdgeNumbers && everyRow t c TripRanges)) && (everyRow t c WindowRanges && everyRow t c EdgeRanges)
+    ≡ numbersOk t c && rangesOk t c
 unfolding numbersOk rangesOk
 rows-both t c =
-    ap (λ (x : Bool). (x && (everyRow t c EdgeNumbers && everyRow t c TripRanges)) && (everyRow t c WindowRanges && everyRow t c EdgeRanges))
-    (every-both (rowOk t c StopTimeNumbers) (rowOk t c StopTimeRanges) 0 (c .times - 0))
-    ∙ go (everyRow t c StopTimeNumbers) (everyRow t c StopTimeRanges) (everyRow t c EdgeNumbers) (everyRow t c TripRanges) (everyRow t c WindowRanges && everyRow t c EdgeRanges)
+    go (everyRow t c StopTimeNumbers) (everyRow t c StopTimeRanges) (everyRow t c EdgeNumbers) (everyRow t c TripRanges) (everyRow t c WindowRanges && everyRow t c EdgeRanges)
   where
     go : (n s a b x : Bool) → ((n && s) && (a && b)) && x ≡ (n && a) && ((s && b) && x)
     go true true true b x = refl
@@ -152,3 +153,44 @@ rows-both t c =
     go true false true b x = refl
     go true false false b x = refl
     go false s a b x = refl
+
+-- questions 4 and 5 of a stop time, and what the loop over the stop times keeps of those that it passed: the greatest stop plus one, all
+-- bits of the times and of the codes
+abbrev pub inRange : List ℕ → Counts → ℕ → Bool
+inRange t c i = rowOk t c StopTimeNumbers i && rowOk t c StopTimeRanges i
+
+abbrev pub kept : Counts → ℕ → ℕ → ℕ → Bool
+kept c stops times codes = leb stops (c .stops) && (leb times 1048575 && leb codes 3)
+
+pub kept-turn : (t : List ℕ) (c : Counts) (i m a k : ℕ)
+    → kept c (max m (timeOf t i 0 + 1)) (bitOr a (bitOr (timeOf t i 1) (timeOf t i 2))) (bitOr k (bitOr (timeOf t i 4) (timeOf t i 5))) ≡ kept c m a k && inRange t c i
+unfolding stopTimeNumbers stopTimeRanges
+kept-turn t c i m a k =
+    ap₂ _&&_ (max-most m (timeOf t i 0 + 1) (c .stops) ∙ ap (λ (x : ℕ). leb m (c .stops) && leb x (c .stops)) (add-one (timeOf t i 0))) (ap₂ _&&_ (bits 20 1048575 refl a (timeOf t i 1) (timeOf t i 2)) (bits 2 3 refl k (timeOf t i 4) (timeOf t i 5)))
+    ∙ go (leb m (c .stops)) (ltb (timeOf t i 0) (c .stops)) (leb a 1048575) (leb (timeOf t i 1) 1048575 && leb (timeOf t i 2) 1048575) (leb k 3) (leb (timeOf t i 4) 3 && leb (timeOf t i 5) 3)
+  where
+    bits : (e n : ℕ) → n + 1 ≡ 2 ^ e → (x y z : ℕ) → leb (bitOr x (bitOr y z)) n ≡ leb x n && (leb y n && leb z n)
+    bits e n h x y z = or-most e x (bitOr y z) n h ∙ ap (λ (b : Bool). leb x n && b) (or-most e y z n h)
+
+    go : (m s a x k p : Bool) → (m && s) && ((a && x) && (k && p)) ≡ (m && (a && k)) && (s && (x && p))
+    go false s a x k p = refl
+    go true true false x k p = refl
+    go true true true true k p = refl
+    go true true true false true p = refl
+    go true true true false false p = refl
+    go true false false x k p = refl
+    go true false true x true p = refl
+    go true false true x false p = refl
+
+-- as that loop begins
+pub kept-none : (c : Counts) (b : Bool) → b ≡ kept c 0 0 0 && b
+kept-none c b = sym (ap (λ (x : Bool). (x && (leb 0 1048575 && leb 0 3)) && b) (le-leb 0 (c .stops) (omega arith)))
+
+-- one turn of that loop, by the numbers as they were read
+pub kept-next : (t : List ℕ) (c : Counts) (i m a k : ℕ) {s l w1 w2 w4 w5 : ℕ} → s ≡ getD t (i * 6) 0 → l ≡ max m (s + 1) → w1 ≡ getD t (i * 6 + 1) 0 → w2 ≡ getD t (i * 6 + 2) 0
+    → w4 ≡ getD t (i * 6 + 4) 0 → w5 ≡ getD t (i * 6 + 5) 0 → kept c l (bitOr a (bitOr w1 w2)) (bitOr k (bitOr w4 w5)) ≡ kept c m a k && inRange t c i
+unfolding timeOf
+kept-next t c i m a k {s} es el e1 e2 e4 e5 =
+    let z : i * 6 ≡ i * 6 + 0 = omega arith in
+    let e0 : s ≡ getD t (i * 6 + 0) 0 = es ∙ ap (λ (x : ℕ). getD t x 0) z in
+    rw (el, e0, e1, e2, e4, e5) (kept-turn t c i m a k)

@@ -12,7 +12,7 @@ use Rattle.tables.specs.declared.TripRow.{TripRow}
 use Rattle.tables.specs.declared.WindowRow.{WindowRow}
 use Rattle.tables.specs.declared.EdgeRow.{EdgeRow}
 use Rattle.tables.specs.declared.Check.{Check}
-use Rattle.tables.specs.declared.Check.the-variants.{TripRuns, StopTimeNumbers, EdgeNumbers, StopTimeRanges, TripRanges, WindowRanges, EdgeRanges, EdgeOrder, StopTimes}
+use Rattle.tables.specs.declared.Check.the-variants.{TripRuns, StopTimeNumbers, EdgeNumbers, StopTimeRanges, TripRanges, WindowRanges, EdgeRanges, EdgeOrder}
 use Rattle.tables.specs.Tables.{sizeOf, edgeOf, stopTimeAt, tripAt, windowAt, edgeAt}
 
 -- 1: are all counts within the limits?
@@ -62,7 +62,6 @@ rowsOf TripRanges c = c .trips
 rowsOf WindowRanges c = c .windows
 rowsOf EdgeRanges c = c .edges
 rowsOf EdgeOrder c = c .edges
-rowsOf StopTimes c = c .times
 
 abbrev pub rowOk : List ℕ → Counts → Check → ℕ → Bool
 rowOk t c TripRuns i = tripRuns c (tripAt t c i)
@@ -73,7 +72,6 @@ rowOk t c TripRanges i = tripRanges (tripAt t c i)
 rowOk t c WindowRanges i = windowRanges (windowAt t c i)
 rowOk t c EdgeRanges i = edgeRanges (edgeAt t c i)
 rowOk t c EdgeOrder i = edgeRises t c i
-rowOk t c StopTimes i = stopTimeNumbers c (stopTimeAt t i) && stopTimeRanges (stopTimeAt t i)
 
 abbrev pub everyRow : List ℕ → Counts → Check → Bool
 everyRow t c k = everyIn (rowOk t c k) 0 (rowsOf k c)

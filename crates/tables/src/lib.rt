@@ -6,7 +6,7 @@
 // Assumes nothing.
 ghost use mathlib.Core.Path.{_≡_};
 ghost use mathlib.Core.Bool.{_&&_};
-ghost use Prim.Native.Nat.{_+_, _*_, _≤_, _<_};
+ghost use Prim.Native.Nat.{_+_, _*_, _≤_, _<_, max};
 ghost use lib.ListN.{length, getD};
 ghost use Rattle.tables.specs.Tables.{timeOf, tripOf, edgeOf, windowOf, sizeOf, stopTimeAt, tripAt, windowAt, edgeAt};
 ghost use Rattle.tables.specs.Door.{countsOk, slicesOk, tripRuns, stopTimeNumbers, edgeNumbers, stopTimeRanges, tripRanges, windowRanges, edgeRanges, edgeRises, rowsOf, rowOk, everyRow, runsOk, numbersOk, rangesOk, orderOk};
@@ -67,7 +67,6 @@ pub enum Check {
     WindowRanges,
     EdgeRanges,
     EdgeOrder,
-    StopTimes,
 }
 
 // One number of a table.
@@ -76,6 +75,14 @@ pub fn field(s: &[u32], i: usize) -> usize
     ensures { λ r. ⌜ r ≡ getD (now (s .entry)) i 0 ⌝ ∗ ⌜ r < 4294967296 ⌝ }
 {
     s[i] as usize
+}
+
+// The same as it is lent.
+pub fn word(s: &[u32], i: usize) -> u32
+    requires { ⌜ i < length (now s) ⌝ }
+    ensures { λ r. ⌜ r ≡ getD (now (s .entry)) i 0 ⌝ }
+{
+    s[i]
 }
 
 // Field k of stop time i: stop, arrival, departure, sequence, pickup, drop-off.
@@ -239,13 +246,6 @@ pub fn edge_ranges(r: EdgeRow) -> bool
     both(r.duration <= 1048575, r.pathway <= 7)
 }
 
-// Questions 4 and 5 of one stop time.
-pub fn stop_time_ok(r: StopTimeRow, c: Counts) -> bool
-    ensures { λ b. ⌜ b ≡ stopTimeNumbers c r && stopTimeRanges r ⌝ }
-{
-    both(stop_time_numbers(r, c), stop_time_ranges(r))
-}
-
 // Question 6 of a walk edge: it does not leave a lower stop than the one before it.
 fn edge_rises(t: &[u32], c: Counts, i: usize) -> bool
     requires { ⌜ CountsOk c ⌝ ∗ ⌜ SlicesOk (now t) c ⌝ ∗ ⌜ i < c .edges ⌝ }
@@ -270,7 +270,6 @@ fn rows_of(k: Check, c: Counts) -> usize
         Check::WindowRanges => c.windows,
         Check::EdgeRanges => c.edges,
         Check::EdgeOrder => c.edges,
-        Check::StopTimes => c.times,
     }
 }
 
@@ -288,7 +287,6 @@ fn row_ok(t: &[u32], c: Counts, k: Check, i: usize) -> bool
         Check::WindowRanges => window_ranges(window_row(t, c, i)),
         Check::EdgeRanges => edge_ranges(edge_row(t, c, i)),
         Check::EdgeOrder => edge_rises(t, c, i),
-        Check::StopTimes => stop_time_ok(stop_time_row(t, c, i), c),
     }
 }
 
@@ -336,12 +334,39 @@ pub fn ranges_ok(t: &[u32], c: Counts) -> bool
     both(both(a, b), both(d, e))
 }
 
+fn larger(a: usize, b: usize) -> usize
+    ensures { λ r. ⌜ r ≡ max a b ⌝ }
+{
+    if a < b { b } else { a }
+}
+
+// Questions 4 and 5 of every stop time, each read once and no branch between them: kept are the greatest stop plus one, and all bits of the
+// times and of the codes.
+fn stop_times_ok(t: &[u32], c: Counts) -> bool
+    requires { ⌜ CountsOk c ⌝ ∗ ⌜ SlicesOk (now t) c ⌝ }
+    ensures { λ r. ⌜ r ≡ everyRow (now (t .entry)) c Check.StopTimeNumbers && everyRow (now (t .entry)) c Check.StopTimeRanges ⌝ }
+{
+    let n = c.times;
+    let mut stops: usize = 0;
+    let mut times: u32 = 0;
+    let mut codes: u32 = 0;
+    let mut i: usize = 0;
+    while i < n {
+        let at = i * 6;
+        stops = larger(stops, field(t, at) + 1);
+        times = times | (word(t, at + 1) | word(t, at + 2));
+        codes = codes | (word(t, at + 4) | word(t, at + 5));
+        i += 1;
+    }
+    both(stops <= c.stops, both(times <= 1048575, codes <= 3))
+}
+
 // Questions 4 and 5 at once, each stop time read once.
 pub fn rows_ok(t: &[u32], c: Counts) -> bool
     requires { ⌜ CountsOk c ⌝ ∗ ⌜ SlicesOk (now t) c ⌝ }
     ensures { λ r. ⌜ r ≡ numbersOk (now (t .entry)) c && rangesOk (now (t .entry)) c ⌝ }
 {
-    let x = every_row(t, c, Check::StopTimes);
+    let x = stop_times_ok(t, c);
     let a = every_row(t, c, Check::EdgeNumbers);
     let b = every_row(t, c, Check::TripRanges);
     let d = every_row(t, c, Check::WindowRanges);

@@ -76,15 +76,6 @@ enum-told-8 c = search needs
 edge-rises-requires : tie.Need-edge-rises-requires
 edge-rises-requires c κs = (search needs, (search needs, omega (arith, ap (λ (k : Check). rowsOf k (c .before .before .before .args .c)) (c .enum-told8 .given .1))))
 
-enum-told-9 : tie.Need-enum-told-9
-enum-told-9 c = search needs
-
-stop-time-row-requires-3 : tie.Need-stop-time-row-requires-3
-stop-time-row-requires-3 c κs = (search needs, (search needs, omega (arith, ap (λ (k : Check). rowsOf k (c .before .before .before .args .c)) (c .enum-told9 .given .1))))
-
-stop-time-ok-requires : tie.Need-stop-time-ok-requires
-stop-time-ok-requires c κs = search needs
-
 returns : tie.Need-returns
 returns c = cc (ap (λ (k : Check). rowOk (now (c .before .before .before .before .before .args .t)) (c .before .before .before .before .before .args .c) k (c .before .before .before .before .before .args .i)) (c .before .before .enum-told .given .1))
 
@@ -108,9 +99,6 @@ returns-7 c = cc (ap (λ (k : Check). rowOk (now (c .before .before .before .bef
 
 returns-8 : tie.Need-returns-8
 returns-8 c = cc (ap (λ (k : Check). rowOk (now (c .before .before .before .before .args .t)) (c .before .before .before .before .args .c) k (c .before .before .before .before .args .i)) (c .before .enum-told8 .given .1))
-
-returns-9 : tie.Need-returns-9
-returns-9 c = cc (ap (λ (k : Check). rowOk (now (c .before .before .before .before .before .args .t)) (c .before .before .before .before .before .args .c) k (c .before .before .before .before .before .args .i)) (c .before .before .enum-told9 .given .1))
 
 pub row-ok-spec : {M : Type 1} → statement M
 row-ok-spec =
@@ -139,9 +127,6 @@ row-ok-spec =
     edge-ranges-requires
     enum-told-8
     edge-rises-requires
-    enum-told-9
-    stop-time-row-requires-3
-    stop-time-ok-requires
     returns
     returns-2
     returns-3
@@ -149,5 +134,4 @@ row-ok-spec =
     returns-5
     returns-6
     returns-7
-    returns-8
-    returns-9)
+    returns-8)
