@@ -9,11 +9,15 @@ use Rattle.door.proofs.Laws.{ask-no, ask-on}
 use Rattle.asking.specs.declared.QueryCounts.{QueryCounts}
 use Rattle.asking.specs.declared.Lengths.{Lengths}
 use Rattle.asking.specs.Lent.{transferRows, Lent}
+use Rattle.asking.specs.Sane.{Limits}
 use Rattle.asking.specs.Door.{workSize, workspaceAnswer, question1, question2, question3, question4, question5, question6, verdict}
 
 -- so many rows fit the area
 pub rows-room : (n : QueryCounts) (area rows : ℕ) → rows ≡ transferRows n area → rows * 4 ≤ area
 rows-room n area rows e = omega arith
+
+pub rows-few : (n : QueryCounts) (area rows : ℕ) → Limits n → rows ≡ transferRows n area → rows ≤ 65536
+rows-few n area rows l e = omega (arith, l .transfers)
 
 module _ (x : Lent) (l : Lengths) where
   abbrev rows : ℕ

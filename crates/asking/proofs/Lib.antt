@@ -4,3 +4,4 @@ pub mod Asking
 pub mod Laws
 pub mod Examples
 pub mod Converse
+pub mod Once

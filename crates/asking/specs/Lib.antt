@@ -1,3 +1,4 @@
 pub mod Lent
 pub mod Door
 pub mod Sane
+pub mod Once

@@ -1,12 +1,12 @@
 // asking: what a query is lent to read, and its door (document 01, questions 1 to 6).
 // Specs: where each section stands, the tables and the query that the lent slices say (Lent); each question as a test of the
-// lists and the verdict (Door); what a yes gives (Sane).
+// lists and the verdict (Door); what a yes gives (Sane); questions 4 to 6 asked at once (Once).
 // Proves: `questions` answers the verdict on every input. In proofs/Yes: what each yes gives. In proofs/Laws: a verdict of 0 gives
 // the model's door of the tables and the query that the slices say; in proofs/Converse: question 6 finds departures and egress
 // stops in order where the model's door has them so. In proofs/Examples: Timetable K passes, damaged copies are refused.
 // Assumes nothing.
 ghost use mathlib.Core.Path.{_≡_};
-ghost use mathlib.Core.Bool.{_&&_};
+ghost use mathlib.Core.Bool.{true, _&&_};
 ghost use Prim.Native.Nat.{_+_, _*_, _-_, _≤_, _<_};
 ghost use lib.ListN.{length, getD};
 ghost use lib.Dec.{ltb, leb};
@@ -14,12 +14,12 @@ ghost use Rattle.tables.specs.Timetable.{timetable};
 ghost use Rattle.tables.specs.Sane.{CountsOk, SlicesOk, RunsOk};
 ghost use Rattle.departures.specs.Departures.{rowAt, rowDeparture, departuresOf, runLength};
 ghost use Rattle.departures.specs.Listed.{RunsListed, RowKnown, RowsKnown, RowsListed};
-ghost use Rattle.asking.specs.Lent.{marksAt, transferRunsAt, builtSize, querySize, delaysOf, part, lineRuns, lineEntries, stopRuns, departureRows, delayRows, stopRows, egressPart, transferRuns, transferRunAt, transferRows, lent};
+ghost use Rattle.asking.specs.Lent.{marksAt, transferRunsAt, builtSize, querySize, delaysOf, part, lineRuns, lineEntries, stopRuns, departureRows, delayRows, stopRows, egressPart, transferRuns, transferRows, lent};
 ghost use Rattle.asking.specs.Door.{question1, workspaceAnswer, readOk, workSize, columnAt, writtenOk, question2, transferRunsOk, question3, columnBelow, lineNumbers, queryNumbers, question4, markRanges, transferRanges, settingRanges, walkRanges, question5, partOrder, departureOrder, columnRises, question6, verdict};
 ghost use Rattle.asking.specs.Sane.{Limits, Sized, Placed, Column};
+ghost use Rattle.asking.specs.Once.{Leaving, RunRight, InTurn, queryOk, tablesOk, Passed};
 ghost use Rattle.delays.specs.Asked.{rowsAsked};
 use departures::DepartureRow;
-use departures::StopRun;
 use door::Answer;
 use door::both;
 use tables::Counts;
@@ -253,36 +253,31 @@ pub fn transfer_rows(n: QueryCounts, area: usize) -> usize
     }
 }
 
-// Transfer run e.
-pub fn transfer_run(built: &[u32], n: QueryCounts, e: usize) -> StopRun
-    requires { ⌜ Limits n ⌝ ∗ ⌜ transferRunsAt n + e * 2 + 1 < length (now built) ⌝ }
-    ensures { λ r. ⌜ r ≡ transferRunAt (now (built .entry)) n e ⌝ ∗ ⌜ (r .first < 4294967296) × (r .length < 4294967296) ⌝ }
-{
-    let at = transfer_runs_at(n) + e * 2;
-    StopRun {
-        first: tables::field(built, at),
-        length: tables::field(built, at + 1),
-    }
-}
-
-// Question 3 of every event's transfer run.
+// Question 3 of every event's transfer run, no branch between them: kept are all bits of first row and length, and whether each sum is in the
+// rows. Below 2^31 no sum wraps.
 fn transfer_runs_ok(built: &[u32], n: QueryCounts, events: usize, rows: usize) -> bool
-    requires { ⌜ Limits n ⌝ ∗ ⌜ transferRunsAt n + events * 2 ≤ length (now built) ⌝ }
+    requires { ⌜ Limits n ⌝ ∗ ⌜ transferRunsAt n + events * 2 ≤ length (now built) ⌝ ∗ ⌜ rows ≤ 65536 ⌝ }
     ensures { λ r. ⌜ r ≡ transferRunsOk (now (built .entry)) n events rows ⌝ }
 {
+    let from = transfer_runs_at(n);
+    let limit = rows as u32;
+    let mut inside = true;
+    let mut bits: u32 = 0;
     let mut e: usize = 0;
     while e < events {
-        if !departures::run_in(transfer_run(built, n, e), rows) {
-            return false;
-        }
+        let at = from + e * 2;
+        let first = tables::word(built, at);
+        let length = tables::word(built, at + 1);
+        inside = both(inside, first % 2147483648 + length % 2147483648 <= limit);
+        bits = bits | (first | length);
         e += 1;
     }
-    true
+    both(inside, bits <= 2147483647)
 }
 
 // Question 3.
 fn runs_ok(t: &[u32], built: &[u32], n: QueryCounts, rows: usize) -> bool
-    requires { ⌜ Limits n ⌝ ∗ ⌜ SlicesOk (now t) (n .timetable) ⌝ ∗ ⌜ length (now built) ≡ builtSize (now t) n ⌝ }
+    requires { ⌜ Limits n ⌝ ∗ ⌜ SlicesOk (now t) (n .timetable) ⌝ ∗ ⌜ length (now built) ≡ builtSize (now t) n ⌝ ∗ ⌜ rows ≤ 65536 ⌝ }
     ensures { λ r. ⌜ r ≡ question3 (now (t .entry)) (now (built .entry)) n rows ⌝ }
 {
     let lines = line_layout::line_runs_ok(line_runs(built, n), n.lines, n.entries);
@@ -370,12 +365,18 @@ fn mark_ranges(built: &[u32], n: QueryCounts) -> bool
     column_below(built, marks_at(n), 1, n.timetable.stops, 2)
 }
 
-// Question 5 of the transfers.
+// Question 5 of the transfers: all bits of their times are kept.
 fn transfer_ranges(transfers: &[u32], rows: usize) -> bool
     requires { ⌜ rows * 4 ≤ length (now transfers) ⌝ }
     ensures { λ r. ⌜ r ≡ transferRanges (now (transfers .entry)) rows ⌝ }
 {
-    column_below(transfers, 2, 4, rows, 1048576)
+    let mut bits: u32 = 0;
+    let mut k: usize = 0;
+    while k < rows {
+        bits = bits | tables::word(transfers, 2 + k * 4);
+        k += 1;
+    }
+    bits <= 1048575
 }
 
 // Question 5 of the query's settings.
@@ -544,6 +545,113 @@ fn order_ok(t: &[u32], built: &[u32], q: &[u32], n: QueryCounts) -> bool
     )
 }
 
+// Questions 4 and 6 of a listed row of stop s: when it leaves, plus 1; 0 where its numbers or its stop are not right.
+fn leaving(t: &[u32], c: Counts, s: usize, r: DepartureRow) -> usize
+    requires { ⌜ CountsOk c ⌝ ∗ ⌜ SlicesOk (now t) c ⌝ ∗ ⌜ RunsOk (now t) c ⌝ }
+    ensures { λ b. ⌜ (0 < b → Leaving (now (t .entry)) c s r b) ⌝ }
+{
+    if !departures::row_numbers(t, c, r) {
+        return 0;
+    }
+    let at = tables::trip(t, c, r.trip, 0) + r.offset;
+    if tables::time(t, c, at, 0) != s {
+        return 0;
+    }
+    tables::time(t, c, at, 2) + 1
+}
+
+// Of the rows of stop s from `first` on, up to `end`: is each right, and none earlier than the one before it?
+fn run_right(t: &[u32], c: Counts, rows: &[u32], s: usize, first: usize, end: usize) -> bool
+    requires { ⌜ CountsOk c ⌝ ∗ ⌜ SlicesOk (now t) c ⌝ ∗ ⌜ RunsOk (now t) c ⌝ ∗ ⌜ end * 2 ≤ length (now rows) ⌝ }
+    ensures { λ b. ⌜ (b ≡ true → RunRight (now (t .entry)) c (now (rows .entry)) s first end) ⌝ }
+{
+    let mut last: usize = 1;
+    let mut k = first;
+    while k < end {
+        let next = leaving(t, c, s, departures::departure_row(rows, k));
+        if next < last {
+            return false;
+        }
+        last = next;
+        k += 1;
+    }
+    true
+}
+
+// Of all departures, each read once. Only where the stops' runs follow one another and leave no row out; else false.
+fn in_turn(t: &[u32], c: Counts, runs: &[u32], rows: &[u32], d: usize) -> bool
+    requires { ⌜ SlicesOk (now t) c ⌝ ∗ ⌜ RunsOk (now t) c ⌝ ∗ ⌜ RunsListed c (now runs) d ⌝ ∗ ⌜ length (now rows) ≡ d * 2 ⌝ }
+    ensures { λ b. ⌜ (b ≡ true → InTurn (now (t .entry)) c (now (runs .entry)) (now (rows .entry)) d) ⌝ }
+{
+    let n = c.stops;
+    let mut end: usize = 0;
+    let mut s: usize = 0;
+    while s < n {
+        let r = departures::stop_run(runs, s);
+        let first = r.first;
+        if first != end {
+            return false;
+        }
+        end += r.length;
+        if !run_right(t, c, rows, s, first, end) {
+            return false;
+        }
+        s += 1;
+    }
+    end == d
+}
+
+// Questions 4 to 6 of the query's numbers.
+fn query_ok(q: &[u32], n: QueryCounts) -> bool
+    requires { ⌜ Limits n ⌝ ∗ ⌜ querySize n ≤ length (now q) ⌝ }
+    ensures { λ r. ⌜ r ≡ queryOk (now (q .entry)) n ⌝ }
+{
+    let numbers = both(query_numbers(q, n), delays_ok(4, q, n));
+    let ranges = both(
+        setting_ranges(q),
+        both(walk_ranges(q, n), delays_ok(5, q, n)),
+    );
+    let order = both(
+        egress_order(q, 7 + n.origins * 2, n.egress),
+        delays_ok(6, q, n),
+    );
+    both(numbers, both(ranges, order))
+}
+
+// Of the tables but for the departures.
+fn tables_ok(t: &[u32], built: &[u32], transfers: &[u32], n: QueryCounts, rows: usize) -> bool
+    requires { ⌜ Limits n ⌝ ∗ ⌜ SlicesOk (now t) (n .timetable) ⌝ ∗ ⌜ transferRunsAt n ≤ length (now built) ⌝ ∗ ⌜ rows * 4 ≤ length (now transfers) ⌝ }
+    ensures { λ r. ⌜ r ≡ tablesOk (now (t .entry)) (now (built .entry)) (now (transfers .entry)) n rows ⌝ }
+{
+    let c = n.timetable;
+    let timetable = both(tables::rows_ok(t, c), tables::order_ok(t, c));
+    let codes = both(mark_ranges(built, n), transfer_ranges(transfers, rows));
+    both(timetable, both(line_numbers(built, n), codes))
+}
+
+// Questions 4, 5 and 6 at once. True is a yes to all three; false says nothing.
+fn passed(
+    t: &[u32],
+    built: &[u32],
+    transfers: &[u32],
+    q: &[u32],
+    n: QueryCounts,
+    rows: usize,
+) -> bool
+    requires { ⌜ Limits n ⌝ ∗ ⌜ Sized (now t) n (length (now built)) (length (now q)) ⌝ ∗ ⌜ Placed (now t) (now built) n rows ⌝ ∗ ⌜ rows * 4 ≤ length (now transfers) ⌝ }
+    ensures { λ r. ⌜ (r ≡ true → Passed (now (t .entry)) (now (built .entry)) (now (transfers .entry)) (now (q .entry)) n rows) ⌝ }
+{
+    if !query_ok(q, n) {
+        return false;
+    }
+    if !tables_ok(t, built, transfers, n, rows) {
+        return false;
+    }
+    let runs = stop_runs(built, n);
+    let listed = departure_rows(built, n);
+    in_turn(t, n.timetable, runs, listed, n.departures)
+}
+
 // THE QUESTIONS: the number of the first that is answered no, or 0.
 pub fn questions(
     n: QueryCounts,
@@ -574,6 +682,9 @@ pub fn questions(
     let rows = transfer_rows(n, transfers.len());
     if !runs_ok(t, built, n, rows) {
         return 3;
+    }
+    if passed(t, built, transfers, q, n, rows) {
+        return 0;
     }
     if !numbers_ok(t, built, q, n, rows) {
         return 4;

@@ -27,16 +27,16 @@ use Rattle.tables.proofs.runs_ok.Reads as runs-ok-reads
 use Rattle.transfers.proofs.event_count.Reads as event-count-reads
 
 line-runs-requires : tie.Need-line-runs-requires
-line-runs-requires c κs = (c .before .before .pre .0, omega (arith, c .before .before .pre .1 .1))
+line-runs-requires c κs = (c .before .before .pre .0, omega (arith, c .before .before .pre .1 .1 .0))
 
 line-runs-ok-requires : tie.Need-line-runs-ok-requires
-line-runs-ok-requires c κs = ap length (c .line-runs .ensures) ∙ line-runs-size (now (c .before .before .before .args .built)) (c .before .before .before .args .n) (omega (arith, c .before .before .before .pre .1 .1))
+line-runs-ok-requires c κs = ap length (c .line-runs .ensures) ∙ line-runs-size (now (c .before .before .before .args .built)) (c .before .before .before .args .n) (omega (arith, c .before .before .before .pre .1 .1 .0))
 
 stop-runs-requires : tie.Need-stop-runs-requires
-stop-runs-requires c κs = (c .before .before .before .before .pre .0, omega (arith, c .before .before .before .before .pre .1 .1))
+stop-runs-requires c κs = (c .before .before .before .before .pre .0, omega (arith, c .before .before .before .before .pre .1 .1 .0))
 
 stop-runs-ok-requires : tie.Need-stop-runs-ok-requires
-stop-runs-ok-requires c κs = ap length (c .stop-runs .ensures) ∙ stop-runs-size (now (c .before .before .before .before .before .args .built)) (c .before .before .before .before .before .args .n) (omega (arith, c .before .before .before .before .before .pre .1 .1))
+stop-runs-ok-requires c κs = ap length (c .stop-runs .ensures) ∙ stop-runs-size (now (c .before .before .before .before .before .args .built)) (c .before .before .before .before .before .args .n) (omega (arith, c .before .before .before .before .before .pre .1 .1 .0))
 
 event-count-requires : tie.Need-event-count-requires
 event-count-requires c κs = (c .before .before .before .before .before .before .pre .0 .counts, c .before .before .before .before .before .before .pre .1 .0)
@@ -48,7 +48,7 @@ both-requires : tie.Need-both-requires
 both-requires c κs = search needs
 
 transfer-runs-ok-requires : tie.Need-transfer-runs-ok-requires
-transfer-runs-ok-requires c κs = (c .before .before .before .before .before .before .before .before .before .pre .0, omega (arith, c .before .before .before .before .before .before .before .before .before .pre .1 .1, c .before .before .event-count .ensures .0))
+transfer-runs-ok-requires c κs = (c .before .before .before .before .before .before .before .before .before .pre .0, (omega (arith, c .before .before .before .before .before .before .before .before .before .pre .1 .1 .0, c .before .before .event-count .ensures .0), c .before .before .before .before .before .before .before .before .before .pre .1 .1 .1))
 
 both-requires-2 : tie.Need-both-requires-2
 both-requires-2 c κs = search needs

@@ -1,38 +1,53 @@
-use Rattle.asking.specs.Door.{transferRunsOk}
-use Rattle.asking.specs.Lent.{transferRunAt}
-use Rattle.departures.specs.Listed.{runIn}
-use borrow.Author.Tests.{not-false, not-true}
-use borrow.Author.Needs.{needs}
-use Rattle.loops.specs.Iter.{everyIn}
-use Rattle.loops.proofs.Iter.{every-again, every-left, every-no}
+use Prim.Native.Nat.{_%_, _+_, _-_, _≤_, ℕ}
+use mathlib.Core.Path.{_∙_, _≡_, ap, ap₂, refl}
+use mathlib.Core.Bool.{Bool, _&&_}
+use lib.Dec.{leb}
+use denote.Ref.{now}
 use native.Mathlib.Omega.{arith}
-use mathlib.Core.Path.{_∙_, _≡_, ap, refl, sym}
-use Prim.Native.Nat.{_-_}
+use Rattle.loops.specs.Iter.{everyIn}
+use Rattle.loops.proofs.Iter.{every-keep, every-kept}
+use Rattle.departures.specs.Listed.{runIn}
+use Rattle.asking.specs.Door.{transferRunsOk}
+use Rattle.asking.proofs.Once.{insideFrom, run-kept, runsKept}
+use borrow.Author.Needs.{needs}
 use Rattle.asking.proofs.transfer_runs_ok.Statement.{statement}
 use Rattle.asking.proofs.transfer_runs_ok.Tie as tie
-use Rattle.asking.proofs.transfer_runs_ok.Reads as reads
-use Rattle.asking.proofs.transfer_runs_ok.Lts as lts
-use Rattle.asking.proofs.transfer_run.Reads as transfer-run-reads
-use Rattle.departures.proofs.run_in.Reads as run-in-reads
 
 abbrev Inv-loop : tie.InvT-loop
-Inv-loop built n events rows e₀ e = transferRunsOk built n events rows ≡ everyIn (λ k. runIn rows (transferRunAt built n k)) e events
+Inv-loop built events rows from limit inside₀ bits₀ e₀ inside bits e = (limit ≡ rows) × (e ≤ events) × (everyIn (insideFrom built from rows) 0 events ≡ runsKept inside bits && everyIn (insideFrom built from rows) e events)
 
 abbrev μ-loop : tie.MeasureT-loop
-μ-loop built n events rows e₀ e = events - e
+μ-loop built events rows from limit inside₀ bits₀ e₀ inside bits e = events - e
+
+transfer-runs-at-requires : tie.Need-transfer-runs-at-requires Inv-loop μ-loop
+transfer-runs-at-requires c κs = search needs
+
+cast-limit : tie.Need-cast-limit Inv-loop μ-loop
+cast-limit c = omega arith
 
 loop-holds : tie.Need-loop-holds Inv-loop μ-loop
-unfolding transferRunsOk
-loop-holds c = refl
+loop-holds c = (omega arith, omega arith, refl)
 
-transfer-run-requires : tie.Need-transfer-run-requires Inv-loop μ-loop
-transfer-run-requires c κs = (search needs, omega (arith, c .before .before .before .pre .1))
+mul-at : tie.Need-mul-at Inv-loop μ-loop
+mul-at c = omega (arith, c .before .before .before .before .pre .1 .0)
 
-run-in-requires : tie.Need-run-in-requires Inv-loop μ-loop
-run-in-requires c κs = c .transfer-run .ensures .1
+add-at : tie.Need-add-at Inv-loop μ-loop
+add-at c = omega (arith, c .before .before .before .before .pre .1 .0, c .before .before .transfer-runs-at .ensures .0)
 
-returns : tie.Need-returns Inv-loop μ-loop
-returns c = every-no _ _ _ (c .before .before .before .before .loop .inv) (ap (runIn (c .before .before .before .before .before .before .args .rows)) (sym (c .before .before .transfer-run .ensures .0)) ∙ sym (c .before .run-in .ensures) ∙ not-true _ (c .if1 .taken)) (omega arith)
+word-requires : tie.Need-word-requires Inv-loop μ-loop
+word-requires c κs = omega (arith, c .before .before .before .before .pre .1 .0, c .before .before .transfer-runs-at .ensures .0)
+
+add-word : tie.Need-add-word Inv-loop μ-loop
+add-word c = omega (arith, c .before .before .before .before .before .pre .1 .0, c .before .before .before .transfer-runs-at .ensures .0)
+
+word-requires-2 : tie.Need-word-requires-2 Inv-loop μ-loop
+word-requires-2 c κs = omega (arith, c .before .before .before .before .before .pre .1 .0, c .before .before .before .transfer-runs-at .ensures .0)
+
+add-both : tie.Need-add-both Inv-loop μ-loop
+add-both c = omega arith
+
+both-requires : tie.Need-both-requires Inv-loop μ-loop
+both-requires c κs = search needs
 
 add-e : tie.Need-add-e Inv-loop μ-loop
 add-e c = omega arith
@@ -41,10 +56,14 @@ loop-less : tie.Need-loop-less Inv-loop μ-loop
 loop-less c = omega arith
 
 loop-again : tie.Need-loop-again Inv-loop μ-loop
-loop-again c = every-again _ _ _ (c .before .before .before .before .loop .inv) (ap (runIn (c .before .before .before .before .before .before .args .rows)) (sym (c .before .before .transfer-run .ensures .0)) ∙ sym (c .before .run-in .ensures) ∙ not-false _ (c .if1 .left)) (omega arith)
+loop-again c = let s = c .before .before .before .before .before .before .before in let l = c .before .before .before .before .loop in let b = now (s .args .built) in let from = c .before .before .before .before .before .transfer-runs-at .result in let f = c .before .before .word .result in let m = c .before .word2 .result in (l .inv .0, omega arith, every-keep (insideFrom b from (s .args .rows)) (l .e) (s .args .events) (runsKept (l .inside) (l .bits)) (l .inv .2) (run-kept (l .inside) (l .bits) (s .args .rows) f m (s .pre .1 .1) (c .both .ensures ∙ ap (λ (x : ℕ). l .inside && leb (f % 2147483648 + m % 2147483648) x) (l .inv .0)) ∙ ap (λ (x : Bool). runsKept (l .inside) (l .bits) && x) (ap₂ (λ (x y : ℕ). leb (x + y) (s .args .rows)) (c .before .before .word .ensures) (c .before .word2 .ensures))) (omega arith))
 
-returns-2 : tie.Need-returns-2 Inv-loop μ-loop
-returns-2 c = every-left _ _ _ (c .before .loop .inv) (omega arith)
+both-requires-2 : tie.Need-both-requires-2 Inv-loop μ-loop
+both-requires-2 c κs = search needs
+
+returns : tie.Need-returns Inv-loop μ-loop
+unfolding transferRunsOk runIn
+returns c = let s = c .before .before .before .before .before in let l = c .before .before .loop in let b = now (s .args .built) in let from = c .before .before .before .transfer-runs-at .result in c .both2 .ensures ∙ every-kept (insideFrom b from (s .args .rows)) (l .e) (s .args .events) (runsKept (l .inside) (l .bits)) (l .inv .2) (omega arith) ∙ ap (λ (x : ℕ). everyIn (insideFrom b x (s .args .rows)) 0 (s .args .events)) (c .before .before .before .transfer-runs-at .ensures .0)
 
 pub transfer-runs-ok-spec : {M : Type 1} → statement M
 transfer-runs-ok-spec =
@@ -52,11 +71,18 @@ transfer-runs-ok-spec =
     (tie.spec
     Inv-loop
     μ-loop
+    transfer-runs-at-requires
+    cast-limit
     loop-holds
-    transfer-run-requires
-    run-in-requires
-    returns
+    mul-at
+    add-at
+    word-requires
+    add-word
+    word-requires-2
+    add-both
+    both-requires
     add-e
     loop-less
     loop-again
-    returns-2)
+    both-requires-2
+    returns)
