@@ -21,7 +21,7 @@ fn row(name: &str, call: &str, mut ours: impl FnMut() -> f64, mut rust: impl FnM
         b.push(rust());
     }
     let (a, b) = (median(a) * 1e3, median(b) * 1e3);
-    println!("{name:<34} {call:<20} ours {a:8.3} ms   Rust {b:8.3} ms   ratio {:.2}", a / b);
+    println!("{name:<34} {call:<20} {a:>9.3} {b:>9.3} {:>7.2}", a / b);
 }
 
 fn timed(f: impl FnOnce()) -> f64 {
@@ -182,6 +182,7 @@ fn case(name: &str, mut x: Timetable) {
 }
 
 fn main() {
+    println!("{:<34} {:<20} {:>9} {:>9} {:>7}", "milliseconds, medians", "doors counted", "ours", "Rust", "ratio");
     let mut r = Random(99);
     let shapes = |r: &mut Random, n: u32, len: u32, stops: u32| -> Vec<Vec<u32>> { (0..n).map(|_| (0..len).map(|_| r.below(stops)).collect()).collect() };
     let s = shapes(&mut r, 80, 20, 1000);

@@ -1,6 +1,8 @@
-// A query timed beside the Rust (`TbrScratch::new` and `run_tbr`): same tables, one run, both optimised, doors and clearing included (the Rust has
-// no doors). Prints microseconds a query, the median of all queries and passes, taken in turn; beside it what a refusal by the last question
-// costs (the doors' share) and what zeroing areas of these sizes costs.
+// `query` and `run_tbr` timed beside the Rust (`TbrScratch::new` and `run_tbr`): same tables, one run, both optimised, doors and clearing included
+// (the Rust has no doors). Prints microseconds a query, the median of all queries and passes, taken in turn. Beside it, of `query`:
+//   idle      the same query without origins: doors, setting up (positions, FIFO flags) and clearing, and nothing to search
+//   refused   by the last question: there the questions are asked one by one
+//   zeroing   zeroing areas of these sizes, by the program
 #![allow(dead_code, unused)]
 include!(concat!(env!("BESIDE"), "/query_parts.rs"));
 use std::hint::black_box;
@@ -102,26 +104,40 @@ fn refused_last(x: &Lent) -> Lent {
     y
 }
 
+// the same search without origins
+fn no_origins(x: &Lent) -> Lent {
+    let mut y = x.clone();
+    let n = x.sizes.origins as usize;
+    y.query.drain(7..7 + 2 * n);
+    y.distances.truncate(x.distances.len() - n);
+    y.sizes.origins = 0;
+    y
+}
+
 #[derive(Default)]
 struct Times {
-    ours: Vec<f64>,
+    query: Vec<f64>,
+    run_tbr: Vec<f64>,
     rust: Vec<f64>,
-    doors: Vec<f64>,
-    clearing: Vec<f64>,
+    idle: Vec<f64>,
+    refused: Vec<f64>,
+    zeroing: Vec<f64>,
     ways: usize,
     differed: usize,
 }
 
 fn one(t: &mut Times, c: &Case, x: &Lent, a: &mut Areas) {
     let egress = c.egress.iter().map(|(s, e)| (*s, e.clone())).collect();
-    let last = refused_last(x);
+    let (last, idle) = (refused_last(x), no_origins(x));
     for _ in 0..PASSES {
-        let reply = timed(&mut t.ours, || ask_ours(Call::Query, black_box(x), a));
+        let reply = timed(&mut t.query, || ask_ours(Call::Query, black_box(x), a));
         let (best, candidates) = timed(&mut t.rust, || black_box(routing::tbr::search(&c.e, &c.q, c.start, &c.origins, &egress, c.off)));
         t.ways += best.is_some() as usize;
         t.differed += (reply.code != 0 || reply.total != best.map(|b| b.0).unwrap_or(u32::MAX) || reply.candidates as usize != candidates) as usize;
-        t.differed += (timed(&mut t.doors, || ask_ours(Call::Query, black_box(&last), a)).code != 6) as usize;
-        timed(&mut t.clearing, || clear(black_box(a)));
+        t.differed += (timed(&mut t.run_tbr, || ask_ours(Call::RunTbr, black_box(x), a)).code != 0) as usize;
+        t.differed += (timed(&mut t.idle, || ask_ours(Call::Query, black_box(&idle), a)).code != 0) as usize;
+        t.differed += (timed(&mut t.refused, || ask_ours(Call::Query, black_box(&last), a)).code != 6) as usize;
+        timed(&mut t.zeroing, || clear(black_box(a)));
     }
 }
 
@@ -134,9 +150,10 @@ fn row(r: &mut Random, name: &str, c: &mut Case, rounds: u32, off: bool) -> usiz
         let x = lend(r, c, false);
         one(&mut t, c, &x, &mut a);
     }
-    let (ours, rust, doors, clearing) = (median(&mut t.ours), median(&mut t.rust), median(&mut t.doors), median(&mut t.clearing));
-    let flags = if off { "off" } else { "on" };
-    println!("{name:<54} {rounds:>6} {flags:>5} {ours:>9.0} {rust:>9.0} {:>6.2} {doors:>9.0} {clearing:>9.0} {:>5}", ours / rust, 100 * t.ways / t.rust.len());
+    let (ours, tbr, rust) = (median(&mut t.query), median(&mut t.run_tbr), median(&mut t.rust));
+    let (idle, refused, zeroing) = (median(&mut t.idle), median(&mut t.refused), median(&mut t.zeroing));
+    let (flags, ways) = (if off { "off" } else { "on" }, 100 * t.ways / t.rust.len());
+    println!("{name:<54} {rounds:>6} {flags:>5} {ours:>7.0} {tbr:>7.0} {rust:>7.0} {:>6.2} {:>7.2} {idle:>7.0} {refused:>7.0} {zeroing:>7.0} {ways:>5}", ours / rust, tbr / rust);
     t.differed
 }
 
@@ -154,8 +171,7 @@ fn day(r: &mut Random, stops: u32, trips: u32, each: u32) -> (String, Case) {
 
 fn main() {
     let mut r = Random(2026);
-    let head = ["rounds", "flags", "ours", "Rust", "ratio", "refused", "zeroing", "ways%"];
-    println!("{:<54} {:>6} {:>5} {:>9} {:>9} {:>6} {:>9} {:>9} {:>5}", "microseconds a query", head[0], head[1], head[2], head[3], head[4], head[5], head[6], head[7]);
+    println!("{:<54} {:>6} {:>5} {:>7} {:>7} {:>7} {:>6} {:>7} {:>7} {:>7} {:>7} {:>5}", "microseconds, medians; doors and clearing counted", "rounds", "flags", "query", "run_tbr", "Rust", "ratio", "ratio", "idle", "refused", "zeroing", "ways%");
     let mut differed = 0;
     let (name, mut c) = day(&mut r, 1000, 2000, 20);
     for (rounds, off) in [(4, true), (4, false), (12, true), (12, false)] {
