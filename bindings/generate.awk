@@ -251,9 +251,29 @@ function rust_struct(name,    i, n, f) {
     printf "const _: () = assert!(std::mem::size_of::<%s>() == %d && std::mem::align_of::<%s>() == %d);\n", name, laid(name), name, aligned[name]
 }
 
+# The questions out of the text that begins with CODES: lines "  N  question? (more)", which may go on in lines further in.
+function questions(    i, t, n, k, number_of) {
+    for (i = 1; i <= calls; i++) {
+        n = split(text[i], t, "\n")
+        for (k = 1; k <= n; k++) {
+            if (t[k] ~ /^  [0-9]  /) { number_of = substr(t[k], 3, 1) + 0; question[number_of] = substr(t[k], 6) }
+            else if (t[k] ~ /^     [^ ]/ && number_of != "") question[number_of] = question[number_of] substr(t[k], 5)
+            else number_of = ""
+        }
+    }
+    print "\n// What each code says: the question that was answered no.\npub const QUESTIONS: [&str; 9] = ["
+    for (k = 0; k <= 8; k++) {
+        if (!(k in question)) fail("no question " k)
+        sub(/\?.*/, "?", question[k])
+        print "    \"" question[k] "\","
+    }
+    print "];"
+}
+
 function write_rust(    i) {
     print "// The exported calls, as crates/exports declares them; bindings/c/savoiky.h says what each takes and gives."
     print "// Written by bindings/generate: change crates/exports/src/lib.rt, not this file."
+    questions()
     for (i = 1; i <= structs; i++) rust_struct(order[i])
     print "\nextern \"C\" {"
     for (i = 1; i <= calls; i++)

@@ -1,6 +1,19 @@
 // The exported calls, as crates/exports declares them; bindings/c/savoiky.h says what each takes and gives.
 // Written by bindings/generate: change crates/exports/src/lib.rt, not this file.
 
+// What each code says: the question that was answered no.
+pub const QUESTIONS: [&str; 9] = [
+    "none: success",
+    "Are all counts within the limits?",
+    "Is every lent slice exactly as long as its counts say?",
+    "Has every trip a stop time, and do all runs lie in their tables?",
+    "Is every stop, trip, line and delay-row number below its count, and each departure's offset below its trip's count, with that stop time at its stop?",
+    "Is every time and code in its range?",
+    "Are walk edges, delay rows, stop rows, egress stops and, for a query, departures in order?",
+    "Building transfers: are there at most 65,536, and does the area hold all of them?",
+    "Query: does a half of the segment queue hold every round's segments?",
+];
+
 #[repr(C)]
 #[derive(Clone, Copy, PartialEq, Debug)]
 pub struct CellBitSet {
