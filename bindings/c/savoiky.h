@@ -138,7 +138,9 @@ SAVOIKY_SIZE(SavoikyReply, 16);
 /* An empty set for so many cells: whole groups of 64 are reserved. Question 1: at most 512 cells. */
 SavoikyCellSetAnswer savoiky_cell_bitset_new(uint32_t num_cells);
 
-/* The set with at least the groups of so many cells reserved; it holds the same cells. Question 1: at most 512 cells. */
+/* The set with at least the groups of so many cells reserved; it holds the same cells. Question 1: at most 512 cells; refused, the
+ * set is as it came.
+ */
 SavoikyCellSetAnswer savoiky_cell_bitset_ensure_sized(SavoikyCellBitSet set, uint32_t num_cells);
 
 /* The set with this cell; a cell past the reserved groups is dropped. */
@@ -246,7 +248,8 @@ SavoikyLabelAnswer savoiky_label_load(uint32_t stops, uint32_t stop, uint32_t ro
  *   stops, a word each: the cell (any number; 0 where there are none)
  * A trip is boarded only where the caller lists its departure: rows of two words (trip, offset), and for each stop the run of its
  * rows (so 2 departures and 2 stops words). Its last stop is not listed, as a rule.
- * The building calls: lines, then departure sorting, then transfers; a query finds positions and FIFO flags by itself.
+ * The building calls: lines, then departure sorting, then transfers; a query finds positions and FIFO flags by itself. The bytes
+ * active and excluded may change from query to query: nothing built depends on them.
  */
 
 /* Sorts each stop's listed departures by scheduled departure, in place and stably, and sets the stops' marks (one word a stop: 1

@@ -78,7 +78,7 @@ pub struct Built {
 }
 
 impl Timetable {
-    /// Lines, sorted departures and transfers of this timetable, ready to ask. Refused by 1 to 5 and 7.
+    /// Lines, sorted departures and transfers of this timetable, ready to ask. Refused by 1 to 5 and 7. Needs about 1 MiB of stack.
     pub fn build(&self) -> Result<Tables, Refusal> {
         let lines = self.compute_line_groups()?;
         let (departures, marks) = self.sort_stop_departures()?;
@@ -121,7 +121,7 @@ impl Timetable {
     }
 
     /// The transfers of every stop time of every trip, at most so many. Refused by 1 to 5, and by 7: more than 65,536, or
-    /// than so many.
+    /// than so many. Needs about 1 MiB of stack.
     pub fn compute_trip_transfers(&self, lines: &Lines, space: usize) -> Result<Transfers, Refusal> {
         if self.events() > EVENT_LIMIT || self.trips.iter().any(|t| t.stop_times.of(&self.stop_times).is_none()) {
             // no runs can be lent for such trips; the lines call asks the same of them, and refuses
@@ -139,7 +139,23 @@ impl Timetable {
     }
 }
 
-/// Tables ready to ask: a timetable and what was built of it.
+/// Tables ready to ask: a timetable and what was built of it, or laid out by hand.
+///
+/// ```
+/// use savoiky::{Built, Departure, Departures, Lines, Run, Stop, StopTime, Tables, Timetable, Transfers};
+/// let mut t = Timetable { stops: vec![Stop::default(); 2], ..Timetable::default() };
+/// t.add_trip(&[StopTime::new(0, 100, 100), StopTime::new(1, 200, 200)]);
+/// let built = Built {
+///     lines: Lines { of_trip: vec![0], runs: vec![Run { first: 0, count: 1 }], entries: vec![0] },
+///     departures: Departures::of_stops(&[vec![Departure { trip: 0, offset: 0 }], vec![]]),
+///     marks: vec![false; 2],
+///     transfers: Transfers { runs: vec![Run::default(); 2], rows: vec![] },
+/// };
+/// let by_hand = Tables::new(&t, built);
+/// t.list_departures();
+/// assert_eq!(by_hand, t.build()?);
+/// # Ok::<(), savoiky::Refusal>(())
+/// ```
 #[derive(Clone, PartialEq, Debug)]
 pub struct Tables {
     pub(crate) sizes: QuerySizes,
@@ -169,6 +185,28 @@ impl Tables {
     /// Lines, departures, marks and transfers.
     pub fn built(&self) -> &Built {
         &self.built
+    }
+
+    /// Lets a trip run from now on, or not; nothing built depends on it. False: there is no such trip.
+    pub fn set_active(&mut self, trip: u32, active: bool) -> bool {
+        self.set(trip, 6, active)
+    }
+
+    /// Shuts a trip out from now on, or lets it in again; nothing built depends on it. False: there is no such trip.
+    pub fn set_excluded(&mut self, trip: u32, excluded: bool) -> bool {
+        self.set(trip, 7, excluded)
+    }
+
+    /// A field of a trip's row: the trips' eight words stand after the stop times' six.
+    fn set(&mut self, trip: u32, field: usize, value: bool) -> bool {
+        let at = 6 * self.sizes.times as usize + 8 * trip as usize + field;
+        match self.words.get_mut(at) {
+            Some(word) if trip < self.sizes.trips => {
+                *word = u32::from(value);
+                true
+            }
+            _ => false,
+        }
     }
 }
 

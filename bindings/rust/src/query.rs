@@ -131,6 +131,18 @@ impl Answer {
 }
 
 /// The memory that queries are lent to write, kept from one to the next; and the labels of the last one.
+///
+/// ```
+/// use savoiky::{Answer, Label, Query, Timetable, Workspace};
+/// let tables = Timetable::default().build()?;
+/// let mut workspace = Workspace::new();
+/// for start_s in [100, 200] {
+///     let query = Query { start_s, ..Query::default() };
+///     assert_eq!(tables.query(&query, &mut workspace)?, Answer::NoWay);
+/// }
+/// assert_eq!(workspace.labels().stops(), 0);
+/// # Ok::<(), savoiky::Refusal>(())
+/// ```
 #[derive(Clone, PartialEq, Debug, Default)]
 pub struct Workspace {
     labels: Labels,

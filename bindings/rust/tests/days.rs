@@ -52,6 +52,19 @@ fn trips_passed_over() {
 }
 
 #[test]
+fn trips_put_off_and_on() {
+    let mut tables = timetable_k().build().unwrap();
+    let (by_t0, both) = (arrives(&[(405, 2, 1)]), arrives(&[(405, 2, 1), (385, 2, 2)]));
+    assert!(tables.set_excluded(2, true));
+    assert_eq!(asked(&tables, &query_k(90, 120)), by_t0);
+    assert!(tables.set_excluded(2, false) && tables.set_active(2, true));
+    assert_eq!(asked(&tables, &query_k(90, 120)), both);
+    assert!(tables.set_active(2, false));
+    assert_eq!(asked(&tables, &query_k(90, 120)), by_t0);
+    assert!(!tables.set_active(3, true) && !tables.set_excluded(u32::MAX, true));
+}
+
+#[test]
 fn walks() {
     let mut k = timetable_k();
     let walk = WalkEdge { from_stop_idx: 1, to_stop_idx: 2, duration_s: 30, distance_m: -0.0, ..WalkEdge::default() };

@@ -74,7 +74,8 @@ pub extern "C" fn savoiky_cell_bitset_new(num_cells: u32) -> CellSetAnswer
     cell_bitset::create(num_cells)
 }
 
-// The set with at least the groups of so many cells reserved; it holds the same cells. Question 1: at most 512 cells.
+// The set with at least the groups of so many cells reserved; it holds the same cells. Question 1: at most 512 cells; refused, the
+// set is as it came.
 #[no_mangle]
 pub extern "C" fn savoiky_cell_bitset_ensure_sized(set: CellBitSet, num_cells: u32) -> CellSetAnswer
     ensures { λ r. ⌜ r ≡ resized set «num_cells» ⌝ }
@@ -393,7 +394,8 @@ fn counts(stops: u32, trips: u32, times: u32, windows: u32, edges: u32) -> Count
 //   stops, a word each: the cell (any number; 0 where there are none)
 // A trip is boarded only where the caller lists its departure: rows of two words (trip, offset), and for each stop the run of its
 // rows (so 2 departures and 2 stops words). Its last stop is not listed, as a rule.
-// The building calls: lines, then departure sorting, then transfers; a query finds positions and FIFO flags by itself.
+// The building calls: lines, then departure sorting, then transfers; a query finds positions and FIFO flags by itself. The bytes
+// active and excluded may change from query to query: nothing built depends on them.
 
 // Sorts each stop's listed departures by scheduled departure, in place and stably, and sets the stops' marks (one word a stop: 1
 // where a trip with windows is listed). runs: of the stops; rows: the departures. work, other: `departures` u64 each, zero
