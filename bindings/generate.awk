@@ -28,7 +28,7 @@ function rust_type(t) {
     return t
 }
 
-# A struct that a signature or another struct names: its own structs first, then itself.
+# A struct that a signature or another struct names: its own structs first, then itself; and the call that needs it first.
 function need(name,    i, n, f, t) {
     if (name in needed) return
     if (!(name in fields)) fail("no #[repr(C)] struct " name)
@@ -40,6 +40,7 @@ function need(name,    i, n, f, t) {
         if (!is_array(t) && !number(t)) need(t)
     }
     order[++structs] = name
+    wanted_by[structs] = reading
 }
 
 # an array [T; N] is kept as [T@N]
@@ -220,10 +221,10 @@ function write_c(    i, t, n, k) {
     print "#include <stdbool.h>\n#include <stddef.h>\n#include <stdint.h>\n"
     print "#ifdef __cplusplus\n#define SAVOIKY_SIZE(type, bytes) static_assert(sizeof(type) == bytes, \"size of \" #type)\nextern \"C\" {"
     print "#else\n#define SAVOIKY_SIZE(type, bytes) _Static_assert(sizeof(type) == bytes, \"size of \" #type)\n#endif"
-    for (i = 1; i <= structs; i++) c_struct(order[i])
     for (i = 1; i <= calls; i++) {
         n = split(text[i], t, "\n\n")
         for (k = 1; k < n; k++) { print ""; c_comment(t[k]) }
+        for (k = 1; k <= structs; k++) if (wanted_by[k] == i) c_struct(order[k])
         print ""
         c_comment(about[named[i]])
         print wrapped("", (gives[i] == "" ? "void" : c_type(gives[i])) " " named[i] "(" (takes[i] == "" ? "void" : parameters(i)) ");")
@@ -285,7 +286,10 @@ END {
     if (failed) exit 1
     if (calls == 0) fail("no exported call")
     # which structs are needed, and in what order, shows when every signature has been read
-    for (i = 1; i <= calls; i++) { parameters(i); if (gives[i] != "" && !number(gives[i])) need(gives[i]) }
+    for (reading = 1; reading <= calls; reading++) {
+        parameters(reading)
+        if (gives[reading] != "" && !number(gives[reading])) need(gives[reading])
+    }
     if (to == "c") write_c()
     else write_rust()
 }

@@ -14,98 +14,6 @@ extern "C" {
 #define SAVOIKY_SIZE(type, bytes) _Static_assert(sizeof(type) == bytes, "size of " #type)
 #endif
 
-typedef struct SavoikyCellBitSet {
-    /* cell c is bit c % 8 of byte c / 8 */
-    uint8_t bytes[64];
-    /* how many of the bytes are reserved, 8 for each group of 64 cells; they come first */
-    uint32_t reserved;
-} SavoikyCellBitSet;
-SAVOIKY_SIZE(SavoikyCellBitSet, 68);
-
-/* The answer of a call that takes a number of cells: 0 and the set made, or the number of the first no. */
-typedef struct SavoikyCellSetAnswer {
-    uint32_t code;
-    SavoikyCellBitSet set;
-} SavoikyCellSetAnswer;
-SAVOIKY_SIZE(SavoikyCellSetAnswer, 72);
-
-/* An outcome: code 0 with a value, or the number of the first no with value 0. */
-typedef struct SavoikyAnswer {
-    uint32_t code;
-    uint32_t value;
-} SavoikyAnswer;
-SAVOIKY_SIZE(SavoikyAnswer, 8);
-
-/* What the entry answers: the code; then found 1 with the departure and the shift, or found 0 and zeros. */
-typedef struct SavoikyFreqAnswer {
-    uint32_t code;
-    uint32_t found;
-    uint32_t departure;
-    uint32_t time_shift_s;
-} SavoikyFreqAnswer;
-SAVOIKY_SIZE(SavoikyFreqAnswer, 16);
-
-/* The answer of delay_at: code 0, and known 1 where the trip has a delay row; or the number of the first no, the rest 0. */
-typedef struct SavoikyDelayAt {
-    uint32_t code;
-    uint32_t known;
-    uint32_t trip_delay;
-    uint32_t flags;
-    uint32_t departure_delay;
-    uint32_t arrival_delay;
-} SavoikyDelayAt;
-SAVOIKY_SIZE(SavoikyDelayAt, 24);
-
-/* A label as the tables hold it: the kind, its fields in their order, unused ones 0, and the distance. */
-typedef struct SavoikyLabelRow {
-    uint32_t kind;
-    uint32_t word1;
-    uint32_t word2;
-    uint32_t word3;
-    uint32_t word4;
-    uint32_t word5;
-    uint32_t word6;
-    uint32_t word7;
-    double distance;
-} SavoikyLabelRow;
-SAVOIKY_SIZE(SavoikyLabelRow, 40);
-
-/* What `load` answers: code 0 with the row, or the number of the first no with an empty row. */
-typedef struct SavoikyLabelAnswer {
-    uint32_t code;
-    SavoikyLabelRow row;
-} SavoikyLabelAnswer;
-SAVOIKY_SIZE(SavoikyLabelAnswer, 48);
-
-/* The counts of a query: entries are line entries, delays the delay rows, egress the egress stops. */
-typedef struct SavoikyQuerySizes {
-    uint32_t trips;
-    uint32_t windows;
-    uint32_t times;
-    uint32_t edges;
-    uint32_t stops;
-    uint32_t cells;
-    uint32_t patterns;
-    uint32_t lines;
-    uint32_t entries;
-    uint32_t transfers;
-    uint32_t departures;
-    uint32_t delays;
-    uint32_t stop_rows;
-    uint32_t origins;
-    uint32_t egress;
-} SavoikyQuerySizes;
-SAVOIKY_SIZE(SavoikyQuerySizes, 60);
-
-/* What a call gives back: the number of the first question answered no, or 0; the best total and its stop; how many candidates. */
-typedef struct SavoikyReply {
-    uint32_t code;
-    uint32_t total;
-    uint32_t stop;
-    uint32_t candidates;
-} SavoikyReply;
-SAVOIKY_SIZE(SavoikyReply, 16);
-
 /* RULES OF EVERY CALL. A slice is lent as a pointer to its first element and the number of its elements. The pointer is not
  * null and is aligned for its elements, also where the number is 0 (then nothing is read or written through it). A slice
  * that is written overlaps no other lent one, and nothing else touches lent memory during the call. A call keeps no pointer,
@@ -135,6 +43,21 @@ SAVOIKY_SIZE(SavoikyReply, 16);
 
 /* CELL SETS, the arc flags' patterns: a value of 64 bytes and the count of reserved ones, handed in and handed back. */
 
+typedef struct SavoikyCellBitSet {
+    /* cell c is bit c % 8 of byte c / 8 */
+    uint8_t bytes[64];
+    /* how many of the bytes are reserved, 8 for each group of 64 cells; they come first */
+    uint32_t reserved;
+} SavoikyCellBitSet;
+SAVOIKY_SIZE(SavoikyCellBitSet, 68);
+
+/* The answer of a call that takes a number of cells: 0 and the set made, or the number of the first no. */
+typedef struct SavoikyCellSetAnswer {
+    uint32_t code;
+    SavoikyCellBitSet set;
+} SavoikyCellSetAnswer;
+SAVOIKY_SIZE(SavoikyCellSetAnswer, 72);
+
 /* An empty set for so many cells: whole groups of 64 are reserved. Question 1: at most 512 cells. */
 SavoikyCellSetAnswer savoiky_cell_bitset_new(uint32_t num_cells);
 
@@ -160,6 +83,13 @@ bool savoiky_cell_bitset_is_empty(SavoikyCellBitSet set);
 
 /* WALKS AND ROUNDS, FREQUENCY TRIPS, DELAYS, CLOCK READINGS: the leaves of a query, for a caller's own reckoning. */
 
+/* An outcome: code 0 with a value, or the number of the first no with value 0. */
+typedef struct SavoikyAnswer {
+    uint32_t code;
+    uint32_t value;
+} SavoikyAnswer;
+SAVOIKY_SIZE(SavoikyAnswer, 8);
+
 /* How long a walk takes: for a wheelchair query (1) stairs and escalators (pathway modes 2 and 4) take 100 times as long.
  * Question 5: duration at most 1,048,575, pathway mode at most 7, wheelchair at most 1.
  */
@@ -167,6 +97,15 @@ SavoikyAnswer savoiky_walk_duration(uint32_t duration, uint32_t pathway_mode, ui
 
 /* The rounds of a query: min(12, max(wanted, transfers + 2, 4)). Any numbers. */
 uint32_t savoiky_max_rounds(uint32_t wanted, uint32_t transfers);
+
+/* What the entry answers: the code; then found 1 with the departure and the shift, or found 0 and zeros. */
+typedef struct SavoikyFreqAnswer {
+    uint32_t code;
+    uint32_t found;
+    uint32_t departure;
+    uint32_t time_shift_s;
+} SavoikyFreqAnswer;
+SAVOIKY_SIZE(SavoikyFreqAnswer, 16);
 
 /* The earliest run of a frequency trip that leaves here no sooner than `after`: `count` windows of three words each (start,
  * end, headway), the departure of the trip's first stop time (base), its departure here (dep). Runs leave the first stop at
@@ -196,6 +135,17 @@ SavoikyAnswer savoiky_skipped(uint32_t flags);
  */
 SavoikyAnswer savoiky_margin(uint32_t trips, uint32_t delay_rows, uint32_t stop_row_count, const uint32_t *rows, size_t rows_len,
     const uint32_t *stop_rows, size_t stop_rows_len);
+
+/* The answer of delay_at: code 0, and known 1 where the trip has a delay row; or the number of the first no, the rest 0. */
+typedef struct SavoikyDelayAt {
+    uint32_t code;
+    uint32_t known;
+    uint32_t trip_delay;
+    uint32_t flags;
+    uint32_t departure_delay;
+    uint32_t arrival_delay;
+} SavoikyDelayAt;
+SAVOIKY_SIZE(SavoikyDelayAt, 24);
 
 /* What the delay tables say of the stop time of a trip with this sequence number: known 1 where the trip has a delay row. The
  * same questions, and 4 for a trip not below the count.
@@ -233,6 +183,27 @@ uint32_t savoiky_label_store_transit(uint32_t stops, uint32_t stop, uint32_t row
 uint32_t savoiky_label_store_walk(uint32_t stops, uint32_t stop, uint32_t row, uint32_t arrival_s, uint32_t from_stop,
     uint32_t to_stop, uint32_t duration_s, double distance_m, uint32_t prev_round, uint32_t *labels, size_t labels_len,
     double *distances, size_t distances_len);
+
+/* A label as the tables hold it: the kind, its fields in their order, unused ones 0, and the distance. */
+typedef struct SavoikyLabelRow {
+    uint32_t kind;
+    uint32_t word1;
+    uint32_t word2;
+    uint32_t word3;
+    uint32_t word4;
+    uint32_t word5;
+    uint32_t word6;
+    uint32_t word7;
+    double distance;
+} SavoikyLabelRow;
+SAVOIKY_SIZE(SavoikyLabelRow, 40);
+
+/* What `load` answers: code 0 with the row, or the number of the first no with an empty row. */
+typedef struct SavoikyLabelAnswer {
+    uint32_t code;
+    SavoikyLabelRow row;
+} SavoikyLabelAnswer;
+SAVOIKY_SIZE(SavoikyLabelAnswer, 48);
 
 /* Reads a label. */
 SavoikyLabelAnswer savoiky_label_load(uint32_t stops, uint32_t stop, uint32_t row, const uint32_t *labels, size_t labels_len,
@@ -287,6 +258,26 @@ SavoikyAnswer savoiky_compute_trip_transfers(uint32_t stops, uint32_t trips, uin
     const uint32_t *runs, size_t runs_len, const uint32_t *rows, size_t rows_len, uint32_t *area, size_t area_len,
     uint32_t *transfer_runs, size_t transfer_runs_len);
 
+/* The counts of a query: entries are line entries, delays the delay rows, egress the egress stops. */
+typedef struct SavoikyQuerySizes {
+    uint32_t trips;
+    uint32_t windows;
+    uint32_t times;
+    uint32_t edges;
+    uint32_t stops;
+    uint32_t cells;
+    uint32_t patterns;
+    uint32_t lines;
+    uint32_t entries;
+    uint32_t transfers;
+    uint32_t departures;
+    uint32_t delays;
+    uint32_t stop_rows;
+    uint32_t origins;
+    uint32_t egress;
+} SavoikyQuerySizes;
+SAVOIKY_SIZE(SavoikyQuerySizes, 60);
+
 /* How many words of workspace a query needs: 5 stops + 8 trips + 3 lines + 128. Question 1. */
 SavoikyAnswer savoiky_work_size(SavoikyQuerySizes sizes);
 
@@ -312,6 +303,15 @@ SavoikyAnswer savoiky_work_size(SavoikyQuerySizes sizes);
  * The answer: the best total (when the guest arrives, egress walk included) and its stop. "No way" is success: code 0, total and
  * stop 4,294,967,295, no candidates. Questions 1 to 6, and 8.
  */
+
+/* What a call gives back: the number of the first question answered no, or 0; the best total and its stop; how many candidates. */
+typedef struct SavoikyReply {
+    uint32_t code;
+    uint32_t total;
+    uint32_t stop;
+    uint32_t candidates;
+} SavoikyReply;
+SAVOIKY_SIZE(SavoikyReply, 16);
 
 /* As the Rust answers: run_tbr. */
 SavoikyReply savoiky_run_tbr(SavoikyQuerySizes sizes, const uint32_t *tables, size_t tables_len, const uint32_t *built,

@@ -1,6 +1,7 @@
 // exports: every call of the library for C and Rust, thin: each is a leaf's own call under a C name, with its contract.
 // Numbers and structs pass as themselves, a slice as a pointer and a length. No call has a `requires`: what the door of
 // document 01 does not admit is refused by the number of the first question answered no, and what was lent is as it came.
+// The comments above calls and structs, and those that stand alone, go into the C header (bindings/generate).
 // Proves: each call's whole outcome is the leaf's definition of it.
 // Assumes nothing.
 ghost use mathlib.Core.Path.{_≡_};
