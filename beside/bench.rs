@@ -166,7 +166,7 @@ fn main() {
             savoiky_label_store_transit(
                 3, x.0, x.1, x.2[0], x.2[1], x.2[2], x.2[3], x.2[4], x.2[5], x.2[6], words.as_mut_ptr(), 312, dist.as_mut_ptr(), 39,
             );
-            savoiky_label_load(3, x.0, x.1, words.as_ptr(), 312, dist.as_ptr(), 39).row.words[1] as u64
+            savoiky_label_load(3, x.0, x.1, words.as_ptr(), 312, dist.as_ptr(), 39).row.word1 as u64
         },
         |x| table.store_and_read(x.0 as usize, x.1 as usize, x.2) as u64,
     );

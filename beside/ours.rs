@@ -61,7 +61,7 @@ impl Delays {
             n => n,
         };
         if code != 0 {
-            return got == DelayAnswer { code, known: 0, trip_delay: 0, flags: 0, departure_delay: 0, arrival_delay: 0 };
+            return got == DelayAt { code, known: 0, trip_delay: 0, flags: 0, departure_delay: 0, arrival_delay: 0 };
         }
         let all = self.adjusts();
         let adj = self.rows.chunks(2).position(|c| c[0] == trip).map(|i| &all[i]);
@@ -78,6 +78,11 @@ impl Delays {
                     == given(routing::effective_arr(adj, &st, shift))
         }
     }
+}
+
+// A label read, as words.
+fn row_words(r: &LabelRow) -> [u32; 8] {
+    [r.kind, r.word1, r.word2, r.word3, r.word4, r.word5, r.word6, r.word7]
 }
 
 // Stores one label of random kind into tables of random content and reads it back; compares every word of both tables.
@@ -136,7 +141,7 @@ pub fn label_agrees(r: &mut Random) -> bool {
     }
     let back = unsafe { savoiky_label_load(given_stops, stop, row, wp, wl, dp as *const f64, dl) };
     if code != 0 {
-        return back.code == code && back.row.words == [0; 8] && back.row.distance.to_bits() == 0;
+        return back.code == code && row_words(&back.row) == [0; 8] && back.row.distance.to_bits() == 0;
     }
-    back.code == 0 && back.row.words == label && back.row.distance.to_bits() == bits
+    back.code == 0 && row_words(&back.row) == label && back.row.distance.to_bits() == bits
 }

@@ -1,6 +1,7 @@
 // exports: every call of the library for C and Rust, thin: each is a leaf's own call under a C name, with its contract.
 // Numbers and structs pass as themselves, a slice as a pointer and a length. No call has a `requires`: what the door of
 // document 01 does not admit is refused by the number of the first question answered no, and what was lent is as it came.
+// The comments above calls and structs, and those that stand alone, go into the C header (bindings/generate).
 // Proves: each call's whole outcome is the leaf's definition of it.
 // Assumes nothing.
 ghost use mathlib.Core.Path.{_≡_};
@@ -39,8 +40,34 @@ const MARGIN_CAP: u32 = 21600;
 // The transfer time of built transfers, in seconds.
 const TRANSFER_TIME: usize = 120;
 
-// Cell sets: a new one for so many cells (1: more than 512), one with room for more, a cell set, tested, and sets
-// against sets.
+// RULES OF EVERY CALL. A slice is lent as a pointer to its first element and the number of its elements. The pointer is not
+// null and is aligned for its elements, also where the number is 0 (then nothing is read or written through it). A slice
+// that is written overlaps no other lent one, and nothing else touches lent memory during the call. A call keeps no pointer,
+// allocates nothing and has no state, so calls on different memory may run at the same time.
+// A word is a u32 (uint32_t), a distance an f64 (double). Times and durations are seconds, from 0 to 1,048,575. Signed numbers
+// (delays, time_shift_s) are the bits of an i32. Stops, trips, lines and rows are numbered from 0; an offset counts a trip's stop
+// times from 0. A run is two words: its first row and its length; runs may overlap, leave gaps and stand in any order. What is
+// lent only to be written may have any content before the call.
+
+// CODES. A call answers 0, or the number of the first of its questions that is answered no:
+//   0  none: success
+//   1  Are all counts within the limits? (4,096 stops, trips, lines, line entries, patterns, delay rows and stop rows; 65,536
+//      stop times, walk edges, departures, windows and transfers; 512 cells; 64 origins; 64 egress stops)
+//   2  Is every lent slice exactly as long as its counts say? (The transfer area and the queue may have any length; the two
+//      halves of the queue have the same.)
+//   3  Has every trip a stop time, and do all runs lie in their tables? (First + length at most the table's rows.)
+//   4  Is every stop, trip, line and delay-row number below its count, and each departure's offset below its trip's count, with
+//      that stop time at its stop?
+//   5  Is every time and code in its range?
+//   6  Are walk edges, delay rows, stop rows, egress stops and, for a query, departures in order?
+//   7  Building transfers: are there at most 65,536, and does the area hold all of them?
+//   8  Query: does a half of the segment queue hold every round's segments?
+// After a refusal everything lent is as it came, and the other fields of the answer are 0; after 8 the labels, their distances,
+// the workspace and both halves of the queue are zero.
+
+// CELL SETS, the arc flags' patterns: a value of 64 bytes and the count of reserved ones, handed in and handed back.
+
+// An empty set for so many cells: whole groups of 64 are reserved. Question 1: at most 512 cells.
 #[no_mangle]
 pub extern "C" fn savoiky_cell_bitset_new(num_cells: u32) -> CellSetAnswer
     ensures { λ r. ⌜ r ≡ created «num_cells» ⌝ }
@@ -48,6 +75,8 @@ pub extern "C" fn savoiky_cell_bitset_new(num_cells: u32) -> CellSetAnswer
     cell_bitset::create(num_cells)
 }
 
+// The set with at least the groups of so many cells reserved; it holds the same cells. Question 1: at most 512 cells; refused, the
+// set is as it came.
 #[no_mangle]
 pub extern "C" fn savoiky_cell_bitset_ensure_sized(set: CellBitSet, num_cells: u32) -> CellSetAnswer
     ensures { λ r. ⌜ r ≡ resized set «num_cells» ⌝ }
@@ -55,6 +84,7 @@ pub extern "C" fn savoiky_cell_bitset_ensure_sized(set: CellBitSet, num_cells: u
     cell_bitset::resize(set, num_cells)
 }
 
+// The set with this cell; a cell past the reserved groups is dropped.
 #[no_mangle]
 pub extern "C" fn savoiky_cell_bitset_set_bit(set: CellBitSet, cell: u32) -> CellBitSet
     ensures { λ r. ⌜ r ≡ withCell set cell ⌝ }
@@ -62,6 +92,7 @@ pub extern "C" fn savoiky_cell_bitset_set_bit(set: CellBitSet, cell: u32) -> Cel
     set.set_bit(cell)
 }
 
+// Is this cell in the set?
 #[no_mangle]
 pub extern "C" fn savoiky_cell_bitset_get_bit(set: CellBitSet, cell: u32) -> bool
     ensures { λ r. ⌜ r ≡ held set cell ⌝ }
@@ -69,6 +100,7 @@ pub extern "C" fn savoiky_cell_bitset_get_bit(set: CellBitSet, cell: u32) -> boo
     set.get_bit(cell)
 }
 
+// Have the sets a cell in common?
 #[no_mangle]
 pub extern "C" fn savoiky_cell_bitset_intersects(set: CellBitSet, other: CellBitSet) -> bool
     ensures { λ r. ⌜ r ≡ meets set other ⌝ }
@@ -76,6 +108,7 @@ pub extern "C" fn savoiky_cell_bitset_intersects(set: CellBitSet, other: CellBit
     set.intersects(other)
 }
 
+// The set with the cells of the other, and room for them.
 #[no_mangle]
 pub extern "C" fn savoiky_cell_bitset_union_with(set: CellBitSet, other: CellBitSet) -> CellBitSet
     ensures { λ r. ⌜ r ≡ union set other ⌝ }
@@ -83,6 +116,7 @@ pub extern "C" fn savoiky_cell_bitset_union_with(set: CellBitSet, other: CellBit
     set.union_with(other)
 }
 
+// Does the set hold no cell?
 #[no_mangle]
 pub extern "C" fn savoiky_cell_bitset_is_empty(set: CellBitSet) -> bool
     ensures { λ r. ⌜ r ≡ holdsNone set ⌝ }
@@ -90,7 +124,10 @@ pub extern "C" fn savoiky_cell_bitset_is_empty(set: CellBitSet) -> bool
     set.is_empty()
 }
 
-// The seconds of a walk in a query (5: duration above 1,048,575, pathway mode above 7, wheelchair above 1).
+// WALKS AND ROUNDS, FREQUENCY TRIPS, DELAYS, CLOCK READINGS: the leaves of a query, for a caller's own reckoning.
+
+// How long a walk takes: for a wheelchair query (1) stairs and escalators (pathway modes 2 and 4) take 100 times as long.
+// Question 5: duration at most 1,048,575, pathway mode at most 7, wheelchair at most 1.
 #[no_mangle]
 pub extern "C" fn savoiky_walk_duration(duration: u32, pathway_mode: u32, wheelchair: u32) -> Answer
     ensures { λ r. ⌜ r ≡ walkDuration duration «pathway_mode» wheelchair ⌝ }
@@ -98,7 +135,7 @@ pub extern "C" fn savoiky_walk_duration(duration: u32, pathway_mode: u32, wheelc
     walk::walk_duration(duration, pathway_mode, wheelchair)
 }
 
-// The rounds of a query; any numbers.
+// The rounds of a query: min(12, max(wanted, transfers + 2, 4)). Any numbers.
 #[no_mangle]
 pub extern "C" fn savoiky_max_rounds(wanted: u32, transfers: u32) -> u32
     ensures { λ r. ⌜ r ≡ roundCount wanted transfers ⌝ }
@@ -106,9 +143,10 @@ pub extern "C" fn savoiky_max_rounds(wanted: u32, transfers: u32) -> u32
     walk::tbr_max_rounds(wanted, transfers)
 }
 
-// The earliest run of a frequency trip that leaves no sooner than wanted: windows of three words each (start, end,
-// headway), the template's first departure, its departure here, the wanted time (1: more than 65,536 windows; 2: not
-// three words for each; 5: a number above 1,048,575).
+// The earliest run of a frequency trip that leaves here no sooner than `after`: `count` windows of three words each (start,
+// end, headway), the departure of the trip's first stop time (base), its departure here (dep). Runs leave the first stop at
+// start, start + headway and so on, before end. Found 0: none. Questions 1 (at most 65,536 windows), 2 (three words for each),
+// 5 (every number at most 1,048,575).
 #[no_mangle]
 pub extern "C" fn savoiky_freq_board(
     count: u32,
@@ -122,8 +160,8 @@ pub extern "C" fn savoiky_freq_board(
     frequency::freq_board(count, windows, base, dep, after)
 }
 
-// A departure, an arrival and a skipped stop under a delay: delays as the bits of signed seconds, flags 1 departure
-// given, 2 arrival given, 4 skipped (5: a time or a size above 1,048,575, flags above 7).
+// The departure under delays: flags 1 departure given at the stop, 2 arrival given, 4 skipped, added. By its own delay where
+// one is given, else by the trip's; at least 0. Question 5: times and sizes of delays at most 1,048,575, flags at most 7.
 #[no_mangle]
 pub extern "C" fn savoiky_effective_departure(
     departure: u32,
@@ -136,6 +174,8 @@ pub extern "C" fn savoiky_effective_departure(
     realtime::effective_departure(departure, trip_delay, flags, departure_delay)
 }
 
+// The arrival under delays: where the stop has either time given, by its own delay, else the trip's, and no shift; where not,
+// by the shift alone; at least 0. Question 5, as above.
 #[no_mangle]
 pub extern "C" fn savoiky_effective_arrival(
     arrival: u32,
@@ -149,6 +189,7 @@ pub extern "C" fn savoiky_effective_arrival(
     realtime::effective_arrival(arrival, time_shift_s, trip_delay, flags, arrival_delay)
 }
 
+// 1 where the flags say skipped, else 0. Question 5: flags at most 7.
 #[no_mangle]
 pub extern "C" fn savoiky_skipped(flags: u32) -> Answer
     ensures { λ r. ⌜ r ≡ skippedOutcome flags ⌝ }
@@ -156,8 +197,9 @@ pub extern "C" fn savoiky_skipped(flags: u32) -> Answer
     realtime::skipped(flags)
 }
 
-// The delay margin of the delay tables: rows of two words (trip, delay), stop rows of five (delay row, sequence, flags,
-// departure delay, arrival delay). Questions 1, 2, 4, 5, 6.
+// The delay margin: the largest size among trip delays and given stop delays, at most 21,600. Delay rows of two words (trip,
+// delay), the trips strictly rising; 4,294,967,295 is an unknown trip, which may repeat at the end. Stop rows of five (delay row,
+// sequence, flags as above, departure delay, arrival delay), strictly rising by delay row, then sequence. Questions 1, 2, 4, 5, 6.
 #[no_mangle]
 pub extern "C" fn savoiky_margin(
     trips: u32,
@@ -178,8 +220,8 @@ pub extern "C" fn savoiky_margin(
     )
 }
 
-// What the delay tables say of the stop time of a trip with this sequence number. The same questions, and 4 for a trip
-// not below the count.
+// What the delay tables say of the stop time of a trip with this sequence number: known 1 where the trip has a delay row. The
+// same questions, and 4 for a trip not below the count.
 #[no_mangle]
 pub extern "C" fn savoiky_delay_at(
     trips: u32,
@@ -203,7 +245,8 @@ pub extern "C" fn savoiky_delay_at(
     )
 }
 
-// The service second of a clock reading (5: hour above 47, minute or second above 59).
+// The service second of a clock reading: 3600 hour + 60 minute + second. Question 5: hour at most 47, minute and second at
+// most 59.
 #[no_mangle]
 pub extern "C" fn savoiky_service_second(hour: u32, minute: u32, second: u32) -> Answer
     ensures { λ r. ⌜ r ≡ serviceSecond hour minute second ⌝ }
@@ -211,8 +254,18 @@ pub extern "C" fn savoiky_service_second(hour: u32, minute: u32, second: u32) ->
     clock::service_second(hour, minute, second)
 }
 
-// Labels: 13 rows a stop, eight words and a distance each. A label of each kind stored, and one read (1: more than 4,096
-// stops; 2: a slice too long or too short; 4: the stop; 5: the row above 12, or a stored kind above 3).
+// LABELS: when and how a stop was reached in a round. A stop has 13 rows: row 0 is its access walk, round k writes row k + 1. The
+// label of stop s, row r is record 13 s + r: eight words from 8 (13 s + r) on in `labels` and one f64 at 13 s + r in
+// `distances`. So `labels` has 104 words a stop and `distances` 13. The words, unused ones 0, an unused distance 0.0:
+//   0 empty
+//   1 Access: stop_idx, arrival_s, walk_duration; the distance is the origin's
+//   2 Transit: arrival_s, trip_idx, board_stop, board_off, alight_off, prev_round, time_shift_s
+//   3 Walk: arrival_s, from_stop, to_stop, duration_s, prev_round; the distance is the walk edge's
+// A ride leads back to its board_stop, a walk to its from_stop: there to the highest row not above prev_round that is not empty.
+// A round may use its own gains, so some labels lead to one that ends after they begin, or to none: compare the times.
+// These calls ask questions 1 (stops), 2, 4 (the stop) and 5 (the row at most 12; reading, a kind at most 3).
+
+// Stores an Access label.
 #[no_mangle]
 pub extern "C" fn savoiky_label_store_access(
     stops: u32,
@@ -240,6 +293,7 @@ pub extern "C" fn savoiky_label_store_access(
     )
 }
 
+// Stores a Transit label.
 #[no_mangle]
 pub extern "C" fn savoiky_label_store_transit(
     stops: u32,
@@ -273,6 +327,7 @@ pub extern "C" fn savoiky_label_store_transit(
     )
 }
 
+// Stores a Walk label.
 #[no_mangle]
 pub extern "C" fn savoiky_label_store_walk(
     stops: u32,
@@ -304,6 +359,7 @@ pub extern "C" fn savoiky_label_store_walk(
     )
 }
 
+// Reads a label.
 #[no_mangle]
 pub extern "C" fn savoiky_label_load(
     stops: u32,
@@ -329,14 +385,22 @@ fn counts(stops: u32, trips: u32, times: u32, windows: u32, edges: u32) -> Count
     }
 }
 
-// The timetable is one slice: stop times of six words (stop, arrival, departure, sequence, pickup, drop-off), trips of
-// eight (first stop time, count, mode, wheelchair, first window, window count, active, excluded), windows of three
-// (start, end, headway), walk edges of five (from, to, duration, pathway mode, pattern), a word for each stop (its cell).
-// A run is two words: its first row and its length.
+// THE TIMETABLE, `tables`, is one slice of 6 times + 8 trips + 3 windows + 5 edges + stops words, in this order:
+//   stop times, six words: stop, arrival, departure, sequence (any number), pickup, drop-off (0 to 3; only 1 bars)
+//   trips, eight words: first stop time, count (at least 1), mode (0 tram, 1 metro, 2 rail, 3 bus, 4 ferry, 5 coach, 6 other),
+//     wheelchair (0 to 2; 2 bars a wheelchair query), first window, window count, active (0 or 1), excluded (0 or 1)
+//   windows, three words: start, end, headway; runs of a trip with windows leave at start, start + headway, .. before end
+//   walk edges, five words, by rising from-stop: from, to, duration, pathway mode (0 none, 1 walkway, 2 stairs, 3 moving
+//     sidewalk, 4 escalator, 5 elevator, 6 fare gate, 7 exit gate), pattern (any number; 0 where there are none)
+//   stops, a word each: the cell (any number; 0 where there are none)
+// A trip is boarded only where the caller lists its departure: rows of two words (trip, offset), and for each stop the run of its
+// rows (so 2 departures and 2 stops words). Its last stop is not listed, as a rule.
+// The building calls: lines, then departure sorting, then transfers; a query finds positions and FIFO flags by itself. The bytes
+// active and excluded may change from query to query: nothing built depends on them.
 
-// Sorts each stop's listed departures (rows of trip and offset) by scheduled departure, in place and stably, and marks
-// the stops where a trip with windows is listed. Workspace: two slices of as many u64 as departures, zero afterwards.
-// Questions 1 to 5.
+// Sorts each stop's listed departures by scheduled departure, in place and stably, and sets the stops' marks (one word a stop: 1
+// where a trip with windows is listed). runs: of the stops; rows: the departures. work, other: `departures` u64 each, zero
+// afterwards. Questions 1 to 5.
 #[no_mangle]
 pub extern "C" fn savoiky_sort_stop_departures(
     stops: u32,
@@ -367,8 +431,9 @@ pub extern "C" fn savoiky_sort_stop_departures(
     )
 }
 
-// Groups the trips into lines: each trip's line, each line's run of entries (the value says how many lines; rows past
-// them keep their words), the entries. Workspace: two slices of as many u64 as trips, zero afterwards. Questions 1 to 5.
+// Groups the trips into lines: trips with the same stops in the same order, by first departure. The value says how many lines.
+// lines: each trip's line; runs: each line's run of entries, space for as many lines as trips (2 trips words; those past the lines
+// keep their content); entries: trip numbers, as many as trips. work, other: `trips` u64 each, zero afterwards. Questions 1 to 5.
 #[no_mangle]
 pub extern "C" fn savoiky_compute_line_groups(
     stops: u32,
@@ -392,8 +457,9 @@ pub extern "C" fn savoiky_compute_line_groups(
     }
 }
 
-// Each trip's position in its line (4,294,967,295: in none) and each line's FIFO flag, of any lines: a run of entries for
-// each line, the entries trip numbers. Questions 1 to 5.
+// Each trip's position in its line (4,294,967,295: in none) and each line's FIFO flag (1: no trip overtakes another), of any
+// lines. runs: each line's run of entries (2 lines words); entries: `entry_count` trip numbers; positions: a word a trip; fifo: a
+// word a line. Questions 1 to 5. No query needs this call.
 #[no_mangle]
 pub extern "C" fn savoiky_line_layout(
     stops: u32,
@@ -424,9 +490,10 @@ pub extern "C" fn savoiky_line_layout(
     )
 }
 
-// Builds the transfers of every stop event (trip by trip, offset by offset): rows of four words (target trip, offset,
-// 120, 0) into the area, which keeps its words past the last one, and a run for each event; the value says how many.
-// lines: each trip's line. The listed departures may stand in any order. Questions 1 to 5 and 7. The call needs about
+// Builds the transfers of every stop event (each stop time of each trip, trip by trip). The value says how many.
+// lines: each trip's line, of `line_count` lines; runs and rows: the listed departures, in any order. area: rows of four words
+// (target trip, offset, 120, pattern 0), space for any number of them; it keeps its content past the last one written.
+// transfer_runs: a run for each event, so 2 words for each stop time of each trip. Questions 1 to 5 and 7. The call needs about
 // 1 MiB of stack.
 #[no_mangle]
 pub extern "C" fn savoiky_compute_trip_transfers(
@@ -464,7 +531,7 @@ pub extern "C" fn savoiky_compute_trip_transfers(
     }
 }
 
-// The counts of a query.
+// The counts of a query: entries are line entries, delays the delay rows, egress the egress stops.
 #[repr(C)]
 pub struct QuerySizes {
     pub trips: u32,
@@ -533,7 +600,7 @@ fn query_counts(s: QuerySizes) -> QueryCounts
     )
 }
 
-// How many numbers of workspace a query needs. Question 1.
+// How many words of workspace a query needs: 5 stops + 8 trips + 3 lines + 128. Question 1.
 #[no_mangle]
 pub extern "C" fn savoiky_work_size(sizes: QuerySizes) -> Answer
     ensures { λ r. ⌜ r ≡ workspaceAnswer (queryCountsOf sizes) ⌝ }
@@ -541,14 +608,29 @@ pub extern "C" fn savoiky_work_size(sizes: QuerySizes) -> Answer
     asking::workspace(query_counts(sizes))
 }
 
-// A query. `built` is what the building calls wrote, one after the other: each trip's line, the lines' runs, their entries, the
-// stops' runs, the departures, the marks, the transfer runs. Patterns are 64 bytes each. Distances: the walk edges', then the
-// origins'. The query's numbers: start, change time, wanted rounds, transfers, modes, wheelchair, switch; origins and egress
-// stops (stop, duration); delay rows (2 words), stop rows (5). Lent to be written: labels of eight words, 13 to a stop, and
-// their distances; workspace; two halves of a queue, four words a segment; candidates of three words, 13 of them.
-// Questions 1 to 6, and 8.
+// A QUERY. Lent to be read:
+//   tables: the timetable
+//   built: what the building calls wrote, one after the other: each trip's line (a word a trip), the lines' runs (2 a line), the
+//     entries (a word each), the stops' runs (2 a stop), the departures (2 each), the marks (a word a stop), the transfer runs (2
+//     for each stop time of each trip)
+//   transfers: the transfer area, any length; the first `transfers` rows of four words count
+//   patterns: 64 bytes each; cell c is bit c % 8 of byte c / 8. While arc flags are in use, a walk edge or transfer is skipped
+//     whose pattern holds no cell of an egress stop; a pattern number past the table counts as holding all
+//   distances: of the walk edges, then of the origins; any bits, carried into the labels
+//   query: seven words, start, change time, wanted rounds (any), transfers (any), modes (bit m: mode m is wanted; 0: all),
+//     wheelchair (0 or 1), switch (1 puts arc flags off); then origins (stop, duration); egress stops (stop, duration), strictly
+//     rising by stop; delay rows (2 words) and stop rows (5 words), as for the margin
+// Lent to be written, of any content before:
+//   labels: 104 words a stop; label_distances: 13 a stop; the labels of the answer, all 13 rows
+//   work: as many words as savoiky_work_size says; zero afterwards
+//   queue_a, queue_b: two halves of the segment queue, four words a segment, of one length; zero afterwards. As many rows as the
+//     trips have stop times together are always enough without frequency trips; with no arc flags in use none is needed
+//   candidates: 39 words, 13 rows (total, stop, row), of which the answer says how many; the rest are zero. Rows rise and totals
+//     fall: the last one's total is the best, an earlier one arrives later, by at most 3,600, in fewer rounds
+// The answer: the best total (when the guest arrives, egress walk included) and its stop. "No way" is success: code 0, total and
+// stop 4,294,967,295, no candidates. Questions 1 to 6, and 8.
 
-// As the Rust answers.
+// As the Rust answers: run_tbr.
 #[no_mangle]
 pub extern "C" fn savoiky_run_tbr(
     sizes: QuerySizes,
@@ -584,7 +666,7 @@ pub extern "C" fn savoiky_run_tbr(
     )
 }
 
-// As promised: with arc flags put off where they would skip nothing.
+// What a board asks: run_tbr with arc flags put off where they would skip nothing. On a plain day no journey beats its answer.
 #[no_mangle]
 pub extern "C" fn savoiky_query(
     sizes: QuerySizes,

@@ -1,0 +1,335 @@
+/* savoiky.h: the calls of Savoiky, for C11 and C++11 on x86-64 Linux. Link with libexports.a, which `rt staticlib exports` writes.
+ * Written by bindings/generate: change crates/exports/src/lib.rt, not this file. */
+#ifndef SAVOIKY_H
+#define SAVOIKY_H
+
+#include <stdbool.h>
+#include <stddef.h>
+#include <stdint.h>
+
+#ifdef __cplusplus
+#define SAVOIKY_SIZE(type, bytes) static_assert(sizeof(type) == bytes, "size of " #type)
+extern "C" {
+#else
+#define SAVOIKY_SIZE(type, bytes) _Static_assert(sizeof(type) == bytes, "size of " #type)
+#endif
+
+/* RULES OF EVERY CALL. A slice is lent as a pointer to its first element and the number of its elements. The pointer is not
+ * null and is aligned for its elements, also where the number is 0 (then nothing is read or written through it). A slice
+ * that is written overlaps no other lent one, and nothing else touches lent memory during the call. A call keeps no pointer,
+ * allocates nothing and has no state, so calls on different memory may run at the same time.
+ * A word is a u32 (uint32_t), a distance an f64 (double). Times and durations are seconds, from 0 to 1,048,575. Signed numbers
+ * (delays, time_shift_s) are the bits of an i32. Stops, trips, lines and rows are numbered from 0; an offset counts a trip's stop
+ * times from 0. A run is two words: its first row and its length; runs may overlap, leave gaps and stand in any order. What is
+ * lent only to be written may have any content before the call.
+ */
+
+/* CODES. A call answers 0, or the number of the first of its questions that is answered no:
+ *   0  none: success
+ *   1  Are all counts within the limits? (4,096 stops, trips, lines, line entries, patterns, delay rows and stop rows; 65,536
+ *      stop times, walk edges, departures, windows and transfers; 512 cells; 64 origins; 64 egress stops)
+ *   2  Is every lent slice exactly as long as its counts say? (The transfer area and the queue may have any length; the two
+ *      halves of the queue have the same.)
+ *   3  Has every trip a stop time, and do all runs lie in their tables? (First + length at most the table's rows.)
+ *   4  Is every stop, trip, line and delay-row number below its count, and each departure's offset below its trip's count, with
+ *      that stop time at its stop?
+ *   5  Is every time and code in its range?
+ *   6  Are walk edges, delay rows, stop rows, egress stops and, for a query, departures in order?
+ *   7  Building transfers: are there at most 65,536, and does the area hold all of them?
+ *   8  Query: does a half of the segment queue hold every round's segments?
+ * After a refusal everything lent is as it came, and the other fields of the answer are 0; after 8 the labels, their distances,
+ * the workspace and both halves of the queue are zero.
+ */
+
+/* CELL SETS, the arc flags' patterns: a value of 64 bytes and the count of reserved ones, handed in and handed back. */
+
+typedef struct SavoikyCellBitSet {
+    /* cell c is bit c % 8 of byte c / 8 */
+    uint8_t bytes[64];
+    /* how many of the bytes are reserved, 8 for each group of 64 cells; they come first */
+    uint32_t reserved;
+} SavoikyCellBitSet;
+SAVOIKY_SIZE(SavoikyCellBitSet, 68);
+
+/* The answer of a call that takes a number of cells: 0 and the set made, or the number of the first no. */
+typedef struct SavoikyCellSetAnswer {
+    uint32_t code;
+    SavoikyCellBitSet set;
+} SavoikyCellSetAnswer;
+SAVOIKY_SIZE(SavoikyCellSetAnswer, 72);
+
+/* An empty set for so many cells: whole groups of 64 are reserved. Question 1: at most 512 cells. */
+SavoikyCellSetAnswer savoiky_cell_bitset_new(uint32_t num_cells);
+
+/* The set with at least the groups of so many cells reserved; it holds the same cells. Question 1: at most 512 cells; refused, the
+ * set is as it came.
+ */
+SavoikyCellSetAnswer savoiky_cell_bitset_ensure_sized(SavoikyCellBitSet set, uint32_t num_cells);
+
+/* The set with this cell; a cell past the reserved groups is dropped. */
+SavoikyCellBitSet savoiky_cell_bitset_set_bit(SavoikyCellBitSet set, uint32_t cell);
+
+/* Is this cell in the set? */
+bool savoiky_cell_bitset_get_bit(SavoikyCellBitSet set, uint32_t cell);
+
+/* Have the sets a cell in common? */
+bool savoiky_cell_bitset_intersects(SavoikyCellBitSet set, SavoikyCellBitSet other);
+
+/* The set with the cells of the other, and room for them. */
+SavoikyCellBitSet savoiky_cell_bitset_union_with(SavoikyCellBitSet set, SavoikyCellBitSet other);
+
+/* Does the set hold no cell? */
+bool savoiky_cell_bitset_is_empty(SavoikyCellBitSet set);
+
+/* WALKS AND ROUNDS, FREQUENCY TRIPS, DELAYS, CLOCK READINGS: the leaves of a query, for a caller's own reckoning. */
+
+/* An outcome: code 0 with a value, or the number of the first no with value 0. */
+typedef struct SavoikyAnswer {
+    uint32_t code;
+    uint32_t value;
+} SavoikyAnswer;
+SAVOIKY_SIZE(SavoikyAnswer, 8);
+
+/* How long a walk takes: for a wheelchair query (1) stairs and escalators (pathway modes 2 and 4) take 100 times as long.
+ * Question 5: duration at most 1,048,575, pathway mode at most 7, wheelchair at most 1.
+ */
+SavoikyAnswer savoiky_walk_duration(uint32_t duration, uint32_t pathway_mode, uint32_t wheelchair);
+
+/* The rounds of a query: min(12, max(wanted, transfers + 2, 4)). Any numbers. */
+uint32_t savoiky_max_rounds(uint32_t wanted, uint32_t transfers);
+
+/* What the entry answers: the code; then found 1 with the departure and the shift, or found 0 and zeros. */
+typedef struct SavoikyFreqAnswer {
+    uint32_t code;
+    uint32_t found;
+    uint32_t departure;
+    uint32_t time_shift_s;
+} SavoikyFreqAnswer;
+SAVOIKY_SIZE(SavoikyFreqAnswer, 16);
+
+/* The earliest run of a frequency trip that leaves here no sooner than `after`: `count` windows of three words each (start,
+ * end, headway), the departure of the trip's first stop time (base), its departure here (dep). Runs leave the first stop at
+ * start, start + headway and so on, before end. Found 0: none. Questions 1 (at most 65,536 windows), 2 (three words for each),
+ * 5 (every number at most 1,048,575).
+ */
+SavoikyFreqAnswer savoiky_freq_board(uint32_t count, const uint32_t *windows, size_t windows_len, uint32_t base, uint32_t dep,
+    uint32_t after);
+
+/* The departure under delays: flags 1 departure given at the stop, 2 arrival given, 4 skipped, added. By its own delay where
+ * one is given, else by the trip's; at least 0. Question 5: times and sizes of delays at most 1,048,575, flags at most 7.
+ */
+SavoikyAnswer savoiky_effective_departure(uint32_t departure, uint32_t trip_delay, uint32_t flags, uint32_t departure_delay);
+
+/* The arrival under delays: where the stop has either time given, by its own delay, else the trip's, and no shift; where not,
+ * by the shift alone; at least 0. Question 5, as above.
+ */
+SavoikyAnswer savoiky_effective_arrival(uint32_t arrival, uint32_t time_shift_s, uint32_t trip_delay, uint32_t flags,
+    uint32_t arrival_delay);
+
+/* 1 where the flags say skipped, else 0. Question 5: flags at most 7. */
+SavoikyAnswer savoiky_skipped(uint32_t flags);
+
+/* The delay margin: the largest size among trip delays and given stop delays, at most 21,600. Delay rows of two words (trip,
+ * delay), the trips strictly rising; 4,294,967,295 is an unknown trip, which may repeat at the end. Stop rows of five (delay row,
+ * sequence, flags as above, departure delay, arrival delay), strictly rising by delay row, then sequence. Questions 1, 2, 4, 5, 6.
+ */
+SavoikyAnswer savoiky_margin(uint32_t trips, uint32_t delay_rows, uint32_t stop_row_count, const uint32_t *rows, size_t rows_len,
+    const uint32_t *stop_rows, size_t stop_rows_len);
+
+/* The answer of delay_at: code 0, and known 1 where the trip has a delay row; or the number of the first no, the rest 0. */
+typedef struct SavoikyDelayAt {
+    uint32_t code;
+    uint32_t known;
+    uint32_t trip_delay;
+    uint32_t flags;
+    uint32_t departure_delay;
+    uint32_t arrival_delay;
+} SavoikyDelayAt;
+SAVOIKY_SIZE(SavoikyDelayAt, 24);
+
+/* What the delay tables say of the stop time of a trip with this sequence number: known 1 where the trip has a delay row. The
+ * same questions, and 4 for a trip not below the count.
+ */
+SavoikyDelayAt savoiky_delay_at(uint32_t trips, uint32_t delay_rows, uint32_t stop_row_count, const uint32_t *rows,
+    size_t rows_len, const uint32_t *stop_rows, size_t stop_rows_len, uint32_t trip, uint32_t sequence);
+
+/* The service second of a clock reading: 3600 hour + 60 minute + second. Question 5: hour at most 47, minute and second at
+ * most 59.
+ */
+SavoikyAnswer savoiky_service_second(uint32_t hour, uint32_t minute, uint32_t second);
+
+/* LABELS: when and how a stop was reached in a round. A stop has 13 rows: row 0 is its access walk, round k writes row k + 1. The
+ * label of stop s, row r is record 13 s + r: eight words from 8 (13 s + r) on in `labels` and one f64 at 13 s + r in
+ * `distances`. So `labels` has 104 words a stop and `distances` 13. The words, unused ones 0, an unused distance 0.0:
+ *   0 empty
+ *   1 Access: stop_idx, arrival_s, walk_duration; the distance is the origin's
+ *   2 Transit: arrival_s, trip_idx, board_stop, board_off, alight_off, prev_round, time_shift_s
+ *   3 Walk: arrival_s, from_stop, to_stop, duration_s, prev_round; the distance is the walk edge's
+ * A ride leads back to its board_stop, a walk to its from_stop: there to the highest row not above prev_round that is not empty.
+ * A round may use its own gains, so some labels lead to one that ends after they begin, or to none: compare the times.
+ * These calls ask questions 1 (stops), 2, 4 (the stop) and 5 (the row at most 12; reading, a kind at most 3).
+ */
+
+/* Stores an Access label. */
+uint32_t savoiky_label_store_access(uint32_t stops, uint32_t stop, uint32_t row, uint32_t stop_idx, uint32_t arrival_s,
+    uint32_t walk_duration, double walk_distance, uint32_t *labels, size_t labels_len, double *distances, size_t distances_len);
+
+/* Stores a Transit label. */
+uint32_t savoiky_label_store_transit(uint32_t stops, uint32_t stop, uint32_t row, uint32_t arrival_s, uint32_t trip_idx,
+    uint32_t board_stop, uint32_t board_off, uint32_t alight_off, uint32_t prev_round, uint32_t time_shift_s, uint32_t *labels,
+    size_t labels_len, double *distances, size_t distances_len);
+
+/* Stores a Walk label. */
+uint32_t savoiky_label_store_walk(uint32_t stops, uint32_t stop, uint32_t row, uint32_t arrival_s, uint32_t from_stop,
+    uint32_t to_stop, uint32_t duration_s, double distance_m, uint32_t prev_round, uint32_t *labels, size_t labels_len,
+    double *distances, size_t distances_len);
+
+/* A label as the tables hold it: the kind, its fields in their order, unused ones 0, and the distance. */
+typedef struct SavoikyLabelRow {
+    uint32_t kind;
+    uint32_t word1;
+    uint32_t word2;
+    uint32_t word3;
+    uint32_t word4;
+    uint32_t word5;
+    uint32_t word6;
+    uint32_t word7;
+    double distance;
+} SavoikyLabelRow;
+SAVOIKY_SIZE(SavoikyLabelRow, 40);
+
+/* What `load` answers: code 0 with the row, or the number of the first no with an empty row. */
+typedef struct SavoikyLabelAnswer {
+    uint32_t code;
+    SavoikyLabelRow row;
+} SavoikyLabelAnswer;
+SAVOIKY_SIZE(SavoikyLabelAnswer, 48);
+
+/* Reads a label. */
+SavoikyLabelAnswer savoiky_label_load(uint32_t stops, uint32_t stop, uint32_t row, const uint32_t *labels, size_t labels_len,
+    const double *distances, size_t distances_len);
+
+/* THE TIMETABLE, `tables`, is one slice of 6 times + 8 trips + 3 windows + 5 edges + stops words, in this order:
+ *   stop times, six words: stop, arrival, departure, sequence (any number), pickup, drop-off (0 to 3; only 1 bars)
+ *   trips, eight words: first stop time, count (at least 1), mode (0 tram, 1 metro, 2 rail, 3 bus, 4 ferry, 5 coach, 6 other),
+ *     wheelchair (0 to 2; 2 bars a wheelchair query), first window, window count, active (0 or 1), excluded (0 or 1)
+ *   windows, three words: start, end, headway; runs of a trip with windows leave at start, start + headway, .. before end
+ *   walk edges, five words, by rising from-stop: from, to, duration, pathway mode (0 none, 1 walkway, 2 stairs, 3 moving
+ *     sidewalk, 4 escalator, 5 elevator, 6 fare gate, 7 exit gate), pattern (any number; 0 where there are none)
+ *   stops, a word each: the cell (any number; 0 where there are none)
+ * A trip is boarded only where the caller lists its departure: rows of two words (trip, offset), and for each stop the run of its
+ * rows (so 2 departures and 2 stops words). Its last stop is not listed, as a rule.
+ * The building calls: lines, then departure sorting, then transfers; a query finds positions and FIFO flags by itself. The bytes
+ * active and excluded may change from query to query: nothing built depends on them.
+ */
+
+/* Sorts each stop's listed departures by scheduled departure, in place and stably, and sets the stops' marks (one word a stop: 1
+ * where a trip with windows is listed). runs: of the stops; rows: the departures. work, other: `departures` u64 each, zero
+ * afterwards. Questions 1 to 5.
+ */
+uint32_t savoiky_sort_stop_departures(uint32_t stops, uint32_t trips, uint32_t times, uint32_t windows, uint32_t edges,
+    uint32_t departures, const uint32_t *tables, size_t tables_len, const uint32_t *runs, size_t runs_len, uint32_t *rows,
+    size_t rows_len, uint32_t *marks, size_t marks_len, uint64_t *work, size_t work_len, uint64_t *other, size_t other_len);
+
+/* Groups the trips into lines: trips with the same stops in the same order, by first departure. The value says how many lines.
+ * lines: each trip's line; runs: each line's run of entries, space for as many lines as trips (2 trips words; those past the lines
+ * keep their content); entries: trip numbers, as many as trips. work, other: `trips` u64 each, zero afterwards. Questions 1 to 5.
+ */
+SavoikyAnswer savoiky_compute_line_groups(uint32_t stops, uint32_t trips, uint32_t times, uint32_t windows, uint32_t edges,
+    const uint32_t *tables, size_t tables_len, uint32_t *lines, size_t lines_len, uint32_t *runs, size_t runs_len,
+    uint32_t *entries, size_t entries_len, uint64_t *work, size_t work_len, uint64_t *other, size_t other_len);
+
+/* Each trip's position in its line (4,294,967,295: in none) and each line's FIFO flag (1: no trip overtakes another), of any
+ * lines. runs: each line's run of entries (2 lines words); entries: `entry_count` trip numbers; positions: a word a trip; fifo: a
+ * word a line. Questions 1 to 5. No query needs this call.
+ */
+uint32_t savoiky_line_layout(uint32_t stops, uint32_t trips, uint32_t times, uint32_t windows, uint32_t edges, uint32_t lines,
+    uint32_t entry_count, const uint32_t *tables, size_t tables_len, const uint32_t *runs, size_t runs_len,
+    const uint32_t *entries, size_t entries_len, uint32_t *positions, size_t positions_len, uint32_t *fifo, size_t fifo_len);
+
+/* Builds the transfers of every stop event (each stop time of each trip, trip by trip). The value says how many.
+ * lines: each trip's line, of `line_count` lines; runs and rows: the listed departures, in any order. area: rows of four words
+ * (target trip, offset, 120, pattern 0), space for any number of them; it keeps its content past the last one written.
+ * transfer_runs: a run for each event, so 2 words for each stop time of each trip. Questions 1 to 5 and 7. The call needs about
+ * 1 MiB of stack.
+ */
+SavoikyAnswer savoiky_compute_trip_transfers(uint32_t stops, uint32_t trips, uint32_t times, uint32_t windows, uint32_t edges,
+    uint32_t line_count, uint32_t departures, const uint32_t *tables, size_t tables_len, const uint32_t *lines, size_t lines_len,
+    const uint32_t *runs, size_t runs_len, const uint32_t *rows, size_t rows_len, uint32_t *area, size_t area_len,
+    uint32_t *transfer_runs, size_t transfer_runs_len);
+
+/* The counts of a query: entries are line entries, delays the delay rows, egress the egress stops. */
+typedef struct SavoikyQuerySizes {
+    uint32_t trips;
+    uint32_t windows;
+    uint32_t times;
+    uint32_t edges;
+    uint32_t stops;
+    uint32_t cells;
+    uint32_t patterns;
+    uint32_t lines;
+    uint32_t entries;
+    uint32_t transfers;
+    uint32_t departures;
+    uint32_t delays;
+    uint32_t stop_rows;
+    uint32_t origins;
+    uint32_t egress;
+} SavoikyQuerySizes;
+SAVOIKY_SIZE(SavoikyQuerySizes, 60);
+
+/* How many words of workspace a query needs: 5 stops + 8 trips + 3 lines + 128. Question 1. */
+SavoikyAnswer savoiky_work_size(SavoikyQuerySizes sizes);
+
+/* A QUERY. Lent to be read:
+ *   tables: the timetable
+ *   built: what the building calls wrote, one after the other: each trip's line (a word a trip), the lines' runs (2 a line), the
+ *     entries (a word each), the stops' runs (2 a stop), the departures (2 each), the marks (a word a stop), the transfer runs (2
+ *     for each stop time of each trip)
+ *   transfers: the transfer area, any length; the first `transfers` rows of four words count
+ *   patterns: 64 bytes each; cell c is bit c % 8 of byte c / 8. While arc flags are in use, a walk edge or transfer is skipped
+ *     whose pattern holds no cell of an egress stop; a pattern number past the table counts as holding all
+ *   distances: of the walk edges, then of the origins; any bits, carried into the labels
+ *   query: seven words, start, change time, wanted rounds (any), transfers (any), modes (bit m: mode m is wanted; 0: all),
+ *     wheelchair (0 or 1), switch (1 puts arc flags off); then origins (stop, duration); egress stops (stop, duration), strictly
+ *     rising by stop; delay rows (2 words) and stop rows (5 words), as for the margin
+ * Lent to be written, of any content before:
+ *   labels: 104 words a stop; label_distances: 13 a stop; the labels of the answer, all 13 rows
+ *   work: as many words as savoiky_work_size says; zero afterwards
+ *   queue_a, queue_b: two halves of the segment queue, four words a segment, of one length; zero afterwards. As many rows as the
+ *     trips have stop times together are always enough without frequency trips; with no arc flags in use none is needed
+ *   candidates: 39 words, 13 rows (total, stop, row), of which the answer says how many; the rest are zero. Rows rise and totals
+ *     fall: the last one's total is the best, an earlier one arrives later, by at most 3,600, in fewer rounds
+ * The answer: the best total (when the guest arrives, egress walk included) and its stop. "No way" is success: code 0, total and
+ * stop 4,294,967,295, no candidates. Questions 1 to 6, and 8.
+ */
+
+/* What a call gives back: the number of the first question answered no, or 0; the best total and its stop; how many candidates. */
+typedef struct SavoikyReply {
+    uint32_t code;
+    uint32_t total;
+    uint32_t stop;
+    uint32_t candidates;
+} SavoikyReply;
+SAVOIKY_SIZE(SavoikyReply, 16);
+
+/* As the Rust answers: run_tbr. */
+SavoikyReply savoiky_run_tbr(SavoikyQuerySizes sizes, const uint32_t *tables, size_t tables_len, const uint32_t *built,
+    size_t built_len, const uint32_t *transfers, size_t transfers_len, const uint8_t *patterns, size_t patterns_len,
+    const double *distances, size_t distances_len, const uint32_t *query, size_t query_len, uint32_t *labels, size_t labels_len,
+    double *label_distances, size_t label_distances_len, uint32_t *work, size_t work_len, uint32_t *queue_a, size_t queue_a_len,
+    uint32_t *queue_b, size_t queue_b_len, uint32_t *candidates, size_t candidates_len);
+
+/* What a board asks: run_tbr with arc flags put off where they would skip nothing. On a plain day no journey beats its answer. */
+SavoikyReply savoiky_query(SavoikyQuerySizes sizes, const uint32_t *tables, size_t tables_len, const uint32_t *built,
+    size_t built_len, const uint32_t *transfers, size_t transfers_len, const uint8_t *patterns, size_t patterns_len,
+    const double *distances, size_t distances_len, const uint32_t *query, size_t query_len, uint32_t *labels, size_t labels_len,
+    double *label_distances, size_t label_distances_len, uint32_t *work, size_t work_len, uint32_t *queue_a, size_t queue_a_len,
+    uint32_t *queue_b, size_t queue_b_len, uint32_t *candidates, size_t candidates_len);
+
+#ifdef __cplusplus
+}
+#endif
+
+#undef SAVOIKY_SIZE
+#endif

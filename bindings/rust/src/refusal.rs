@@ -1,0 +1,46 @@
+//! What a call answers where it does not admit its input.
+use crate::sys::QUESTIONS;
+use std::fmt;
+
+/// A refusal: the number of the first question at the door that was answered no.
+///
+/// ```
+/// let refusal = savoiky::service_second(48, 0, 0).unwrap_err();
+/// assert_eq!(refusal.number(), 5);
+/// assert_eq!(refusal.to_string(), "refused by question 5: Is every time and code in its range?");
+/// ```
+#[derive(Clone, Copy, PartialEq, Eq, Hash, Debug)]
+pub struct Refusal(u32);
+
+impl Refusal {
+    /// The question's number, 1 to 8.
+    pub fn number(&self) -> u32 {
+        self.0
+    }
+
+    /// The question's text.
+    pub fn question(&self) -> &'static str {
+        QUESTIONS.get(self.0 as usize).copied().unwrap_or("unknown")
+    }
+}
+
+impl fmt::Display for Refusal {
+    fn fmt(&self, f: &mut fmt::Formatter) -> fmt::Result {
+        write!(f, "refused by question {}: {}", self.0, self.question())
+    }
+}
+
+impl std::error::Error for Refusal {}
+
+/// A code as a result: 0 is success.
+pub(crate) fn checked(code: u32) -> Result<(), Refusal> {
+    match code {
+        0 => Ok(()),
+        n => Err(Refusal(n)),
+    }
+}
+
+/// The value of an answer.
+pub(crate) fn value(a: crate::sys::Answer) -> Result<u32, Refusal> {
+    checked(a.code).map(|()| a.value)
+}

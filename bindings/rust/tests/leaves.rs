@@ -1,0 +1,47 @@
+//! The leaves: cell sets, labels, clock readings.
+use savoiky::{service_second, CellBitSet, Label, Labels};
+
+#[test]
+fn cell_sets() {
+    let set = CellBitSet::new(65).unwrap();
+    assert!(set.is_empty());
+    let set = set.set_bit(127).set_bit(128);
+    assert!(set.get_bit(127) && !set.get_bit(128) && !set.get_bit(u32::MAX));
+    let other = CellBitSet::new(8).unwrap().set_bit(3);
+    assert!(!set.intersects(&other));
+    let both = other.union_with(&set);
+    assert!(both.get_bit(3) && both.get_bit(127) && both.intersects(&set));
+    let wide = other.ensure_sized(512).unwrap().set_bit(511);
+    assert!(wide.get_bit(3) && wide.get_bit(511));
+}
+
+#[test]
+fn labels() {
+    let mut labels = Labels::new(2).unwrap();
+    let stored = [
+        Label::Access { stop_idx: 1, arrival_s: 2, walk_duration: 3, walk_distance: 4.5 },
+        Label::Transit { arrival_s: 1, trip_idx: 2, board_stop: 3, board_off: 4, alight_off: 5, prev_round: 6, time_shift_s: -7 },
+        Label::Walk { arrival_s: 1, from_stop: 2, to_stop: 3, duration_s: 4, distance_m: f64::INFINITY, prev_round: 5 },
+    ];
+    for (row, label) in stored.into_iter().enumerate() {
+        labels.store(1, row as u32, label).unwrap();
+    }
+    for (row, label) in stored.into_iter().enumerate() {
+        assert_eq!(labels.load(1, row as u32), Ok(label));
+        assert_eq!(labels.load(0, row as u32), Ok(Label::Empty));
+    }
+    labels.store(1, 2, Label::Empty).unwrap();
+    assert_eq!(labels.load(1, 2), Ok(Label::Empty));
+    assert_eq!(labels, {
+        let mut same = Labels::new(2).unwrap();
+        same.store(1, 0, stored[0]).unwrap();
+        same.store(1, 1, stored[1]).unwrap();
+        same
+    });
+}
+
+#[test]
+fn clock() {
+    assert_eq!(service_second(25, 10, 0), Ok(90_600));
+    assert_eq!(service_second(47, 59, 59), Ok(172_799));
+}

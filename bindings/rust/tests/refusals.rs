@@ -1,0 +1,189 @@
+//! Every refusal, 1 to 8, through the crate, with its text; bad input of other kinds, which must not panic.
+mod common;
+use common::{query_k, timetable_k};
+use savoiky::{
+    earliest_freq_board, service_second, walk_duration, Built, CellBitSet, DelayAt, Delays, Departures, Egress, FrequencyWindow,
+    Label, Labels, Origin, PathwayMode, Query, Refusal, Run, Stop, StopDelay, StopTime, Tables, Timetable, TripDelay, WalkEdge,
+    Workspace,
+};
+
+/// The number and the text.
+fn refused<T: std::fmt::Debug>(answer: Result<T, Refusal>) -> (u32, String) {
+    let refusal = answer.unwrap_err();
+    assert_eq!(refusal.to_string(), format!("refused by question {}: {}", refusal.number(), refusal.question()));
+    let error: Box<dyn std::error::Error> = Box::new(refusal);
+    (refusal.number(), error.to_string())
+}
+
+fn number<T: std::fmt::Debug>(answer: Result<T, Refusal>) -> u32 {
+    refused(answer).0
+}
+
+/// A query that is put to Timetable K after a change, by both calls.
+fn of_k(change: impl Fn(&mut Query)) -> u32 {
+    let tables = timetable_k().build().unwrap();
+    let mut q = query_k(90, 120);
+    change(&mut q);
+    let code = number(tables.query(&q, &mut Workspace::new()));
+    assert_eq!(number(tables.run_tbr(&q, &mut Workspace::new())), code);
+    code
+}
+
+/// Timetable K with what was built of it changed by hand, asked.
+fn by_hand(change: impl Fn(&mut Built)) -> u32 {
+    let k = timetable_k();
+    let mut built = k.build().unwrap().built().clone();
+    change(&mut built);
+    number(Tables::new(&k, built).query(&query_k(90, 120), &mut Workspace::new()))
+}
+
+#[test]
+fn question_1() {
+    let mut many = timetable_k();
+    many.stops.resize(4097, Stop::default());
+    let text = "refused by question 1: Are all counts within the limits?";
+    assert_eq!(refused(many.build()), (1, text.to_string()));
+    assert_eq!(of_k(|q| q.origins = vec![Origin::default(); 65]), 1);
+    assert_eq!(of_k(|q| q.egress = (0..65).map(|stop_idx| Egress { stop_idx, duration_s: 0 }).collect()), 1);
+    assert_eq!(number(CellBitSet::new(513)), 1);
+    assert_eq!(number(CellBitSet::new(8).unwrap().ensure_sized(513)), 1);
+    assert_eq!(number(Labels::new(4097)), 1);
+    assert_eq!(number(Labels::new(usize::MAX)), 1);
+    assert_eq!(number(earliest_freq_board(&[FrequencyWindow::default(); 65_537], 0, 0, 0)), 1);
+    let delays = Delays { rows: vec![TripDelay::default(); 4097], stop_rows: vec![] };
+    assert_eq!(number(delays.margin(3)), 1);
+}
+
+#[test]
+fn question_1_by_cells() {
+    let mut k = timetable_k();
+    k.cells = 513;
+    let tables = k.build().unwrap();
+    assert_eq!(number(tables.query(&query_k(90, 120), &mut Workspace::new())), 1);
+}
+
+#[test]
+fn question_2() {
+    let k = timetable_k();
+    let mut short = k.clone();
+    short.departures.runs.pop();
+    let text = "refused by question 2: Is every lent slice exactly as long as its counts say?";
+    assert_eq!(refused(short.build()), (2, text.to_string()));
+    assert_eq!(by_hand(|b| b.marks.truncate(2)), 2);
+    assert_eq!(by_hand(|b| b.transfers.runs.clear()), 2);
+    // two wrong lengths that make a right sum
+    assert_eq!(by_hand(|b| (b.marks.pop(), b.lines.of_trip.push(0)).1), 2);
+    let nothing = Tables::new(&Timetable::default(), Built { marks: vec![false], ..Built::default() });
+    assert_eq!(number(nothing.query(&Query::default(), &mut Workspace::new())), 2);
+}
+
+#[test]
+fn question_3() {
+    let mut k = timetable_k();
+    let text = "refused by question 3: Has every trip a stop time, and do all runs lie in their tables?";
+    k.trips[1].stop_times.count = 0;
+    assert_eq!(refused(k.build()), (3, text.to_string()));
+    k.trips[1].stop_times = Run { first: u32::MAX, count: u32::MAX };
+    assert_eq!(number(k.build()), 3);
+    assert_eq!(number(k.compute_trip_transfers(&timetable_k().compute_line_groups().unwrap(), 16)), 3);
+    k.list_departures();
+    assert_eq!(by_hand(|b| b.transfers.runs[0] = Run { first: 1, count: 1 }), 3);
+    assert_eq!(by_hand(|b| b.lines.runs[0].count = 4), 3);
+}
+
+#[test]
+fn question_4() {
+    let mut k = timetable_k();
+    k.stop_times[0].stop_idx = 3;
+    let text = "refused by question 4: Is every stop, trip, line and delay-row number below its count, and each departure's offset below its \
+        trip's count, with that stop time at its stop?";
+    assert_eq!(refused(k.build()), (4, text.to_string()));
+    k.list_departures();
+    assert_eq!(number(k.build()), 4);
+    assert_eq!(of_k(|q| q.origins[0].stop_idx = 3), 4);
+    assert_eq!(of_k(|q| q.delays.rows.push(TripDelay { trip: Some(3), delay_s: 0 })), 4);
+    assert_eq!(of_k(|q| q.delays.stop_rows.push(StopDelay::default())), 4);
+    assert_eq!(by_hand(|b| b.departures.rows[0].trip = 2), 4);
+    assert_eq!(by_hand(|b| b.lines.of_trip[2] = 2), 4);
+    assert_eq!(number(Delays::default().delay_at(3, 3, 0)), 4);
+    assert_eq!(number(Labels::new(1).unwrap().store(1, 0, Label::Empty)), 4);
+}
+
+#[test]
+fn question_5() {
+    let mut k = timetable_k();
+    k.stop_times[7].arrival_s = 1_048_576;
+    let text = "refused by question 5: Is every time and code in its range?";
+    assert_eq!(refused(k.build()), (5, text.to_string()));
+    assert_eq!(of_k(|q| q.start_s = 1_048_576), 5);
+    assert_eq!(of_k(|q| q.delays.rows.push(TripDelay { trip: None, delay_s: i32::MIN })), 5);
+    assert_eq!(number(service_second(0, 60, 0)), 5);
+    assert_eq!(number(walk_duration(1_048_576, PathwayMode::Absent, false)), 5);
+    assert_eq!(number(earliest_freq_board(&[], 0, 0, 1_048_576)), 5);
+    assert_eq!(number(DelayAt { trip_delay_s: -1_048_576, ..DelayAt::default() }.effective_departure(0)), 5);
+    assert_eq!(number(Labels::new(1).unwrap().load(0, 13)), 5);
+}
+
+#[test]
+fn question_6() {
+    let text =
+        "refused by question 6: Are walk edges, delay rows, stop rows, egress stops and, for a query, departures in order?";
+    let tables = timetable_k().build().unwrap();
+    let mut q = query_k(90, 120);
+    q.egress = vec![Egress { stop_idx: 2, duration_s: 5 }; 2];
+    assert_eq!(refused(tables.query(&q, &mut Workspace::new())), (6, text.to_string()));
+    let unknown_first = [TripDelay { trip: None, delay_s: 0 }, TripDelay { trip: Some(0), delay_s: 0 }];
+    assert_eq!(of_k(|q| q.delays.rows = unknown_first.to_vec()), 6);
+    assert_eq!(by_hand(|b| b.departures.rows.swap(0, 1)), 6);
+    let mut k = timetable_k();
+    k.walk_edges = [1, 0].map(|from_stop_idx| WalkEdge { from_stop_idx, ..WalkEdge::default() }).to_vec();
+    assert_eq!(number(k.build().unwrap().query(&query_k(90, 120), &mut Workspace::new())), 6);
+}
+
+#[test]
+fn question_7() {
+    let k = timetable_k();
+    let lines = k.compute_line_groups().unwrap();
+    let text = "refused by question 7: Building transfers: are there at most 65,536, and does the area hold all of them?";
+    assert_eq!(refused(k.compute_trip_transfers(&lines, 0)), (7, text.to_string()));
+    // 260 lines that meet at a stop: 260 times 259 transfers
+    let mut hub = Timetable { stops: vec![Stop::default(); 261], ..Timetable::default() };
+    for other in 1..=260 {
+        hub.add_trip(&[StopTime::new(0, 0, 1000), StopTime::new(other, 1100, 1100)]);
+    }
+    hub.list_departures();
+    assert_eq!(number(hub.build()), 7);
+}
+
+#[test]
+fn question_8() {
+    let mut k = timetable_k();
+    (k.cells, k.patterns) = (1, vec![CellBitSet::new(1).unwrap().set_bit(0)]);
+    let tables = k.build().unwrap();
+    let mut w = Workspace::with_segments(0);
+    tables.query(&query_k(90, 120), &mut w).unwrap();
+    let text = "refused by question 8: Query: does a half of the segment queue hold every round's segments?";
+    assert_eq!(refused(tables.run_tbr(&query_k(90, 120), &mut w)), (8, text.to_string()));
+    // the labels of a refused query are empty
+    assert!((0..3).all(|stop| (0..13).all(|row| w.labels().load(stop, row) == Ok(Label::Empty))));
+    tables.run_tbr(&query_k(90, 120), &mut Workspace::with_segments(1)).unwrap();
+}
+
+#[test]
+fn too_many_events_to_lend() {
+    // 65,537 trips that each claim 65,536 stop times: no memory is asked for
+    let times = vec![StopTime::default(); 65_536];
+    let mut t = Timetable { stops: vec![Stop::default()], stop_times: times, ..Timetable::default() };
+    t.trips = vec![savoiky::Trip::new(Run { first: 0, count: 65_536 }); 65_537];
+    t.departures = Departures::of_stops(&[vec![]]);
+    assert_eq!(number(t.compute_trip_transfers(&savoiky::Lines::default(), 0)), 1);
+    assert_eq!(number(t.build()), 1);
+    let asked = Tables::new(&t, Built::default()).query(&Query::default(), &mut Workspace::new());
+    assert_eq!(number(asked), 1);
+}
+
+#[test]
+fn nothing_at_all_is_admitted() {
+    let tables = Timetable::default().build().unwrap();
+    assert_eq!(tables.query(&Query::default(), &mut Workspace::new()), Ok(savoiky::Answer::NoWay));
+}
