@@ -205,6 +205,12 @@ const OPEN: [usize; 6] = [2, 3, 4, 5, 6, 8];
 // of each call: made, refused, differed
 type Counts = [[u64; 3]; 27];
 
+fn count_calls(t: &mut [[u64; 3]], calls: Vec<(bool, u32)>) {
+    for (n, (right, code)) in t.iter_mut().zip(calls) {
+        *n = [n[0] + 1, n[1] + (code != 0) as u64, n[2] + !right as u64];
+    }
+}
+
 fn job(seed: u64, count: u64) -> Counts {
     let (mut r, mut t) = (Random(seed), [[0; 3]; 27]);
     for i in 0..count {
@@ -215,12 +221,10 @@ fn job(seed: u64, count: u64) -> Counts {
         all.extend(label_calls(&mut r));
         all.extend(building_calls(&mut r));
         all.extend(search_calls(&x, &a));
+        count_calls(&mut t, all);
         if i % 10 == 0 {
             let (x, a) = lively_search(&mut r, i / 10);
-            all.splice(25.., search_calls(&x, &a).into_iter().zip(search_calls(&hostile(&mut r).0, &a)).map(|(p, q)| (p.0 && q.0, p.1)));
-        }
-        for (n, (right, code)) in t.iter_mut().zip(all) {
-            *n = [n[0] + 1, n[1] + (code != 0) as u64, n[2] + !right as u64];
+            count_calls(&mut t[25..], search_calls(&x, &a).to_vec());
         }
     }
     t

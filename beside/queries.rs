@@ -10,8 +10,9 @@ include!(concat!(env!("BESIDE"), "/damage.rs"));
 include!(concat!(env!("BESIDE"), "/drawn.rs"));
 include!(concat!(env!("BESIDE"), "/met.rs"));
 include!(concat!(env!("BESIDE"), "/journeys.rs"));
+include!(concat!(env!("BESIDE"), "/jobs.rs"));
 
-const COUNT: u32 = 100_000;
+const COUNT: u64 = 100_000;
 
 // What was compared: how many searches, how many differed, how often each code was expected; of those answered, how many have no way, and how many
 // searched with the flags on.
@@ -75,9 +76,11 @@ impl Tallies {
         self.hostile += t.hostile;
         self.wrong += t.wrong;
     }
+    fn differed(&self) -> bool {
+        self.calls.iter().any(|c| c.differed > 0) || self.plain.differed > 0 || self.sizes_differed > 0 || self.wrong > 0
+    }
     fn fine(&self) -> bool {
-        self.calls.iter().all(|c| c.differed == 0 && c.met_all())
-            && self.plain.differed == 0 && self.plain.no_way > 0 && self.sizes_differed == 0 && self.wrong == 0 && self.met.missing().is_empty()
+        !self.differed() && self.calls.iter().all(|c| c.met_all()) && self.plain.no_way > 0 && self.met.missing().is_empty()
     }
     fn print(&self) {
         self.calls[0].print("run_tbr");
@@ -148,11 +151,13 @@ fn at_limits(r: &mut Random, t: &mut Tallies) {
     }
 }
 
-fn job(seed: u64, count: u32) -> Tallies {
+fn job(seed: u64, count: u64) -> Tallies {
     let (mut r, mut t) = (Random(seed), Tallies::default());
+    // FIRST=1: no further than a first difference (beside/mutants)
+    let first = std::env::var("FIRST").is_ok();
     at_limits(&mut r, &mut t);
     for i in 0..count {
-        random_search(&mut r, &mut t, i % 16, i / 16 % 5);
+        random_search(&mut r, &mut t, (i % 16) as u32, (i / 16 % 5) as u32);
         if i % 10 == 0 {
             let (x, a) = hostile(&mut r);
             compare(&mut t, &x, &a, None);
@@ -161,17 +166,17 @@ fn job(seed: u64, count: u32) -> Tallies {
         if i % 5 < 2 {
             plain_search(&mut r, &mut t);
         }
+        if first && t.differed() {
+            println!("first difference after {} searches and {} plain days", t.sizes, t.plain.compared);
+            break;
+        }
     }
     t
 }
 
 fn main() {
-    let words: Vec<u64> = std::env::args().skip(1).map(|n| n.parse().unwrap()).collect();
-    let word = |k: usize, default: u64| words.get(k).copied().unwrap_or(default);
-    let (count, seed, jobs) = (word(0, COUNT as u64), word(1, 0x9E7A), word(2, 1));
-    let started: Vec<_> = (0..jobs).map(|k| std::thread::spawn(move || job(seed + (k << 32), (count / jobs) as u32))).collect();
     let mut t = Tallies::default();
-    started.into_iter().for_each(|j| t.join(&j.join().unwrap()));
+    in_jobs(COUNT, 0x9E7A, job).iter().for_each(|other| t.join(other));
     t.print();
     std::process::exit(!t.fine() as i32);
 }

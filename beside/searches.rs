@@ -430,7 +430,25 @@ fn close(r: &mut Random, kind: u32) -> Case {
     let mut c = asked_of(r, e, listed, &[(vec![0, 2], 0)], kind, &LADDER);
     c.origins.push(access(2, 250 + r.below(400), 3.0));
     c.egress.values_mut().for_each(|a| a.duration_s = r.below(30));
+    if r.yes(15) {
+        early(&mut c);
+    }
     c
+}
+
+// all trips but the first leave later by more than the margin's cap, and those with a delay row run as much early
+fn early(c: &mut Case) {
+    const BY: u32 = 22000;
+    c.e.stop_times.iter_mut().skip(2).for_each(|s| (s.arrival_s, s.departure_s) = (s.arrival_s + BY, s.departure_s + BY));
+    for (row, (t, delay)) in c.delays.iter_mut().enumerate().filter(|(_, d)| d.0 > 0 && d.0 != u32::MAX) {
+        *delay -= BY as i32;
+        let adj = c.q.rt_adjust.get_mut(&format!("t{t}")).unwrap();
+        adj.trip_delay_s -= BY as i32;
+        adj.dep_delay.values_mut().chain(adj.arr_delay.values_mut()).for_each(|d| *d -= BY as i32);
+        for s in c.stop_rows.iter_mut().filter(|s| s[0] as usize == row) {
+            (s[3], s[4]) = (s[3].wrapping_sub(BY), s[4].wrapping_sub(BY));
+        }
+    }
 }
 
 // walks, flags and a query on these trips
