@@ -1,17 +1,22 @@
 // Searches drawn at random: a case that is seldom dull, with the reference's answer to it, and room in the queue that suits it.
 
-// distances of any bits; at times all times as late as may be
-fn spread(r: &mut Random, c: &mut Case) {
-    c.e.walk_edges.iter_mut().for_each(|w| w.distance_m = r.distance());
-    c.origins.iter_mut().for_each(|o| o.distance_m = r.distance());
+// at times all times as late as may be
+fn put_late(r: &mut Random, c: &mut Case) {
     if !r.yes(8) {
         return;
     }
     let windows = c.e.trips.iter().flat_map(|t| &t.frequency_windows).map(|w| w.start_s.max(w.end_s)).max().unwrap_or(0);
-    let late = LIMIT - c.e.stop_times.iter().map(|t| t.arrival_s.max(t.departure_s)).max().unwrap_or(0).max(windows).max(c.start);
-    c.start += late;
+    let late = LIMIT - c.e.stop_times.iter().map(|t| t.arrival_s.max(t.departure_s)).max().unwrap_or(0).max(windows);
+    c.later = late;
+    c.start = (c.start + late).min(LIMIT);
     c.e.stop_times.iter_mut().for_each(|t| (t.arrival_s, t.departure_s) = (t.arrival_s + late, t.departure_s + late));
     c.e.trips.iter_mut().flat_map(|t| &mut t.frequency_windows).for_each(|w| (w.start_s, w.end_s) = (w.start_s + late, w.end_s + late));
+}
+
+// distances of any bits
+fn spread(r: &mut Random, c: &mut Case) {
+    c.e.walk_edges.iter_mut().for_each(|w| w.distance_m = r.distance());
+    c.origins.iter_mut().for_each(|o| o.distance_m = r.distance());
 }
 
 // egress walks such that all egress stops have the same total, where the search stays as it was
@@ -22,29 +27,57 @@ fn level(c: &mut Case, labels: &[(usize, [u32; 8], f64)]) {
     }
 }
 
-// a case of this kind, small, large, a ladder or close, most often one that is not dull; and the reference's answer to it
+// tables of this kind, small, large, a ladder or close, with a query
+fn drawn_tables(r: &mut Random, kind: u32, which: u32) -> Case {
+    let mut c = match which {
+        0 => case(r, kind, &LARGE),
+        1 => ladder(r, kind),
+        2 => close(r, kind | 6),
+        _ => case(r, kind, &SMALL),
+    };
+    put_late(r, &mut c);
+    c
+}
+
+// a case, most often one that is not dull, and the reference's answer to it: every fourth try has new tables
 fn drawn(r: &mut Random, kind: u32, which: u32) -> (Case, Ran) {
     let tries = if which == 2 || r.yes(12) { 1 } else { 40 };
-    for i in 1.. {
-        let mut c = match which {
-            0 => case(r, kind, &LARGE),
-            1 => ladder(r, kind),
-            2 => close(r, kind | 6),
-            _ => case(r, kind, &SMALL),
-        };
-        spread(r, &mut c);
-        let ran = run(&c, c.off);
-        if i < tries && dull(&c, kind, &ran.1, &ran.2) {
-            continue;
+    let mut c = drawn_tables(r, kind, which);
+    let mut ran = answered_to(r, &mut c);
+    for i in 1..tries {
+        if !dull(&c, kind, &ran.1, &ran.2) {
+            break;
         }
-        if !r.yes(12) {
-            return (c, ran);
+        if i % 4 == 0 {
+            c = drawn_tables(r, kind, which);
+        } else {
+            ask_anew(r, &mut c);
         }
-        level(&mut c, &ran.0.labels);
-        let ran = run(&c, c.off);
-        return (c, ran);
+        ran = answered_to(r, &mut c);
     }
-    unreachable!()
+    (c, ran)
+}
+
+// another query on the same tables; a dull one is drawn once more
+fn drawn_again(r: &mut Random, c: &mut Case) -> Ran {
+    ask_anew(r, c);
+    let ran = answered_to(r, c);
+    if !dull(c, c.kind, &ran.1, &ran.2) {
+        return ran;
+    }
+    ask_anew(r, c);
+    answered_to(r, c)
+}
+
+// the reference's answer, after distances and at times egress walks were put otherwise
+fn answered_to(r: &mut Random, c: &mut Case) -> Ran {
+    spread(r, c);
+    let ran = run(c, c.off);
+    if !r.yes(12) {
+        return ran;
+    }
+    level(c, &ran.0.labels);
+    run(c, c.off)
 }
 
 // words in each queue half: enough, just enough or, where segments are queued, too few

@@ -123,8 +123,8 @@ fn table_calls(r: &mut Random) -> [(bool, u32); 3] {
     let (trips, row_count, stop_row_count) = (wild_count(r, 9), wild_count(r, 5), wild_count(r, 5));
     let mut d = Delays { trips, row_count, stop_row_count, rows: wild_words(r, 2 * row_count as u64, tame), stop_rows: wild_words(r, 5 * stop_row_count as u64, tame) };
     if r.yes(60) {
-        d.rows.chunks_mut(2).enumerate().for_each(|(i, c)| c[0] = i as u32);
-        d.stop_rows.chunks_mut(5).enumerate().for_each(|(i, c)| (c[0], c[1]) = (0, i as u32));
+        d.rows.chunks_exact_mut(2).enumerate().for_each(|(i, c)| c[0] = i as u32);
+        d.stop_rows.chunks_exact_mut(5).enumerate().for_each(|(i, c)| (c[0], c[1]) = (0, i as u32));
     }
     let code = d.door();
     [(got == want, want.code), (d.margin_agrees(), code), (d.row_agrees(r), code)]

@@ -182,14 +182,28 @@ fn demand_3(c: &Case, total: u32, stop: u32, candidates: &[[u32; 3]]) -> bool {
     arrives(total, stop) && candidates.iter().all(|k| arrives(k[0], k[1])) && earliest.iter().enumerate().all(|(n, v)| *v == u32::MAX || covered(n, *v))
 }
 
-fn plain_search(r: &mut Random, t: &mut Tallies) {
-    let c = plain_day(r);
-    let x = lend(r, &c, false);
+// so many queries on the tables of one plain day: another start, egress, change time, rounds, modes, excluded trips; the walks stay complete
+const ASKED: u32 = 4;
+
+fn plain_searches(r: &mut Random, t: &mut Tallies) {
+    let mut c = plain_day(r);
+    for k in 0..ASKED {
+        if k > 0 {
+            let (origins, wheelchair) = (c.origins.clone(), c.q.wheelchair);
+            ask_anew(r, &mut c);
+            (c.origins, c.q.wheelchair) = (origins, wheelchair);
+        }
+        plain_search(r, t, &c);
+    }
+}
+
+fn plain_search(r: &mut Random, t: &mut Tallies, c: &Case) {
+    let x = lend(r, c, false);
     let mut a = areas(r, &x.sizes, 4096);
     let reply = ask_ours(Call::Query, &x, &mut a);
     let candidates: Vec<[u32; 3]> = a.candidates.chunks(3).take(reply.candidates as usize).map(|k| k.try_into().unwrap()).collect();
     t.plain.compared += 1;
     t.plain.no_way += (reply.total == u32::MAX) as u64;
-    t.plain.flagged += flags_on(&c) as u64;
-    t.plain.differed += (reply.code != 0 || !demand_3(&c, reply.total, reply.stop, &candidates)) as u64;
+    t.plain.flagged += flags_on(c) as u64;
+    t.plain.differed += (reply.code != 0 || !demand_3(c, reply.total, reply.stop, &candidates)) as u64;
 }

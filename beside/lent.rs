@@ -383,6 +383,7 @@ impl Lent {
             origins: s.origins.chunks(2).zip(far).map(|(c, d)| access(c[0], c[1], f64::from_bits(*d))).collect(),
             egress: s.egress.chunks(2).map(|c| (c[0], access(c[0], c[1], 0.0))).collect(),
             off: w[6] == 1,
+            kind: 0, size: &SMALL, shapes: vec![], later: 0,
         }
     }
 }

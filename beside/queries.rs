@@ -12,7 +12,7 @@ include!(concat!(env!("BESIDE"), "/met.rs"));
 include!(concat!(env!("BESIDE"), "/journeys.rs"));
 include!(concat!(env!("BESIDE"), "/jobs.rs"));
 
-const COUNT: u64 = 100_000;
+const COUNT: u64 = 400_000;
 
 // What was compared: how many searches, how many differed, how often each code was expected; of those answered, how many have no way, and how many
 // searched with the flags on.
@@ -125,11 +125,25 @@ fn compare(t: &mut Tallies, x: &Lent, a: &Areas, given: Option<&Ran>) {
     t.sizes_differed += (unsafe { savoiky_work_size(x.sizes) } != work_outcome(&x.sizes)) as u64;
 }
 
-fn random_search(r: &mut Random, t: &mut Tallies, kind: u32, which: u32) {
-    let (c, ran) = drawn(r, kind, which);
+// so many searches on tables drawn once
+const QUERIES: u64 = 4;
+
+fn random_searches(r: &mut Random, t: &mut Tallies, kind: u32, which: u32) {
+    let (mut c, mut ran) = drawn(r, kind, which);
+    for k in 0..QUERIES {
+        if k > 0 && which == 2 {
+            (c, ran) = drawn(r, kind, which);
+        } else if k > 0 {
+            ran = drawn_again(r, &mut c);
+        }
+        random_search(r, t, &c, &ran);
+    }
+}
+
+fn random_search(r: &mut Random, t: &mut Tallies, c: &Case, ran: &Ran) {
     let loose = r.yes(50);
-    let mut x = lend(r, &c, loose);
-    let half = half_for(r, flags_on(&c), &ran.2);
+    let mut x = lend(r, c, loose);
+    let half = half_for(r, flags_on(c), &ran.2);
     let mut a = areas(r, &x.sizes, half);
     let damaged = r.below(3) == 0;
     if damaged {
@@ -138,7 +152,8 @@ fn random_search(r: &mut Random, t: &mut Tallies, kind: u32, which: u32) {
             damage_area(r, &mut a);
         }
     }
-    compare(t, &x, &a, if damaged { None } else { Some(&ran) });
+    // a copy is exactly as long as it says
+    compare(t, &x.clone(), &a, if damaged { None } else { Some(ran) });
 }
 
 fn at_limits(r: &mut Random, t: &mut Tallies) {
@@ -156,15 +171,13 @@ fn job(seed: u64, count: u64) -> Tallies {
     // FIRST=1: no further than a first difference (beside/mutants)
     let first = std::env::var("FIRST").is_ok();
     at_limits(&mut r, &mut t);
-    for i in 0..count {
-        random_search(&mut r, &mut t, (i % 16) as u32, (i / 16 % 5) as u32);
-        if i % 10 == 0 {
+    for i in 0..count / QUERIES {
+        random_searches(&mut r, &mut t, (i % 16) as u32, (i / 16 % 5) as u32);
+        if i % 5 < 2 {
             let (x, a) = hostile(&mut r);
             compare(&mut t, &x, &a, None);
             t.hostile += 2;
-        }
-        if i % 5 < 2 {
-            plain_search(&mut r, &mut t);
+            plain_searches(&mut r, &mut t);
         }
         if first && t.differed() {
             println!("first difference after {} searches and {} plain days", t.sizes, t.plain.compared);

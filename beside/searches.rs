@@ -35,6 +35,11 @@ struct Case {
     origins: Vec<AccessStop>,
     egress: BTreeMap<u32, AccessStop>,
     off: bool,
+    // what it was drawn by, for another query on the same tables: kind, size, shapes, how much later than drawn all times are
+    kind: u32,
+    size: &'static Size,
+    shapes: Vec<(Vec<u32>, u32)>,
+    later: u32,
 }
 
 const MODES: [RouteMode; 7] = [RouteMode::Tram, RouteMode::Metro, RouteMode::Rail, RouteMode::Bus, RouteMode::Ferry, RouteMode::Coach, RouteMode::Other];
@@ -402,13 +407,13 @@ fn build_all(e: &mut StaticEpoch) {
     build_transfers(e);
 }
 
-fn case(r: &mut Random, kind: u32, size: &Size) -> Case {
+fn case(r: &mut Random, kind: u32, size: &'static Size) -> Case {
     let mut e = StaticEpoch::default();
     e.stops = (0..3 + r.below(size.stops + 1)).collect();
     let ns = e.stops.len() as u32;
     let shapes = shapes(r, ns, size);
     let listed = trips(r, &mut e, kind & 1 != 0, size, &shapes);
-    asked_of(r, e, listed, &shapes, kind, size)
+    asked_of(r, e, listed, shapes, kind, size)
 }
 
 fn ladder(r: &mut Random, kind: u32) -> Case {
@@ -417,7 +422,7 @@ fn ladder(r: &mut Random, kind: u32) -> Case {
     let m = e.stops.len() as u32 - 1;
     let rides = rungs(r, m);
     let listed = rides_of(r, &mut e, kind & 1 != 0, &rides);
-    asked_of(r, e, listed, &[(vec![0, m], 0)], kind, &LADDER)
+    asked_of(r, e, listed, vec![(vec![0, m], 0)], kind, &LADDER)
 }
 
 // one ride, then a line of close departures, and a walk to the end that is about as fast: delays decide
@@ -427,7 +432,7 @@ fn close(r: &mut Random, kind: u32) -> Case {
     let mut rides = vec![(0, 1, 100, 200)];
     rides.extend((0..2 + r.below(5)).map(|k| (1, 2, 320 + 40 * k, 400 + 40 * k)));
     let listed = rides_of(r, &mut e, kind & 1 != 0, &rides);
-    let mut c = asked_of(r, e, listed, &[(vec![0, 2], 0)], kind, &LADDER);
+    let mut c = asked_of(r, e, listed, vec![(vec![0, 2], 0)], kind, &LADDER);
     c.origins.push(access(2, 250 + r.below(400), 3.0));
     c.egress.values_mut().for_each(|a| a.duration_s = r.below(30));
     if r.yes(15) {
@@ -452,8 +457,7 @@ fn early(c: &mut Case) {
 }
 
 // walks, flags and a query on these trips
-fn asked_of(r: &mut Random, mut e: StaticEpoch, listed: Vec<Vec<(u32, u32)>>, shapes: &[(Vec<u32>, u32)], kind: u32, size: &Size) -> Case {
-    let ns = e.stops.len() as u32;
+fn asked_of(r: &mut Random, mut e: StaticEpoch, listed: Vec<Vec<(u32, u32)>>, shapes: Vec<(Vec<u32>, u32)>, kind: u32, size: &'static Size) -> Case {
     e.stop_departures = listed.clone();
     build_all(&mut e);
     walks(r, &mut e, size);
@@ -461,18 +465,28 @@ fn asked_of(r: &mut Random, mut e: StaticEpoch, listed: Vec<Vec<(u32, u32)>>, sh
     if kind & 8 != 0 {
         by_hand(r, &mut e);
     }
-    let (q, modes) = settings(r, &e, size);
-    let (mut origins, mut egress) = ends(r, ns);
-    let mut start = 30 * r.below(16);
-    if r.yes(size.far) {
-        (origins, egress, start) = far(r, shapes);
-    }
-    let off = r.yes(15);
-    let mut c = Case { e, listed, patterns, q, modes, delays: vec![], stop_rows: vec![], start, origins, egress, off };
-    if kind & 2 != 0 {
-        late(r, &mut c);
-    }
+    let q = ItineraryQuery::default();
+    let mut c = Case {
+        e, listed, patterns, q, modes: 0, delays: vec![], stop_rows: vec![], start: 0, origins: vec![], egress: BTreeMap::new(), off: false, kind, size, shapes, later: 0,
+    };
+    ask_anew(r, &mut c);
     c
+}
+
+// another query, with other delays, on the same tables
+fn ask_anew(r: &mut Random, c: &mut Case) {
+    (c.q, c.modes) = settings(r, &c.e, c.size);
+    (c.origins, c.egress) = ends(r, c.e.stops.len() as u32);
+    c.start = 30 * r.below(16);
+    if r.yes(c.size.far) {
+        (c.origins, c.egress, c.start) = far(r, &c.shapes);
+    }
+    c.off = r.yes(15);
+    (c.delays, c.stop_rows) = (vec![], vec![]);
+    if c.kind & 2 != 0 {
+        late(r, c);
+    }
+    c.start = (c.start + c.later).min(LIMIT);
 }
 
 // the reference's answer; then its scans and queue lengths, last first
