@@ -376,14 +376,15 @@ impl Lent {
         }
         let far = &self.distances[self.sizes.edges as usize..];
         Case {
-            e, listed: vec![], patterns: vec![], q, modes: w[4],
+            q,
+            modes: w[4],
             delays: s.delays.rows.chunks(2).map(|c| (c[0], c[1] as i32)).collect(),
             stop_rows: s.delays.stop_rows.chunks(5).map(|c| c.try_into().unwrap()).collect(),
             start: w[0],
             origins: s.origins.chunks(2).zip(far).map(|(c, d)| access(c[0], c[1], f64::from_bits(*d))).collect(),
             egress: s.egress.chunks(2).map(|c| (c[0], access(c[0], c[1], 0.0))).collect(),
             off: w[6] == 1,
-            kind: 0, size: &SMALL, shapes: vec![], later: 0,
+            ..unasked(e)
         }
     }
 }

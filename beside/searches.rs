@@ -465,12 +465,17 @@ fn asked_of(r: &mut Random, mut e: StaticEpoch, listed: Vec<Vec<(u32, u32)>>, sh
     if kind & 8 != 0 {
         by_hand(r, &mut e);
     }
-    let q = ItineraryQuery::default();
-    let mut c = Case {
-        e, listed, patterns, q, modes: 0, delays: vec![], stop_rows: vec![], start: 0, origins: vec![], egress: BTreeMap::new(), off: false, kind, size, shapes, later: 0,
-    };
+    let mut c = Case { listed, patterns, kind, size, shapes, ..unasked(e) };
     ask_anew(r, &mut c);
     c
+}
+
+// these tables with a query that says nothing
+fn unasked(e: StaticEpoch) -> Case {
+    Case {
+        e, listed: vec![], patterns: vec![], q: ItineraryQuery::default(), modes: 0, delays: vec![], stop_rows: vec![], start: 0, origins: vec![],
+        egress: BTreeMap::new(), off: false, kind: 0, size: &SMALL, shapes: vec![], later: 0,
+    }
 }
 
 // another query, with other delays, on the same tables
