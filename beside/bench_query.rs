@@ -162,11 +162,7 @@ fn day(r: &mut Random, stops: u32, trips: u32, each: u32) -> (String, Case) {
     walks_and_flags(r, &mut e);
     let transfers: usize = e.trip_transfers.iter().flatten().map(|l| l.len()).sum();
     let name = format!("{} trips, {stops} stops, {} times, {transfers} transfers", e.trips.len(), e.stop_times.len());
-    let c = Case {
-        e, listed: vec![], patterns: vec![], q: ItineraryQuery::default(), modes: 0, delays: vec![], stop_rows: vec![], start: 0, origins: vec![],
-        egress: BTreeMap::new(), off: false,
-    };
-    (name, c)
+    (name, unasked(e))
 }
 
 fn main() {

@@ -65,7 +65,7 @@ const FEW: QuerySizes = QuerySizes {
 };
 
 // none, one and the most of all; 0, 1, the limit and one more of each, with the number of the first no where it is plain
-fn limits() -> Vec<(Lent, Option<u32>)> {
+fn search_limits() -> Vec<(Lent, Option<u32>)> {
     let (mut ones, mut most) = (FEW, LIMITS);
     ones.numbers().fill(1);
     let mut out: Vec<(Lent, Option<u32>)> = [QuerySizes::default(), ones, most].into_iter().map(|n| (counted(n), Some(0))).collect();

@@ -33,10 +33,13 @@ fn list_evenly(r: &mut Random, e: &mut StaticEpoch) {
     e.stop_departures = listed;
 }
 
+// no walk, and longer than any
+const FAR: u64 = u64::MAX / 4;
+
 // the shortest walks between stops, of any number of edges, with this query's durations
 fn shortest(c: &Case) -> Vec<Vec<u64>> {
     let n = c.e.stops.len();
-    let mut d = vec![vec![u64::MAX / 4; n]; n];
+    let mut d = vec![vec![FAR; n]; n];
     for w in &c.e.walk_edges {
         let at = &mut d[w.from_stop_idx as usize][w.to_stop_idx as usize];
         *at = (*at).min(w.effective_duration_s(c.q.wheelchair) as u64);
@@ -51,39 +54,47 @@ fn shortest(c: &Case) -> Vec<Vec<u64>> {
     d
 }
 
-// walks complete: an edge, and an origin, for each shortest walk
-fn complete_walks(c: &mut Case) {
+// walks complete: an edge, and an origin, for each shortest walk; false where one is longer than a duration may be
+fn complete_walks(c: &mut Case) -> bool {
     let d = shortest(c);
     let n = c.e.stops.len();
+    let from = |j: usize| c.origins.iter().map(|o| o.duration_s as u64 + d[o.stop_idx as usize][j]).min().filter(|v| *v < FAR);
+    let origins: Vec<Option<u64>> = (0..n).map(from).collect();
+    let all = d.iter().flatten().filter(|v| **v < FAR).chain(origins.iter().flatten());
+    if all.into_iter().any(|v| *v > LIMIT as u64) {
+        return false;
+    }
     for (i, row) in d.iter().enumerate() {
-        for (j, v) in row.iter().enumerate().filter(|(j, v)| *j != i && **v <= LIMIT as u64) {
+        for (j, v) in row.iter().enumerate().filter(|(j, v)| *j != i && **v < FAR) {
             c.e.walk_edges.push(WalkEdge { from_stop_idx: i as u32, to_stop_idx: j as u32, duration_s: *v as u32, distance_m: 1.0, pathway_mode: None });
         }
     }
     c.e.walk_edges.sort_by_key(|w| w.from_stop_idx);
     c.e.walk_adj = (0..n).map(|s| (0..c.e.walk_edges.len()).filter(|k| c.e.walk_edges[*k].from_stop_idx as usize == s).collect()).collect();
     c.e.arc_flag_pattern = c.e.walk_edges.iter().enumerate().map(|(i, _)| i as u32 % 4).collect();
-    for j in 0..n {
-        let walked = c.origins.iter().map(|o| o.duration_s as u64 + d[o.stop_idx as usize][j]).min();
-        if let Some(v) = walked.filter(|v| *v <= LIMIT as u64) {
-            c.origins.push(access(j as u32, v as u32, 0.5));
-        }
+    for (j, v) in origins.iter().enumerate() {
+        c.origins.extend(v.map(|v| access(j as u32, v as u32, 0.5)));
     }
+    true
 }
 
 fn plain_day(r: &mut Random) -> Case {
     let kind = 4 * r.below(2);
     let which = [1, 3][r.below(2) as usize];
-    let mut c = lively(r, kind, which);
+    let mut c = loop {
+        let mut c = drawn(r, kind, which).0;
+        if complete_walks(&mut c) {
+            break c;
+        }
+    };
     rising_times(&mut c.e);
     build_lines(&mut c.e);
     list_evenly(r, &mut c.e);
-    complete_walks(&mut c);
     build_all(&mut c.e);
     // the flags skip nothing
     for p in c.e.flag_patterns.iter_mut() {
-        *p = gtfs::cell_bitset::CellBitSet::new(130);
-        (0..130).for_each(|k| p.set_bit(k));
+        *p = gtfs::cell_bitset::CellBitSet::new(512);
+        (0..512).for_each(|k| p.set_bit(k));
     }
     c
 }
@@ -171,13 +182,28 @@ fn demand_3(c: &Case, total: u32, stop: u32, candidates: &[[u32; 3]]) -> bool {
     arrives(total, stop) && candidates.iter().all(|k| arrives(k[0], k[1])) && earliest.iter().enumerate().all(|(n, v)| *v == u32::MAX || covered(n, *v))
 }
 
-fn plain_search(r: &mut Random, t: &mut Tallies) {
-    let c = plain_day(r);
-    let x = lend(r, &c, false);
+// so many queries on the tables of one plain day: another start, egress, change time, rounds, modes, excluded trips; the walks stay complete
+const ASKED: u32 = 4;
+
+fn plain_searches(r: &mut Random, t: &mut Tallies) {
+    let mut c = plain_day(r);
+    for k in 0..ASKED {
+        if k > 0 {
+            let (origins, wheelchair) = (c.origins.clone(), c.q.wheelchair);
+            ask_anew(r, &mut c);
+            (c.origins, c.q.wheelchair) = (origins, wheelchair);
+        }
+        plain_search(r, t, &c);
+    }
+}
+
+fn plain_search(r: &mut Random, t: &mut Tallies, c: &Case) {
+    let x = lend(r, c, false);
     let mut a = areas(r, &x.sizes, 4096);
     let reply = ask_ours(Call::Query, &x, &mut a);
     let candidates: Vec<[u32; 3]> = a.candidates.chunks(3).take(reply.candidates as usize).map(|k| k.try_into().unwrap()).collect();
     t.plain.compared += 1;
     t.plain.no_way += (reply.total == u32::MAX) as u64;
-    t.plain.differed += (reply.code != 0 || !demand_3(&c, reply.total, reply.stop, &candidates)) as u64;
+    t.plain.flagged += flags_on(c) as u64;
+    t.plain.differed += (reply.code != 0 || !demand_3(c, reply.total, reply.stop, &candidates)) as u64;
 }

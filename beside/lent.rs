@@ -90,15 +90,23 @@ fn table_words(c: &Case) -> Vec<u32> {
     out
 }
 
-// runs (first row, count) and the rows themselves; at times a row that no run has, one of these, stands between two runs
-fn runs_of<T: Clone>(r: &mut Random, lists: &[Vec<T>], loose: &[T]) -> (Vec<u32>, Vec<T>) {
-    let (mut runs, mut rows) = (vec![], vec![]);
-    for l in lists {
+// runs (first row, count) and the rows themselves; with some to choose from, at times a row that no run has, one of these, stands between two runs,
+// the last run comes first, a run of no rows begins anywhere, and equal lists share their rows
+fn runs_of<T: Clone + PartialEq>(r: &mut Random, lists: &[Vec<T>], loose: &[T]) -> (Vec<u32>, Vec<T>) {
+    let (mut runs, mut rows) = (vec![0; 2 * lists.len()], vec![]);
+    let odd = !loose.is_empty() && r.yes(30);
+    for k in 0..lists.len() {
+        let i = if odd { lists.len() - 1 - k } else { k };
+        let l = &lists[i];
         if !loose.is_empty() && r.yes(5) {
             rows.push(loose[r.below(loose.len() as u32) as usize].clone());
         }
-        runs.extend([rows.len() as u32, l.len() as u32]);
-        rows.extend(l.iter().cloned());
+        let shared = (i + 1..lists.len()).find(|j| odd && lists[*j] == *l);
+        let first = if odd && l.is_empty() { r.below(rows.len() as u32 + 1) } else { shared.map_or(rows.len() as u32, |j| runs[2 * j]) };
+        (runs[2 * i], runs[2 * i + 1]) = (first, l.len() as u32);
+        if shared.is_none() {
+            rows.extend(l.iter().cloned());
+        }
     }
     (runs, rows)
 }
@@ -122,12 +130,13 @@ fn pattern_bytes(c: &Case) -> Vec<u8> {
 
 // loose: with rows that no run has, and an area that is longer than its transfers
 fn lend(r: &mut Random, c: &Case, loose: bool) -> Lent {
-    let events: Vec<Vec<TripTransferEntry>> = c.e.trip_transfers.iter().flatten().cloned().collect();
+    let words = |t: &TripTransferEntry| [t.target_trip, t.target_board_off, t.min_transfer_s, t.flag_pattern];
+    let events: Vec<Vec<[u32; 4]>> = c.e.trip_transfers.iter().flatten().map(|l| l.iter().map(words).collect()).collect();
     let (mut trips, mut rows, mut other) = (vec![], vec![], vec![]);
     if loose {
         trips.extend(0..c.e.trips.len() as u32);
         rows.extend(c.e.stop_departures.iter().flatten().copied());
-        other.extend((0..5).map(|p| TripTransferEntry { target_trip: r.any(), target_board_off: r.any(), min_transfer_s: LIMIT, flag_pattern: p }));
+        other.extend((0..5).map(|p| [r.any(), r.any(), LIMIT, p]));
     }
     let (line_runs, entries) = runs_of(r, &c.e.line_trips, &trips);
     let (stop_runs, departures) = runs_of(r, &c.e.stop_departures, &rows);
@@ -147,7 +156,7 @@ fn lend(r: &mut Random, c: &Case, loose: bool) -> Lent {
         origins: c.origins.len() as u32, egress: c.egress.len() as u32,
     };
     let distances = c.e.walk_edges.iter().map(|w| w.distance_m.to_bits()).chain(c.origins.iter().map(|o| o.distance_m.to_bits())).collect();
-    let mut area: Vec<u32> = transfers.iter().flat_map(|t| [t.target_trip, t.target_board_off, t.min_transfer_s, t.flag_pattern]).collect();
+    let mut area: Vec<u32> = transfers.concat();
     if loose {
         area.extend((0..r.below(9)).map(|_| r.next() as u32));
     }
@@ -156,10 +165,12 @@ fn lend(r: &mut Random, c: &Case, loose: bool) -> Lent {
 
 // areas of the right lengths, of any content
 fn areas(r: &mut Random, n: &QuerySizes, half: usize) -> Areas {
-    let mut words = |k: usize| -> Vec<u32> { (0..k).map(|_| r.next() as u32).collect() };
+    let (first, step) = (r.next(), r.next() | 1);
+    let word = |i: usize| first.wrapping_add(step.wrapping_mul(i as u64));
+    let words = |k: usize| -> Vec<u32> { (0..k).map(|i| (word(i) >> 16) as u32).collect() };
     let stops = n.stops as usize;
     let (labels, work, queue_a, queue_b, candidates) = (words(104 * stops), words(work_size(n)), words(half), words(half), words(39));
-    Areas { labels, label_distances: (0..13 * stops).map(|_| r.next()).collect(), work, queue_a, queue_b, candidates }
+    Areas { labels, label_distances: (0..13 * stops).map(word).collect(), work, queue_a, queue_b, candidates }
 }
 
 // THE SECTIONS
@@ -365,13 +376,15 @@ impl Lent {
         }
         let far = &self.distances[self.sizes.edges as usize..];
         Case {
-            e, listed: vec![], patterns: vec![], q, modes: w[4],
+            q,
+            modes: w[4],
             delays: s.delays.rows.chunks(2).map(|c| (c[0], c[1] as i32)).collect(),
             stop_rows: s.delays.stop_rows.chunks(5).map(|c| c.try_into().unwrap()).collect(),
             start: w[0],
             origins: s.origins.chunks(2).zip(far).map(|(c, d)| access(c[0], c[1], f64::from_bits(*d))).collect(),
             egress: s.egress.chunks(2).map(|c| (c[0], access(c[0], c[1], 0.0))).collect(),
             off: w[6] == 1,
+            ..unasked(e)
         }
     }
 }

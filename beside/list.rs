@@ -12,20 +12,35 @@
 //      entries (6); then sorting: code, rows (20), marks (3); lines: code, count, lines (5), runs (10), entries (5); layout: code,
 //      positions (5), FIFO (3); transfers: code, count, area (96), runs (30). What is lent to be written holds 7 in every word.
 //   10 label: kind, seven fields, distance (a whole number), stop, row of three stops; then the record's eight words and its distance
+//   12 a search put to run_tbr and query: list_queries.rs says what it holds
 #![allow(dead_code, unused)]
-include!(concat!(env!("BESIDE"), "/parts.rs"));
-include!(concat!(env!("BESIDE"), "/rows.rs"));
+include!(concat!(env!("BESIDE"), "/query_parts.rs"));
 include!(concat!(env!("BESIDE"), "/timetables.rs"));
+include!(concat!(env!("BESIDE"), "/damage.rs"));
+include!(concat!(env!("BESIDE"), "/drawn.rs"));
+include!(concat!(env!("BESIDE"), "/list_queries.rs"));
 
 const EACH: u32 = 240;
+const QUERIES: u32 = 66 * 17;
+
+// The program reads the list in blocks of so many bytes; a line that would go from one into the next begins with that one, after empty lines.
+const BLOCK: usize = 262_144;
 
 fn line(kind: u32, words: &[u32]) {
+    static BYTES: std::sync::atomic::AtomicUsize = std::sync::atomic::AtomicUsize::new(0);
     let mut s = kind.to_string();
     for w in words {
         s += " ";
         s += &w.to_string();
     }
-    println!("{s}");
+    s += "\n";
+    let at = BYTES.load(std::sync::atomic::Ordering::Relaxed);
+    let left = BLOCK - at % BLOCK;
+    if left < s.len() {
+        s = "\n".repeat(left) + &s;
+    }
+    BYTES.store(at + s.len(), std::sync::atomic::Ordering::Relaxed);
+    print!("{s}");
 }
 
 fn some_cells(r: &mut Random) -> (u32, Vec<u32>, Oracle) {
@@ -207,4 +222,5 @@ fn main() {
     for _ in 0..160 {
         building(&mut r);
     }
+    stored_queries(&mut r, QUERIES);
 }

@@ -85,63 +85,104 @@ fn row_words(r: &LabelRow) -> [u32; 8] {
     [r.kind, r.word1, r.word2, r.word3, r.word4, r.word5, r.word6, r.word7]
 }
 
+// A label to be stored in tables of any content, and the place.
+pub struct LabelCase {
+    pub stops: u32,
+    pub stop: u32,
+    pub row: u32,
+    pub kind: u32,
+    pub fields: [u32; 7],
+    pub distance: f64,
+    pub words: Vec<u32>,
+    // bits
+    pub distances: Vec<u64>,
+}
+
+impl LabelCase {
+    // the number of the first no
+    pub fn door(&self) -> u32 {
+        if self.stops > 4096 {
+            1
+        } else if self.words.len() as u64 != self.stops as u64 * 104 || self.distances.len() as u64 != self.stops as u64 * 13 {
+            2
+        } else if self.stop >= self.stops {
+            4
+        } else if self.row > 12 {
+            5
+        } else {
+            0
+        }
+    }
+
+    fn at(&self) -> usize {
+        (13 * self.stop + self.row) as usize
+    }
+
+    // does storing leave what the Rust's label is, and nothing else changed, and does reading give it back?
+    pub fn stores(&self) -> bool {
+        let (mut words, mut distances) = (self.words.clone(), self.distances.clone());
+        let (label, bits) = routing::tbr::label_words(self.kind, self.fields, self.distance);
+        let (f, d) = (self.fields, self.distance);
+        let (wp, wl, dp, dl) = (words.as_mut_ptr(), words.len(), distances.as_mut_ptr() as *mut f64, distances.len());
+        let got = unsafe {
+            match self.kind {
+                1 => savoiky_label_store_access(self.stops, self.stop, self.row, f[0], f[1], f[2], d, wp, wl, dp, dl),
+                2 => savoiky_label_store_transit(self.stops, self.stop, self.row, f[0], f[1], f[2], f[3], f[4], f[5], f[6], wp, wl, dp, dl),
+                _ => savoiky_label_store_walk(self.stops, self.stop, self.row, f[0], f[1], f[2], f[3], d, f[4], wp, wl, dp, dl),
+            }
+        };
+        if self.door() != 0 {
+            return got == self.door() && words == self.words && distances == self.distances && self.loads();
+        }
+        let (mut want_words, mut want_distances) = (self.words.clone(), self.distances.clone());
+        want_words[8 * self.at()..8 * self.at() + 8].copy_from_slice(&label);
+        want_distances[self.at()] = bits;
+        let back = unsafe { savoiky_label_load(self.stops, self.stop, self.row, wp, wl, dp as *const f64, dl) };
+        got == 0 && words == want_words && distances == want_distances && back.code == 0 && row_words(&back.row) == label && back.row.distance.to_bits() == bits
+    }
+
+    // the code of reading what is there: 5 also for a kind above 3
+    pub fn load_code(&self) -> u32 {
+        match self.door() {
+            0 if self.words[8 * self.at()] > 3 => 5,
+            n => n,
+        }
+    }
+
+    // does reading give the row that is there, its unused words and distance 0?
+    pub fn loads(&self) -> bool {
+        let (wp, dp) = (self.words.as_ptr(), self.distances.as_ptr() as *const f64);
+        let back = unsafe { savoiky_label_load(self.stops, self.stop, self.row, wp, self.words.len(), dp, self.distances.len()) };
+        let (mut words, mut bits) = ([0; 8], 0);
+        if self.load_code() == 0 {
+            let there = &self.words[8 * self.at()..8 * self.at() + 8];
+            let used = [0, 4, 8, 6][there[0] as usize];
+            words[..used].copy_from_slice(&there[..used]);
+            bits = if there[0] % 2 == 1 { self.distances[self.at()] } else { 0 };
+        }
+        back.code == self.load_code() && row_words(&back.row) == words && back.row.distance.to_bits() == bits
+    }
+}
+
 // Stores one label of random kind into tables of random content and reads it back; compares every word of both tables.
 pub fn label_agrees(r: &mut Random) -> bool {
     let stops = 1 + r.below(3);
     let n = 13 * stops as usize;
-    let mut words: Vec<u32> = (0..8 * n).map(|i| (i as u32).wrapping_mul(2_654_435_761)).collect();
-    let mut dist: Vec<u64> = (0..n).map(|_| r.distance().to_bits()).collect();
-    let mut a = [0u32; 7];
-    for x in a.iter_mut() {
-        *x = r.any();
-    }
+    let words = (0..8 * n).map(|i| (i as u32).wrapping_mul(2_654_435_761)).collect();
+    let distances = (0..n).map(|_| r.distance().to_bits()).collect();
+    let mut fields = [0u32; 7];
+    fields.iter_mut().for_each(|x| *x = r.any());
     let kind = 1 + r.below(3);
     // the round is a u16 in the Rust
-    a[if kind == 2 { 5 } else { 4 }] = if kind == 1 { 0 } else { r.below(13) };
-    let d = r.distance();
-    let (mut given_stops, mut stop, mut row) = (stops, r.below(stops), r.below(13));
+    fields[if kind == 2 { 5 } else { 4 }] = if kind == 1 { 0 } else { r.below(13) };
+    let mut c = LabelCase { stops, stop: r.below(stops), row: r.below(13), kind, fields, distance: r.distance(), words, distances };
     match r.below(20) {
-        0 => given_stops = r.any(),
-        1 => stop = r.any(),
-        2 => row = r.any(),
-        3 => {
-            words.pop();
-        }
-        4 => dist.push(1),
+        0 => c.stops = r.any(),
+        1 => c.stop = r.any(),
+        2 => c.row = r.any(),
+        3 => drop(c.words.pop()),
+        4 => c.distances.push(1),
         _ => {}
     }
-    let code = if given_stops > 4096 {
-        1
-    } else if words.len() as u64 != given_stops as u64 * 104 || dist.len() as u64 != given_stops as u64 * 13 {
-        2
-    } else if stop >= given_stops {
-        4
-    } else if row > 12 {
-        5
-    } else {
-        0
-    };
-    let (mut want_words, mut want_dist) = (words.clone(), dist.clone());
-    let (label, bits) = routing::tbr::label_words(kind, a, d);
-    if code == 0 {
-        let at = (13 * stop + row) as usize;
-        want_words[8 * at..8 * at + 8].copy_from_slice(&label);
-        want_dist[at] = bits;
-    }
-    let (wp, wl, dp, dl) = (words.as_mut_ptr(), words.len(), dist.as_mut_ptr() as *mut f64, dist.len());
-    let got = unsafe {
-        match kind {
-            1 => savoiky_label_store_access(given_stops, stop, row, a[0], a[1], a[2], d, wp, wl, dp, dl),
-            2 => savoiky_label_store_transit(given_stops, stop, row, a[0], a[1], a[2], a[3], a[4], a[5], a[6], wp, wl, dp, dl),
-            _ => savoiky_label_store_walk(given_stops, stop, row, a[0], a[1], a[2], a[3], d, a[4], wp, wl, dp, dl),
-        }
-    };
-    if got != code || words != want_words || dist != want_dist {
-        return false;
-    }
-    let back = unsafe { savoiky_label_load(given_stops, stop, row, wp, wl, dp as *const f64, dl) };
-    if code != 0 {
-        return back.code == code && row_words(&back.row) == [0; 8] && back.row.distance.to_bits() == 0;
-    }
-    back.code == 0 && row_words(&back.row) == label && back.row.distance.to_bits() == bits
+    c.stores()
 }

@@ -42,24 +42,37 @@ fn reached(labels: &[(usize, [u32; 8], f64)], stop: u32) -> Option<u32> {
     labels.iter().filter(|l| l.0 as u32 / 13 == stop).map(|l| if l.1[0] == 1 { l.1[2] } else { l.1[1] }).min()
 }
 
-// of a search that the door admits
-fn searched(call: Call, c: &Case, a: &Areas) -> Outcome {
-    let off = switch(call, c);
-    let (g, _, queue) = run(c, off);
+// of a search that the door admits, out of what the reference gave with the switch so
+fn left(c: &Case, off: bool, (g, _, queue): &Ran, a: &Areas) -> Outcome {
     let mut areas = a.clone();
     let flagged = flags_on(c) && !off;
     if queue.iter().any(|n| *n > a.queue_a.len() / 4) {
         clear(&mut areas);
         return Outcome { reply: reply(8, 0, 0, 0), areas, flagged };
     }
-    let (reply, areas) = answered(&g, areas);
+    let (reply, areas) = answered(g, areas);
     Outcome { reply, areas, flagged }
+}
+
+// the same answer, scans and queue lengths, the distances bit for bit?
+fn same_ran((a, scans, queue): &Ran, (b, other_scans, other_queue): &Ran) -> bool {
+    let bits = |g: &Given| -> Vec<(usize, [u32; 8], u64)> { g.labels.iter().map(|l| (l.0, l.1, l.2.to_bits())).collect() };
+    a.best == b.best && a.candidates == b.candidates && scans == other_scans && queue == other_queue && bits(a) == bits(b)
+}
+
+fn refusal(code: u32, a: &Areas) -> Outcome {
+    Outcome { reply: reply(code, 0, 0, 0), areas: a.clone(), flagged: false }
+}
+
+fn searched(call: Call, c: &Case, a: &Areas) -> Outcome {
+    let off = switch(call, c);
+    left(c, off, &run(c, off), a)
 }
 
 fn outcome(call: Call, x: &Lent, a: &Areas) -> Outcome {
     match x.door(a) {
         0 => searched(call, &x.read(), a),
-        code => Outcome { reply: reply(code, 0, 0, 0), areas: a.clone(), flagged: false },
+        code => refusal(code, a),
     }
 }
 

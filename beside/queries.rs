@@ -1,13 +1,18 @@
-// queries [COUNT]: `run_tbr` and `query` beside the Rust: random searches of all kinds, small and large, a third of them damaged; queue halves with
-// just enough room and too little; 0, 1, limit and limit + 1 of every count; hostile words; and on plain days against all journeys. Every
-// word of every area is compared, after a refusal too. It prints only how many were compared, by the code expected, and how many differed;
-// status 1 where any did, or where a code was never met.
+// queries [COUNT [SEED [JOBS]]]: `run_tbr` and `query` beside the Rust: COUNT random searches of all kinds, small and large, a third of them damaged;
+// queue halves with just enough room and too little; 0, 1, limit and limit + 1 of every count; for every ten of them a search of hostile words, and
+// four plain days, there against all journeys and ways. JOBS threads share them, each with a seed of its own. Every word of every area is
+// compared, after a refusal too; one instance is one call with all that it could have written. It prints how many were compared, by
+// the code expected, what was met in the answered ones (met.rs), and how many differed; status 1 where any did, or where a code or a
+// thing was never met.
 #![allow(dead_code, unused)]
 include!(concat!(env!("BESIDE"), "/query_parts.rs"));
 include!(concat!(env!("BESIDE"), "/damage.rs"));
+include!(concat!(env!("BESIDE"), "/drawn.rs"));
+include!(concat!(env!("BESIDE"), "/met.rs"));
 include!(concat!(env!("BESIDE"), "/journeys.rs"));
+include!(concat!(env!("BESIDE"), "/jobs.rs"));
 
-const COUNT: u32 = 100_000;
+const COUNT: u64 = 400_000;
 
 // What was compared: how many searches, how many differed, how often each code was expected; of those answered, how many have no way, and how many
 // searched with the flags on.
@@ -30,6 +35,13 @@ impl Tally {
             self.flagged += want.flagged as u64;
         }
     }
+    fn join(&mut self, t: &Tally) {
+        self.compared += t.compared;
+        self.differed += t.differed;
+        self.codes.iter_mut().zip(t.codes).for_each(|(a, b)| *a += b);
+        self.no_way += t.no_way;
+        self.flagged += t.flagged;
+    }
     fn met_all(&self) -> bool {
         let c = &self.codes;
         c[..7].iter().all(|n| *n > 0) && c[8] > 0 && self.no_way > 0 && self.no_way < c[0] && self.flagged > 0 && self.flagged < c[0]
@@ -46,126 +58,138 @@ struct Tallies {
     calls: [Tally; 2],
     sizes: u64,
     sizes_differed: u64,
+    // calls with hostile words, among those above
+    hostile: u64,
     plain: Tally,
+    met: Met,
     // cases that are not what their maker says
     wrong: u64,
 }
 
-fn compare(t: &mut Tallies, x: &Lent, a: &Areas) {
+impl Tallies {
+    fn join(&mut self, t: &Tallies) {
+        (0..2).for_each(|k| self.calls[k].join(&t.calls[k]));
+        self.plain.join(&t.plain);
+        self.met.join(&t.met);
+        self.sizes += t.sizes;
+        self.sizes_differed += t.sizes_differed;
+        self.hostile += t.hostile;
+        self.wrong += t.wrong;
+    }
+    fn differed(&self) -> bool {
+        self.calls.iter().any(|c| c.differed > 0) || self.plain.differed > 0 || self.sizes_differed > 0 || self.wrong > 0
+    }
+    fn fine(&self) -> bool {
+        !self.differed() && self.calls.iter().all(|c| c.met_all()) && self.plain.no_way > 0 && self.met.missing().is_empty()
+    }
+    fn print(&self) {
+        self.calls[0].print("run_tbr");
+        self.calls[1].print("query");
+        println!("instances of the two calls together: {} ({} of them with hostile words)", self.calls[0].compared + self.calls[1].compared, self.hostile);
+        println!("workspace sizes: {} compared, {} differed", self.sizes, self.sizes_differed);
+        let p = &self.plain;
+        println!("query against all journeys and ways, plain days: {} compared ({} no way, {} with flags on), {} differed", p.compared, p.no_way, p.flagged, p.differed);
+        self.met.print();
+        if self.wrong > 0 {
+            println!("{} cases are not what they should be", self.wrong);
+        }
+    }
+}
+
+// The search that a case was lent as, put to both calls; where it was not damaged, the case and the reference's answer to it: what is lent says the case,
+// if the reference answers alike to what is read back.
+fn compare(t: &mut Tallies, x: &Lent, a: &Areas, given: Option<&Ran>) {
+    let wants = match x.door(a) {
+        0 => {
+            let c = x.read();
+            let ran = run(&c, c.off);
+            t.wrong += given.is_some_and(|g| !same_ran(g, &ran)) as u64;
+            let one = left(&c, c.off, &ran, a);
+            let off = switch(Call::Query, &c);
+            let two = if off == c.off { None } else { Some(left(&c, off, &run(&c, off), a)) };
+            t.met.add(&c, x, a, &ran, &one, two.is_some(), given.is_none());
+            (one, two)
+        }
+        code => {
+            t.wrong += given.is_some() as u64;
+            (refusal(code, a), None)
+        }
+    };
     for (k, call) in [Call::RunTbr, Call::Query].into_iter().enumerate() {
-        let want = outcome(call, x, a);
+        let want = if k == 1 { wants.1.as_ref().unwrap_or(&wants.0) } else { &wants.0 };
         let mut got = a.clone();
         let reply = ask_ours(call, x, &mut got);
-        t.calls[k].add(&want, reply == want.reply && got == want.areas);
+        t.calls[k].add(want, reply == want.reply && got == want.areas);
     }
     t.sizes += 1;
     t.sizes_differed += (unsafe { savoiky_work_size(x.sizes) } != work_outcome(&x.sizes)) as u64;
 }
 
-// words in each queue half: enough, just enough or, where segments are queued, too few
-fn half_for(r: &mut Random, c: &Case) -> usize {
-    if !flags_on(c) {
-        return r.below(9) as usize;
-    }
-    let call = if r.yes(50) { Call::RunTbr } else { Call::Query };
-    let most = run(c, switch(call, c)).2.into_iter().max().unwrap_or(0);
-    match r.below(6) {
-        0 if most > 0 => 4 * most - 1 - r.below(4) as usize,
-        1 => 4 * most + r.below(4) as usize,
-        2 => r.below(4 * most as u32 + 1) as usize,
-        _ => 4 * most + r.below(60) as usize,
-    }
-}
+// so many searches on tables drawn once
+const QUERIES: u64 = 4;
 
-// distances of any bits; at times all times as late as may be
-fn spread(r: &mut Random, c: &mut Case) {
-    c.e.walk_edges.iter_mut().for_each(|w| w.distance_m = r.distance());
-    c.origins.iter_mut().for_each(|o| o.distance_m = r.distance());
-    if !r.yes(8) {
-        return;
-    }
-    let windows = c.e.trips.iter().flat_map(|t| &t.frequency_windows).map(|w| w.start_s.max(w.end_s)).max().unwrap_or(0);
-    let late = LIMIT - c.e.stop_times.iter().map(|t| t.arrival_s.max(t.departure_s)).max().unwrap_or(0).max(windows).max(c.start);
-    c.start += late;
-    c.e.stop_times.iter_mut().for_each(|t| (t.arrival_s, t.departure_s) = (t.arrival_s + late, t.departure_s + late));
-    c.e.trips.iter_mut().flat_map(|t| &mut t.frequency_windows).for_each(|w| (w.start_s, w.end_s) = (w.start_s + late, w.end_s + late));
-}
-
-// a case, most often one that is not dull
-fn lively(r: &mut Random, kind: u32, which: u32) -> Case {
-    let tries = if which == 2 || r.yes(12) { 1 } else { 40 };
-    for i in 1.. {
-        let c = match which {
-            0 => case(r, kind, &LARGE),
-            1 => ladder(r, kind),
-            2 => close(r, kind | 6),
-            _ => case(r, kind, &SMALL),
-        };
-        let (_, scans, queue) = run(&c, c.off);
-        if i == tries || !dull(&c, kind, &scans, &queue) {
-            return c;
+fn random_searches(r: &mut Random, t: &mut Tallies, kind: u32, which: u32) {
+    let (mut c, mut ran) = drawn(r, kind, which);
+    for k in 0..QUERIES {
+        if k > 0 && which == 2 {
+            (c, ran) = drawn(r, kind, which);
+        } else if k > 0 {
+            ran = drawn_again(r, &mut c);
         }
-    }
-    unreachable!()
-}
-
-// egress walks such that all egress stops have the same total, where the search stays as it was
-fn level(c: &mut Case) {
-    let labels = run(c, c.off).0.labels;
-    let total = c.egress.keys().filter_map(|s| reached(&labels, *s)).max().unwrap_or(0) + 5;
-    for (s, a) in c.egress.iter_mut() {
-        a.duration_s = total - reached(&labels, *s).unwrap_or(total);
+        random_search(r, t, &c, &ran);
     }
 }
 
-fn random_search(r: &mut Random, t: &mut Tallies, kind: u32, which: u32) {
-    let mut c = lively(r, kind, which);
-    spread(r, &mut c);
-    if r.yes(12) {
-        level(&mut c);
-    }
+fn random_search(r: &mut Random, t: &mut Tallies, c: &Case, ran: &Ran) {
     let loose = r.yes(50);
-    let mut x = lend(r, &c, loose);
-    let half = half_for(r, &c);
+    let mut x = lend(r, c, loose);
+    let half = half_for(r, flags_on(c), &ran.2);
     let mut a = areas(r, &x.sizes, half);
-    // what is lent says the case: all questions are yes, and the Rust answers alike
-    t.wrong += (x.door(&a) != 0 || searched(Call::Query, &c, &a) != searched(Call::Query, &x.read(), &a)) as u64;
-    if r.below(3) == 0 {
+    let damaged = r.below(3) == 0;
+    if damaged {
         (0..1 + r.below(2)).for_each(|_| x.damage(r));
         if r.yes(8) {
             damage_area(r, &mut a);
         }
     }
-    compare(t, &x, &a);
+    // a copy is exactly as long as it says
+    compare(t, &x.clone(), &a, if damaged { None } else { Some(ran) });
+}
+
+fn at_limits(r: &mut Random, t: &mut Tallies) {
+    for (x, code) in search_limits() {
+        // the areas of a refused search may have any length
+        let n = if x.question_1() { x.sizes } else { FEW };
+        let a = areas(r, &n, 4 * 65536);
+        t.wrong += code.is_some_and(|k| x.door(&a) != k) as u64;
+        compare(t, &x, &a, None);
+    }
+}
+
+fn job(seed: u64, count: u64) -> Tallies {
+    let (mut r, mut t) = (Random(seed), Tallies::default());
+    // FIRST=1: no further than a first difference (beside/mutants)
+    let first = std::env::var("FIRST").is_ok();
+    at_limits(&mut r, &mut t);
+    for i in 0..count / QUERIES {
+        random_searches(&mut r, &mut t, (i % 16) as u32, (i / 16 % 5) as u32);
+        if i % 5 < 2 {
+            let (x, a) = hostile(&mut r);
+            compare(&mut t, &x, &a, None);
+            t.hostile += 2;
+            plain_searches(&mut r, &mut t);
+        }
+        if first && t.differed() {
+            println!("first difference after {} searches and {} plain days", t.sizes, t.plain.compared);
+            break;
+        }
+    }
+    t
 }
 
 fn main() {
-    let count = std::env::args().nth(1).map(|n| n.parse().unwrap()).unwrap_or(COUNT);
-    let (mut r, mut t) = (Random(0x9E7A), Tallies::default());
-    for (x, code) in limits() {
-        // the areas of a refused search may have any length
-        let n = if x.question_1() { x.sizes } else { FEW };
-        let a = areas(&mut r, &n, 4 * 65536);
-        t.wrong += code.is_some_and(|k| x.door(&a) != k) as u64;
-        compare(&mut t, &x, &a);
-    }
-    for i in 0..count {
-        random_search(&mut r, &mut t, i % 16, i / 16 % 5);
-        if i % 2 == 0 {
-            let (x, a) = hostile(&mut r);
-            compare(&mut t, &x, &a);
-        }
-        if i % 4 == 0 {
-            plain_search(&mut r, &mut t);
-        }
-    }
-    t.calls[0].print("run_tbr");
-    t.calls[1].print("query");
-    println!("workspace sizes: {} compared, {} differed", t.sizes, t.sizes_differed);
-    println!("query against all journeys, plain days: {} compared ({} no way), {} differed", t.plain.compared, t.plain.no_way, t.plain.differed);
-    if t.wrong > 0 {
-        println!("{} cases are not what they should be", t.wrong);
-    }
-    let fine = t.calls.iter().all(|c| c.differed == 0 && c.met_all()) && t.plain.differed == 0 && t.plain.no_way > 0 && t.sizes_differed == 0 && t.wrong == 0;
-    std::process::exit(!fine as i32);
+    let mut t = Tallies::default();
+    in_jobs(COUNT, 0x9E7A, job).iter().for_each(|other| t.join(other));
+    t.print();
+    std::process::exit(!t.fine() as i32);
 }

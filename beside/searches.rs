@@ -35,6 +35,11 @@ struct Case {
     origins: Vec<AccessStop>,
     egress: BTreeMap<u32, AccessStop>,
     off: bool,
+    // what it was drawn by, for another query on the same tables: kind, size, shapes, how much later than drawn all times are
+    kind: u32,
+    size: &'static Size,
+    shapes: Vec<(Vec<u32>, u32)>,
+    later: u32,
 }
 
 const MODES: [RouteMode; 7] = [RouteMode::Tram, RouteMode::Metro, RouteMode::Rail, RouteMode::Bus, RouteMode::Ferry, RouteMode::Coach, RouteMode::Other];
@@ -69,7 +74,8 @@ const LADDER: Size = Size { stops: 0, shapes: 0, trips: 0, chained: 0, far: 90, 
 fn shapes(r: &mut Random, ns: u32, size: &Size) -> Vec<(Vec<u32>, u32)> {
     let mut out: Vec<(Vec<u32>, u32)> = vec![];
     for _ in 0..1 + r.below(size.shapes + 1) {
-        let mut shape: Vec<u32> = (0..2 + r.below(4)).map(|_| r.below(ns)).collect();
+        let stops = if r.yes(3) { 1 } else { 2 + r.below(4) };
+        let mut shape: Vec<u32> = (0..stops).map(|_| r.below(ns)).collect();
         let mut later = 0;
         if r.yes(size.chained) {
             if let Some((before, late)) = out.last() {
@@ -133,7 +139,8 @@ fn enter(r: &mut Random, e: &mut StaticEpoch, listed: &mut [Vec<(u32, u32)>], wi
     if windows && r.yes(40) {
         for _ in 0..1 + r.below(2) {
             let s = 60 * r.below(10);
-            w.push(FrequencyWindow { start_s: s, end_s: s + 50 * r.below(10), headway_s: 20 * r.below(6) });
+            let back = if r.yes(5) { 120 } else { 0 };
+            w.push(FrequencyWindow { start_s: s, end_s: (s + 50 * r.below(10)).saturating_sub(back), headway_s: 20 * r.below(6) });
         }
     }
     let (wheelchair, mode) = (if r.yes(80) { 0 } else { r.below(3) as u8 }, MODES[r.below(7) as usize]);
@@ -165,13 +172,18 @@ fn rides_of(r: &mut Random, e: &mut StaticEpoch, windows: bool, rides: &[(u32, u
     listed
 }
 
+// a multiple of a step, now and then the greatest
+fn duration(r: &mut Random, step: u32, steps: u32) -> u32 {
+    if r.below(300) == 0 { LIMIT } else { step * r.below(steps) }
+}
+
 fn walks(r: &mut Random, e: &mut StaticEpoch, size: &Size) {
     let ns = e.stops.len() as u32;
     e.walk_adj = vec![vec![]; ns as usize];
     for from in 0..ns {
         for _ in 0..if r.yes(size.walks) { r.below(3) } else { 0 } {
             e.walk_adj[from as usize].push(e.walk_edges.len());
-            let (to_stop_idx, duration_s, distance_m) = (r.below(ns), 10 * r.below(8), (2 * r.below(3) + 1) as f64);
+            let (to_stop_idx, duration_s, distance_m) = (r.below(ns), duration(r, 10, 8), (2 * r.below(3) + 1) as f64);
             let pathway_mode = if r.yes(30) { None } else { Some(1 + r.below(7) as u8) };
             e.walk_edges.push(WalkEdge { from_stop_idx: from, to_stop_idx, duration_s, distance_m, pathway_mode });
         }
@@ -180,9 +192,9 @@ fn walks(r: &mut Random, e: &mut StaticEpoch, size: &Size) {
 
 // cells, and patterns that hold some, all or none of them; numbers past the tables
 fn flags(r: &mut Random, e: &mut StaticEpoch, on: bool) -> Vec<Cells> {
-    e.num_cells = [1, 3, 3, 64, 65, 130, 0][r.below(if on { 6 } else { 7 }) as usize];
-    let cells = [0, 1, 2, 63, 64, 127, 128, 129];
-    let near = if e.num_cells < 64 { 3 } else { 8 };
+    e.num_cells = [1, 3, 3, 64, 65, 130, 512, 0][r.below(if on { 7 } else { 8 }) as usize];
+    let cells = [0, 1, 2, 63, 64, 127, 128, 129, 511, 512];
+    let near = if e.num_cells < 64 { 3 } else { 10 };
     for _ in 0..e.stops.len() {
         e.stop_partition.push(if r.yes(5) { 1000 } else { cells[r.below(near) as usize] });
     }
@@ -281,7 +293,8 @@ fn by_hand(r: &mut Random, e: &mut StaticEpoch) {
 // delay rows by trip, stop rows by row and sequence, some skipped, and one of an unknown trip, at times past the margin's cap
 fn late(r: &mut Random, c: &mut Case) {
     // at times all delays are longer than the cap, and the query is as much later; at times most trips run early
-    let far = if r.yes(12) { 22000 } else if r.yes(20) { -250 } else { 0 };
+    let most = LIMIT as i32 - 400;
+    let far = if r.yes(12) { 22000 } else if r.yes(20) { -250 } else if r.yes(3) { [most, -most][r.below(2) as usize] } else { 0 };
     c.start += if far > 0 { 21800 } else { 0 };
     for t in 0..c.e.trips.len() as u32 {
         if !r.yes(if far != 0 { 85 } else { 45 }) {
@@ -307,18 +320,35 @@ fn late(r: &mut Random, c: &mut Case) {
         c.delays.push((t, adj.trip_delay_s));
         c.q.rt_adjust.insert(format!("t{t}"), adj);
     }
-    if r.yes(25) {
+    unknown(r, c);
+}
+
+// at times one or two unknown trips, with a stop row each
+fn unknown(r: &mut Random, c: &mut Case) {
+    for i in 0..if r.yes(25) { 1 + r.below(2) } else { 0 } {
         let delay = if r.yes(30) { 30000 - 60000 * r.below(2) as i32 } else { r.below(900) as i32 - 450 };
-        c.q.rt_adjust.insert("unknown".into(), RtTripAdjust { trip_delay_s: delay, ..Default::default() });
+        let mut adj = RtTripAdjust { trip_delay_s: delay, ..Default::default() };
+        if r.yes(30) {
+            let own = r.below(2000) as i32 - 1000;
+            adj.arr_delay.insert(i, own);
+            c.stop_rows.push([c.delays.len() as u32, i, 2, 0, own as u32]);
+        }
+        c.q.rt_adjust.insert(format!("unknown{i}"), adj);
         c.delays.push((u32::MAX, delay));
     }
+}
+
+// one of three in so many of a hundred; else a few, at times more
+fn few(r: &mut Random, percent: u32, far: [u32; 3], least: u32, most: u32) -> u32 {
+    let more = r.yes(20);
+    if r.yes(percent) { far[r.below(3) as usize] } else { r.below(if more { most } else { least }) }
 }
 
 // modes, rounds, wheelchair, change time, excluded trips
 fn settings(r: &mut Random, e: &StaticEpoch, size: &Size) -> (ItineraryQuery, u32) {
     let mut q = ItineraryQuery {
-        raptor_max_rounds: if r.yes(size.long) { 20 } else { r.below(7) }, max_transfers: if r.yes(5) { u32::MAX } else { r.below(4) }, wheelchair: r.yes(30),
-        default_transfer_s: [0, 30, 120, 121][r.below(4) as usize], ..Default::default()
+        raptor_max_rounds: few(r, size.long, [20, 12, u32::MAX], 7, 14), max_transfers: few(r, 5, [u32::MAX, u32::MAX - 1, 40], 4, 12), wheelchair: r.yes(30),
+        default_transfer_s: if r.yes(90) { [0, 30, 120, 121][r.below(4) as usize] } else { duration(r, 1, 400) }, ..Default::default()
     };
     let modes = if r.yes(size.choosy) { r.below(127) + 1 } else { 0 };
     if modes > 0 {
@@ -334,7 +364,7 @@ fn settings(r: &mut Random, e: &StaticEpoch, size: &Size) -> (ItineraryQuery, u3
 
 // origins, some at one stop, and egress stops; now and then none
 fn ends(r: &mut Random, ns: u32) -> (Vec<AccessStop>, BTreeMap<u32, AccessStop>) {
-    let mut origins: Vec<AccessStop> = (0..1 + r.below(3)).map(|_| access(r.below(ns), 10 * r.below(6), r.below(4) as f64)).collect();
+    let mut origins: Vec<AccessStop> = (0..1 + r.below(3)).map(|_| access(r.below(ns), duration(r, 10, 6), r.below(4) as f64)).collect();
     if r.yes(25) {
         let again = origins[0].stop_idx;
         origins.push(access(again, 10 * r.below(6), r.below(4) as f64));
@@ -342,7 +372,7 @@ fn ends(r: &mut Random, ns: u32) -> (Vec<AccessStop>, BTreeMap<u32, AccessStop>)
     let mut egress = BTreeMap::new();
     for _ in 0..1 + r.below(3) {
         let s = r.below(ns);
-        egress.insert(s, access(s, 7 * r.below(5), 0.0));
+        egress.insert(s, access(s, duration(r, 7, 5), 0.0));
     }
     // a long walk to an egress stop: a candidate of row 0, at times later than the best by more than the slack
     if r.yes(15) {
@@ -377,13 +407,13 @@ fn build_all(e: &mut StaticEpoch) {
     build_transfers(e);
 }
 
-fn case(r: &mut Random, kind: u32, size: &Size) -> Case {
+fn case(r: &mut Random, kind: u32, size: &'static Size) -> Case {
     let mut e = StaticEpoch::default();
     e.stops = (0..3 + r.below(size.stops + 1)).collect();
     let ns = e.stops.len() as u32;
     let shapes = shapes(r, ns, size);
     let listed = trips(r, &mut e, kind & 1 != 0, size, &shapes);
-    asked_of(r, e, listed, &shapes, kind, size)
+    asked_of(r, e, listed, shapes, kind, size)
 }
 
 fn ladder(r: &mut Random, kind: u32) -> Case {
@@ -392,7 +422,7 @@ fn ladder(r: &mut Random, kind: u32) -> Case {
     let m = e.stops.len() as u32 - 1;
     let rides = rungs(r, m);
     let listed = rides_of(r, &mut e, kind & 1 != 0, &rides);
-    asked_of(r, e, listed, &[(vec![0, m], 0)], kind, &LADDER)
+    asked_of(r, e, listed, vec![(vec![0, m], 0)], kind, &LADDER)
 }
 
 // one ride, then a line of close departures, and a walk to the end that is about as fast: delays decide
@@ -402,15 +432,32 @@ fn close(r: &mut Random, kind: u32) -> Case {
     let mut rides = vec![(0, 1, 100, 200)];
     rides.extend((0..2 + r.below(5)).map(|k| (1, 2, 320 + 40 * k, 400 + 40 * k)));
     let listed = rides_of(r, &mut e, kind & 1 != 0, &rides);
-    let mut c = asked_of(r, e, listed, &[(vec![0, 2], 0)], kind, &LADDER);
+    let mut c = asked_of(r, e, listed, vec![(vec![0, 2], 0)], kind, &LADDER);
     c.origins.push(access(2, 250 + r.below(400), 3.0));
     c.egress.values_mut().for_each(|a| a.duration_s = r.below(30));
+    if r.yes(15) {
+        early(&mut c);
+    }
     c
 }
 
+// all trips but the first leave later by more than the margin's cap, and those with a delay row run as much early
+fn early(c: &mut Case) {
+    const BY: u32 = 22000;
+    c.e.stop_times.iter_mut().skip(2).for_each(|s| (s.arrival_s, s.departure_s) = (s.arrival_s + BY, s.departure_s + BY));
+    for (row, (t, delay)) in c.delays.iter_mut().enumerate().filter(|(_, d)| d.0 > 0 && d.0 != u32::MAX) {
+        *delay -= BY as i32;
+        let adj = c.q.rt_adjust.get_mut(&format!("t{t}")).unwrap();
+        adj.trip_delay_s -= BY as i32;
+        adj.dep_delay.values_mut().chain(adj.arr_delay.values_mut()).for_each(|d| *d -= BY as i32);
+        for s in c.stop_rows.iter_mut().filter(|s| s[0] as usize == row) {
+            (s[3], s[4]) = (s[3].wrapping_sub(BY), s[4].wrapping_sub(BY));
+        }
+    }
+}
+
 // walks, flags and a query on these trips
-fn asked_of(r: &mut Random, mut e: StaticEpoch, listed: Vec<Vec<(u32, u32)>>, shapes: &[(Vec<u32>, u32)], kind: u32, size: &Size) -> Case {
-    let ns = e.stops.len() as u32;
+fn asked_of(r: &mut Random, mut e: StaticEpoch, listed: Vec<Vec<(u32, u32)>>, shapes: Vec<(Vec<u32>, u32)>, kind: u32, size: &'static Size) -> Case {
     e.stop_departures = listed.clone();
     build_all(&mut e);
     walks(r, &mut e, size);
@@ -418,22 +465,38 @@ fn asked_of(r: &mut Random, mut e: StaticEpoch, listed: Vec<Vec<(u32, u32)>>, sh
     if kind & 8 != 0 {
         by_hand(r, &mut e);
     }
-    let (q, modes) = settings(r, &e, size);
-    let (mut origins, mut egress) = ends(r, ns);
-    let mut start = 30 * r.below(16);
-    if r.yes(size.far) {
-        (origins, egress, start) = far(r, shapes);
-    }
-    let off = r.yes(15);
-    let mut c = Case { e, listed, patterns, q, modes, delays: vec![], stop_rows: vec![], start, origins, egress, off };
-    if kind & 2 != 0 {
-        late(r, &mut c);
-    }
+    let mut c = Case { listed, patterns, kind, size, shapes, ..unasked(e) };
+    ask_anew(r, &mut c);
     c
 }
 
+// these tables with a query that says nothing
+fn unasked(e: StaticEpoch) -> Case {
+    Case {
+        e, listed: vec![], patterns: vec![], q: ItineraryQuery::default(), modes: 0, delays: vec![], stop_rows: vec![], start: 0, origins: vec![],
+        egress: BTreeMap::new(), off: false, kind: 0, size: &SMALL, shapes: vec![], later: 0,
+    }
+}
+
+// another query, with other delays, on the same tables
+fn ask_anew(r: &mut Random, c: &mut Case) {
+    (c.q, c.modes) = settings(r, &c.e, c.size);
+    (c.origins, c.egress) = ends(r, c.e.stops.len() as u32);
+    c.start = 30 * r.below(16);
+    if r.yes(c.size.far) {
+        (c.origins, c.egress, c.start) = far(r, &c.shapes);
+    }
+    c.off = r.yes(15);
+    (c.delays, c.stop_rows) = (vec![], vec![]);
+    if c.kind & 2 != 0 {
+        late(r, c);
+    }
+    c.start = (c.start + c.later).min(LIMIT);
+}
+
 // the reference's answer; then its scans and queue lengths, last first
-fn run(c: &Case, off: bool) -> (Given, Vec<(u32, u32, u32)>, Vec<usize>) {
+type Ran = (Given, Vec<(u32, u32, u32)>, Vec<usize>);
+fn run(c: &Case, off: bool) -> Ran {
     SCANS.with(|s| s.borrow_mut().clear());
     QUEUED.with(|q| q.borrow_mut().clear());
     let egress = c.egress.iter().map(|(s, a)| (*s, a.clone())).collect();

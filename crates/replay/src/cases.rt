@@ -1,6 +1,7 @@
 // The cases: is each answer the one on the line?
 ghost use Prim.Native.Nat.{_<_};
 use crate::building;
+use crate::queries;
 use cell_bitset::CellBitSet;
 use door::Answer;
 
@@ -12,12 +13,12 @@ pub fn at(w: &[u32], i: usize) -> u32 {
     0
 }
 
-// Word i as a number of words; a line has fewer than 512.
-fn length_at(w: &[u32], i: usize) -> usize
-    ensures { λ r. ⌜ r < 512 ⌝ }
+// Word i as a number of words; a line has fewer than 1,024.
+pub fn length_at(w: &[u32], i: usize) -> usize
+    ensures { λ r. ⌜ r < 1024 ⌝ }
 {
     let n = at(w, i);
-    (n % 512) as usize
+    (n % 1024) as usize
 }
 
 pub fn both(a: bool, b: bool) -> bool {
@@ -34,7 +35,7 @@ fn is_one(b: bool, word: u32) -> bool {
 
 // The set with the n cells from word `from` on.
 fn with_cells(set: CellBitSet, w: &[u32], from: usize, n: usize) -> CellBitSet
-    requires { ⌜ (from < 4096) × (n < 512) ⌝ }
+    requires { ⌜ (from < 4096) × (n < 1024) ⌝ }
 {
     let mut s = set;
     let mut i: usize = 0;
@@ -285,6 +286,9 @@ pub fn right(w: &[u32]) -> bool {
     }
     if kind == 11 {
         return building::built(w);
+    }
+    if kind == 12 {
+        return queries::searched(w);
     }
     numbers(kind, w)
 }

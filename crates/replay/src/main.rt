@@ -6,6 +6,7 @@
 mod building;
 mod cases;
 mod lines;
+mod queries;
 
 use libc::STDIN_FILENO;
 use libc::STDOUT_FILENO;
@@ -45,11 +46,8 @@ fn one_line(words: &[u32], count: usize, t: Tally) -> Tally {
     counted(t, cases::right(&words[..count]))
 }
 
-fn all_lines(text: &[u8], words: &mut [u32]) -> Tally {
-    let mut t = Tally {
-        replayed: 0,
-        differed: 0,
-    };
+fn all_lines(text: &[u8], words: &mut [u32], before: Tally) -> Tally {
+    let mut t = before;
     let mut at: usize = 0;
     while at < text.len() {
         let line = lines::read_line(text, at, words);
@@ -59,11 +57,25 @@ fn all_lines(text: &[u8], words: &mut [u32]) -> Tally {
     t
 }
 
+// The list is at most eight blocks as long as this space, and no line of it goes from one block into the next.
+fn all_blocks(space: &mut [u8], words: &mut [u32]) -> Tally {
+    let mut t = Tally {
+        replayed: 0,
+        differed: 0,
+    };
+    let mut block: u32 = 0;
+    while block < 8 {
+        let n = io::read_full(STDIN_FILENO, space);
+        t = all_lines(&space[..n], words, t);
+        block += 1;
+    }
+    t
+}
+
 fn main() {
-    let mut space = [0u8; 524288];
-    let mut words = [0u32; 512];
-    let n = io::read_full(STDIN_FILENO, &mut space);
-    let t = all_lines(&space[..n], &mut words);
+    let mut space = [0u8; 262144];
+    let mut words = [0u32; 1024];
+    let t = all_blocks(&mut space, &mut words);
     io::print_decimal(STDOUT_FILENO, t.replayed);
     io::write_all(STDOUT_FILENO, b" replayed, ");
     io::print_decimal(STDOUT_FILENO, t.differed);

@@ -1,0 +1,66 @@
+use borrow.Author.Needs.{needs}
+use lib.Seq.{length-take-le}
+use mathlib.Core.Path.{sym}
+use Rattle.replay.proofs.queries.both_calls.Statement.{statement}
+use Rattle.replay.proofs.queries.both_calls.Tie as tie
+
+slice-aggregate-put-bytes : tie.Need-slice-aggregate-put-bytes
+slice-aggregate-put-bytes c = search needs
+
+put-bytes-requires : tie.Need-put-bytes-requires
+put-bytes-requires c κs = search needs
+
+slice-aggregate-put-distances : tie.Need-slice-aggregate-put-distances
+slice-aggregate-put-distances c = search needs
+
+put-distances-requires : tie.Need-put-distances-requires
+put-distances-requires c κs = search needs
+
+part-at-requires : tie.Need-part-at-requires
+part-at-requires c κs = search needs
+
+part-at-requires-2 : tie.Need-part-at-requires-2
+part-at-requires-2 c κs = search needs
+
+array-share-prefix-patterns : tie.Need-array-share-prefix-patterns
+array-share-prefix-patterns c = search needs
+
+slice-aggregate-p : tie.Need-slice-aggregate-p
+slice-aggregate-p c = sym (length-take-le _ _ (search needs))
+
+array-share-prefix-distances : tie.Need-array-share-prefix-distances
+array-share-prefix-distances c = search needs
+
+slice-aggregate-d : tie.Need-slice-aggregate-d
+slice-aggregate-d c = sym (length-take-le _ _ (search needs))
+
+one-call-requires : tie.Need-one-call-requires
+one-call-requires c κs = search needs
+
+one-call-requires-2 : tie.Need-one-call-requires-2
+one-call-requires-2 c κs = search needs
+
+both-requires : tie.Need-both-requires
+both-requires c κs = search needs
+
+returns : tie.Need-returns
+returns c = search needs
+
+pub both-calls-spec : {M : Type 1} → statement M
+both-calls-spec =
+    tie.close
+    (tie.spec
+    slice-aggregate-put-bytes
+    put-bytes-requires
+    slice-aggregate-put-distances
+    put-distances-requires
+    part-at-requires
+    part-at-requires-2
+    array-share-prefix-patterns
+    slice-aggregate-p
+    array-share-prefix-distances
+    slice-aggregate-d
+    one-call-requires
+    one-call-requires-2
+    both-requires
+    returns)
