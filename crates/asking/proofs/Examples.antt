@@ -9,7 +9,7 @@ use Rattle.tables.specs.Tables.{timeOf, tripOf, windowOf, edgeOf}
 use Rattle.tables.specs.Door.{countsOk, slicesOk, tripRuns, stopTimeNumbers, edgeNumbers, stopTimeRanges, tripRanges, windowRanges, edgeRanges, edgeRises, runsOk, numbersOk, rangesOk, orderOk}
 use Rattle.departures.specs.Listed.{runIn, stopRunsOk, rowNumbers, rowsOk, rowAtStop, stopRowsOk, atStopsOk, listedOk}
 use Rattle.line_layout.specs.Listed.{runIn as lineRunIn, lineRunsOk, entriesOk}
-use Rattle.transfers.specs.Transfers.{eventsBefore}
+use Rattle.line_transfers.specs.Transfers.{eventsBefore}
 use Rattle.asking.specs.declared.QueryCounts.{QueryCounts}
 use Rattle.asking.specs.declared.Lengths.{Lengths}
 use Rattle.asking.specs.Lent.{Lent}

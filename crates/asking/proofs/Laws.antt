@@ -16,7 +16,7 @@ use Rattle.departures.specs.Departures.{rowAt, rowDeparture, runFirst, runLengt
 use Rattle.departures.specs.Listed.{RowKnown}
 use Rattle.departures.proofs.Parts.{part-row, stop-known}
 use Rattle.line_layout.specs.Layout.{runAt}
-use Rattle.transfers.specs.Transfers.{Transfer, eventsBefore, transferAt, transfersAt}
+use Rattle.line_transfers.specs.Transfers.{Transfer, eventsBefore, transferAt, transfersAt}
 use Rattle.model.specs.Tables.{Tables, Origin, Query, departure}
 use Rattle.model.specs.Door.{InOrder, Rising, Door}
 use Rattle.asking.specs.declared.Lengths.{Lengths}

@@ -22,8 +22,8 @@ use Rattle.departures.specs.Listed.{runIn, stopRunsOk, listedOk}
 use Rattle.departures.proofs.Yes.{runs-listed, rows-listed}
 use Rattle.line_layout.specs.Listed.{lineRunsOk, entriesOk, LinesListed}
 use Rattle.line_layout.proofs.Yes.{lines-listed}
-use Rattle.label.specs.Table.{lengthsRight}
-use Rattle.delays.specs.Door.{delayNumbers, delayRanges, delayOrder}
+use Rattle.label_table.specs.Table.{lengthsRight}
+use Rattle.delay_tables.specs.Door.{delayNumbers, delayRanges, delayOrder}
 use Rattle.delays.specs.Sane.{Delays}
 use Rattle.delays.proofs.Door.{delays-yes}
 use Rattle.asking.specs.declared.QueryCounts.{QueryCounts}

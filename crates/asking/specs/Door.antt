@@ -13,8 +13,8 @@ use Rattle.tables.specs.Door.{countsOk, slicesOk, runsOk, numbersOk, rangesOk, 
 use Rattle.departures.specs.Departures.{rowAt, rowDeparture, runLength, departuresOf}
 use Rattle.departures.specs.Listed.{runIn, stopRunsOk, listedOk}
 use Rattle.line_layout.specs.Listed.{lineRunsOk, entriesOk}
-use Rattle.label.specs.Table.{lengthsRight}
-use Rattle.delays.specs.Door.{delayNumbers, delayRanges, delayOrder}
+use Rattle.label_table.specs.Table.{lengthsRight}
+use Rattle.delay_tables.specs.Door.{delayNumbers, delayRanges, delayOrder}
 use Rattle.asking.specs.declared.QueryCounts.{QueryCounts}
 use Rattle.asking.specs.declared.Lengths.{Lengths}
 use Rattle.asking.specs.Lent.{marksAt, transferRunsAt, eventsOf, builtSize, originsAt, egressAt, querySize, lineRuns, lineEntries, stopRuns, departureRows, delaysOf, transferRunAt, transferRows, Lent}

@@ -18,7 +18,7 @@ ghost use Rattle.asking.specs.Lent.{marksAt, transferRunsAt, builtSize, 
 ghost use Rattle.asking.specs.Door.{question1, workspaceAnswer, readOk, workSize, columnAt, writtenOk, question2, transferRunsOk, question3, columnBelow, lineNumbers, queryNumbers, question4, markRanges, transferRanges, settingRanges, walkRanges, question5, partOrder, departureOrder, columnRises, question6, verdict};
 ghost use Rattle.asking.specs.Sane.{Limits, Sized, Placed, Column};
 ghost use Rattle.asking.specs.Once.{Leaving, RunRight, InTurn, queryOk, tablesOk, Passed};
-ghost use Rattle.delays.specs.Asked.{rowsAsked};
+ghost use Rattle.delay_tables.specs.Asked.{rowsAsked};
 use departures::DepartureRow;
 use door::Answer;
 use door::both;
@@ -330,7 +330,7 @@ fn delays_ok(question: u32, q: &[u32], n: QueryCounts) -> bool
     requires { ⌜ Limits n ⌝ ∗ ⌜ querySize n ≤ length (now q) ⌝ }
     ensures { λ r. ⌜ r ≡ rowsAsked question (n .timetable .trips) (delaysOf (now (q .entry)) n) ⌝ }
 {
-    delays::rows_asked(
+    delay_tables::rows_asked(
         question,
         n.timetable.trips as u32,
         delay_rows(q, n),

@@ -13,8 +13,8 @@ use Rattle.scratch.specs.declared.Head.{Head}
 use Rattle.scratch.specs.Places.{Sized, turned}
 use Rattle.scratch.specs.View.{memory, arrivalsOf, queueOf}
 use Rattle.scratch.specs.Step.{Starting}
-use Rattle.scratch.specs.Fill.{Fresh, newHead}
-use Rattle.scratch.proofs.Turns.{below-view, turned-view, turned-sized}
+use Rattle.reset.specs.Fill.{Fresh, newHead}
+use Rattle.reset.proofs.Turns.{below-view, turned-view, turned-sized}
 use Rattle.boardings.proofs.Rounds.{chains-zero, books-zero}
 use Rattle.asking.specs.declared.QueryCounts.{QueryCounts}
 use Rattle.asking.specs.declared.Lengths.{Lengths}

@@ -10,24 +10,24 @@ use Rattle.loops.specs.Count.{one}
 use Rattle.tables.specs.Timetable.{timetable}
 use Rattle.tables.specs.Tables.{countOf}
 use Rattle.line_layout.specs.Layout.{positionIn, lineAt, runAt as lineRunAt, fifoOf, fifoLine}
-use Rattle.transfers.specs.Transfers.{eventsBefore, transfersAt}
+use Rattle.line_transfers.specs.Transfers.{eventsBefore, transfersAt}
 use Rattle.model.specs.Tables.{fifo}
 use Rattle.scratch.specs.declared.Lay.{Lay}
 use Rattle.scratch.specs.Places.{Walks, Same, EgressTable, restAt, workSize, turned}
-use Rattle.scratch.specs.Fill.{EgressRows, Egressed, egressOf}
+use Rattle.reset.specs.Fill.{EgressRows, Egressed, egressOf}
 use Rattle.scratch.proofs.Part.{drop-at}
 use Rattle.boarding.specs.declared.Lined.{Lined}
 use Rattle.boarding.specs.Reads.{Ground}
 use Rattle.boarding.specs.Resolving.{linedOf, LinesHeld, LinesOf, runFirst, runCount}
-use Rattle.boardings.specs.Chain.{positionsAt, fifoAt, tripStampsAt}
+use Rattle.pruning.specs.Chain.{positionsAt, fifoAt, tripStampsAt}
 use Rattle.asking.specs.declared.QueryCounts.{QueryCounts}
 use Rattle.asking.specs.declared.Lengths.{Lengths}
 use Rattle.asking.specs.Lent.{egressAt, Lent, lent, tablesOf, queryOf, lineRuns, lineEntries, delayRows, stopRows, transferRunAt, entriesAt, eventsOf, transferRows}
 use Rattle.asking.specs.Sane.{Admitted}
 use Rattle.asking.proofs.Parts.{part-at, entries-size, marks-room, runs-room}
 use Rattle.asking.proofs.Laws.{events-below, door-of}
-use Rattle.trip_scan.specs.Scan.{Nets, Netted, RunIn, eventAt}
-use Rattle.rides.specs.Laid.{eventsAt, Rides, Laid}
+use Rattle.alighting.specs.Scan.{Nets, Netted, RunIn, eventAt}
+use Rattle.riding.specs.Laid.{eventsAt, Rides, Laid}
 use Rattle.begin.specs.Begin.{layOf, netOf, LaidOut}
 use Rattle.begin.specs.Laying.{Put}
 use Rattle.begin.proofs.Reading.{sane-of, egress-rows}

@@ -9,19 +9,19 @@ use lib.Ieee.{Float}
 use Rattle.loops.specs.Count.{tab}
 use Rattle.loops.proofs.Count.{tab-ext}
 use Rattle.tables.specs.Sane.{Sane}
-use Rattle.scratch.specs.Fill.{egressOf, egressAt as rowAt}
+use Rattle.reset.specs.Fill.{egressOf, egressAt as rowAt}
 use Rattle.boarding.specs.declared.Lined.{Lined}
 use Rattle.boarding.specs.Resolving.{linedOf}
 use Rattle.flags.specs.Flags.{EgressIn, egressRows}
 use Rattle.cell_bitset.specs.declared.CellBitSet.{CellBitSet}
 use Rattle.tables.specs.Timetable.{timetable}
 use Rattle.tables.specs.declared.Counts.{Counts}
-use Rattle.delays.specs.Delays.{margin}
-use Rattle.delays.specs.Flat.{delayTables}
+use Rattle.delay_tables.specs.Delays.{margin}
+use Rattle.delay_tables.specs.Flat.{delayTables}
 use Rattle.model.specs.Tables.{Tables, Query}
 use Rattle.model.specs.Search.{targetCells}
-use Rattle.trip_scan.specs.declared.Net.{Net}
-use Rattle.rides.specs.Laid.{eventsAt}
+use Rattle.alighting.specs.declared.Net.{Net}
+use Rattle.riding.specs.Laid.{eventsAt}
 use Rattle.asking.specs.declared.QueryCounts.{QueryCounts}
 use Rattle.asking.specs.declared.Lengths.{Lengths}
 use Rattle.asking.specs.Lent.{egressAt, querySize, delayRows, stopRows, transferRunsAt, egressPart, egressStop, Lent, lent, tablesOf, queryOf}

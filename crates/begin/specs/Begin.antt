@@ -7,7 +7,7 @@ use lib.ListN.{length, getD}
 use lib.Ieee.{Float}
 use Rattle.tables.specs.Timetable.{timetable}
 use Rattle.line_layout.specs.Layout.{positionIn, lineAt, fifoOf}
-use Rattle.transfers.specs.Transfers.{eventsBefore}
+use Rattle.line_transfers.specs.Transfers.{eventsBefore}
 use Rattle.model.specs.Tables.{Tables, Query}
 use Rattle.model.specs.Search.{targetCells, marginOf, newBoardings, begin}
 use Rattle.scratch.specs.declared.Lay.{Lay}
@@ -15,14 +15,14 @@ use Rattle.scratch.specs.Places.{Sized, Walks, EgressTable, restAt, turned}
 use Rattle.scratch.specs.View.{Memory, arrivalsOf, Written}
 use Rattle.boarding.specs.declared.Terms.{Terms}
 use Rattle.boarding.specs.Resolving.{linedOf}
-use Rattle.boardings.specs.Chain.{positionsAt, fifoAt, tripStampsAt}
-use Rattle.boardings.specs.Books.{Chains, Books}
+use Rattle.pruning.specs.Chain.{positionsAt, fifoAt, tripStampsAt}
+use Rattle.pruning.specs.Books.{Chains, Books}
 use Rattle.asking.specs.declared.QueryCounts.{QueryCounts}
 use Rattle.asking.specs.declared.Lengths.{Lengths}
 use Rattle.asking.specs.Lent.{Lent, tablesOf, queryOf, lineRuns, lineEntries, delayRows, stopRows, transferRunsAt}
 use Rattle.asking.specs.Sane.{Admitted}
-use Rattle.trip_scan.specs.declared.Net.{Net}
-use Rattle.rides.specs.Laid.{eventsAt, Rides, Laid}
+use Rattle.alighting.specs.declared.Net.{Net}
+use Rattle.riding.specs.Laid.{eventsAt, Rides, Laid}
 
 -- the sections of the working numbers, by the counts: the first list is filled by a round's rides, the other by its walks
 abbrev pub layOf : QueryCounts → Lay

@@ -13,7 +13,7 @@ use Rattle.model.specs.Search.{access}
 use Rattle.scratch.specs.declared.Lay.{Lay}
 use Rattle.scratch.specs.Places.{Sized, Walks, Same, EgressTable}
 use Rattle.scratch.specs.View.{Memory, arrivalsOf, Written}
-use Rattle.scratch.specs.Fill.{EgressRows}
+use Rattle.reset.specs.Fill.{EgressRows}
 use Rattle.asking.specs.declared.QueryCounts.{QueryCounts}
 use Rattle.asking.specs.Lent.{marksAt, egressAt, querySize, lineRuns, lineEntries, originAt}
 use Rattle.asking.specs.Sane.{Limits}

@@ -10,23 +10,23 @@ ghost use lib.ListN.{length, getD};
 ghost use Rattle.tables.specs.Timetable.{timetable};
 ghost use Rattle.tables.specs.Sane.{Sane};
 ghost use Rattle.line_layout.specs.Layout.{positionIn, lineAt, fifoOf};
-ghost use Rattle.transfers.specs.Transfers.{eventsBefore};
+ghost use Rattle.line_transfers.specs.Transfers.{eventsBefore};
 ghost use Rattle.model.specs.Search.{setOut};
 ghost use Rattle.scratch.specs.Places.{WorkSized, Sized, EgressTable, turned};
 ghost use Rattle.scratch.specs.View.{memory};
 ghost use Rattle.scratch.specs.Step.{Starting, StartStep};
-ghost use Rattle.boardings.specs.Chain.{positionsAt, fifoAt};
+ghost use Rattle.pruning.specs.Chain.{positionsAt, fifoAt};
 ghost use Rattle.asking.specs.declared.Lengths.{Lengths};
 ghost use Rattle.asking.specs.Lent.{Lent, lent, lineRuns, lineEntries, originAt};
 ghost use Rattle.asking.specs.Sane.{Limits, Admitted};
-ghost use Rattle.rides.specs.Laid.{eventsAt};
+ghost use Rattle.riding.specs.Laid.{eventsAt};
 ghost use Rattle.begin.specs.Begin.{layOf, netOf, Lends, Askable, LaidOut, Begun};
 ghost use Rattle.begin.specs.Laying.{LinesIn, Layable, Put, Origins, Accessed};
+use alighting::Net;
 use asking::QueryCounts;
 use boarding::Terms;
 use scratch::Head;
 use scratch::Lay;
-use trip_scan::Net;
 
 // The cap of the delay margin, and how many trips of a line are tried for a transfer.
 pub const MARGIN_CAP: u32 = 21600;
@@ -77,7 +77,7 @@ pub fn net_of(n: QueryCounts, t: &[u32], built: &[u32], distances: &[f64], q: &[
         margin,
         line_scan: LINE_SCAN,
     };
-    let lined = boarding::line_tables(c, n.lines);
+    let lined = resolving::line_tables(c, n.lines);
     Net {
         lined,
         terms,
@@ -134,7 +134,7 @@ fn set_up(n: QueryCounts, t: &[u32], built: &[u32], q: &[u32], lay: Lay, work: &
     requires { ⌜ Layable n (now t) (now built) (now q) ⌝ ∗ ⌜ lay ≡ layOf n ⌝ ∗ ⌜ WorkSized lay (length (now work)) ⌝ }
     ensures { λ _. ⌜ LaidOut (lent n (now (t .entry)) (now (built .entry)) [] [] [] (now (q .entry))) lay (now (work .entry)) (now (work .exit)) ⌝ }
 {
-    scratch::fill_egress(lay, q, 7 + n.origins * 2, n.egress, work);
+    reset::fill_egress(lay, q, 7 + n.origins * 2, n.egress, work);
     put_positions(n, built, lay, work);
     put_fifo(n, t, built, lay, work);
     put_events(n, t, lay, work);
@@ -208,7 +208,7 @@ pub fn begin(
     requires { ⌜ Askable n (now t) (now built) (now distances) (now q) ⌝ ∗ ⌜ lay ≡ layOf n ⌝ ∗ ⌜ Sized lay (length (now work)) (length (now labels)) (length (now metres)) ⌝ }
     ensures { λ h. ⌜ ((x : Lent) (l : Lengths) → Admitted x l → Lends x n (now (t .entry)) (now (built .entry)) (now (distances .entry)) (now (q .entry)) → Begun x (netOf x) lay (memory (now (work .exit)) (now (labels .exit)) (now (metres .exit)) h)) ⌝ }
 {
-    let h = scratch::reset(lay, work, labels, metres);
+    let h = reset::reset(lay, work, labels, metres);
     set_up(n, t, built, q, lay, work);
     access(n, distances, q, turn(lay), work, labels, metres, h)
 }

@@ -22,10 +22,10 @@ use Rattle.tables.specs.Tables.{timeOf, tripOf, firstOf, countOf, windowsAt, wi
 use Rattle.tables.specs.Timetable.{Timetable, timetable}
 use Rattle.realtime.specs.declared.StopDelay.{StopDelay}
 use Rattle.realtime.specs.Times.{effectiveDeparture, effectiveArrival}
-use Rattle.delays.specs.declared.Found.{Found}
-use Rattle.delays.specs.declared.Found.the-variants.{At, Nothing}
-use Rattle.delays.specs.Delays.{delayRow, stopDelay, margin}
-use Rattle.delays.specs.Flat.{delayCount, delaysAlone, delayTables, foundOf}
+use Rattle.delay_tables.specs.declared.Found.{Found}
+use Rattle.delay_tables.specs.declared.Found.the-variants.{At, Nothing}
+use Rattle.delay_tables.specs.Delays.{delayRow, stopDelay, margin}
+use Rattle.delay_tables.specs.Flat.{delayCount, delaysAlone, delayTables, foundOf}
 use Rattle.frequency.specs.declared.Boarding.{Boarding}
 use Rattle.frequency.specs.declared.FreqBoard.{FreqBoard}
 use Rattle.frequency.specs.declared.FreqBoard.the-variants.{Nothing as NoBoard, Board}

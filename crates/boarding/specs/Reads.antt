@@ -7,10 +7,10 @@ use Rattle.tables.specs.declared.Counts.{Counts}
 use Rattle.tables.specs.Tables.{countOf}
 use Rattle.tables.specs.Timetable.{timetable}
 use Rattle.tables.specs.Sane.{Sane}
-use Rattle.delays.specs.declared.Found.{Found}
-use Rattle.delays.specs.declared.Found.the-variants.{At, Nothing}
-use Rattle.delays.specs.Delays.{margin}
-use Rattle.delays.specs.Flat.{delayCount, stopCount, delayRowAt, stopRowAt, delayTables}
+use Rattle.delay_tables.specs.declared.Found.{Found}
+use Rattle.delay_tables.specs.declared.Found.the-variants.{At, Nothing}
+use Rattle.delay_tables.specs.Delays.{margin}
+use Rattle.delay_tables.specs.Flat.{delayCount, stopCount, delayRowAt, stopRowAt, delayTables}
 use Rattle.delays.specs.Sane.{DelayRows, StopRows}
 use Rattle.model.specs.Tables.{Tables, Query}
 use Rattle.boarding.specs.declared.Terms.{Terms}

@@ -15,7 +15,7 @@ use Rattle.tables.specs.Timetable.{Timetable, timeAt}
 use Rattle.model.specs.Tables.{Tables, Query, trips, stopCount, departure, noPickup, noWindows, position, fifo, usable}
 use Rattle.model.specs.Search.{delayOf, skipped, marginOf, boardAt}
 use Rattle.tables.specs.declared.Counts.{Counts}
-use Rattle.transfers.specs.Transfers.{Transfer}
+use Rattle.line_transfers.specs.Transfers.{Transfer}
 use Rattle.boarding.specs.declared.Tried.{Tried}
 use Rattle.boarding.specs.declared.Tried.the-variants.{Next, Stop, Take}
 use Rattle.boarding.specs.declared.Resolved.{Resolved}

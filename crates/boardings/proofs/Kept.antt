@@ -15,9 +15,9 @@ use Rattle.scratch.specs.Places.{Sized, Same, EgressTable, Walks, restAt}
 use Rattle.scratch.specs.View.{memory, arrivalsOf}
 use Rattle.scratch.proofs.Part.{drop-at}
 use Rattle.model.specs.Tables.{Tables}
-use Rattle.boardings.specs.Chain.{positionsAt, tripStampsAt}
-use Rattle.boardings.specs.Books.{Agrees, Noted}
-use Rattle.boardings.proofs.Chains.{part-ext}
+use Rattle.pruning.specs.Chain.{positionsAt, tripStampsAt}
+use Rattle.pruning.specs.Books.{Agrees, Noted}
+use Rattle.pruning.proofs.Chains.{part-ext}
 
 -- the lines where positions and FIFO flags are as they were
 agrees-by : (T : Tables) (lay : Lay) (c : Counts) (built w w′ : List ℕ) → ((i : ℕ) → positionsAt lay ≤ i → i < tripStampsAt lay → getD w′ i 0 ≡ getD w i 0)

@@ -12,15 +12,15 @@ use Rattle.scratch.specs.declared.Lay.{Lay}
 use Rattle.scratch.specs.Part.{part, tally}
 use Rattle.scratch.specs.Places.{Sized, Same, restAt, listsAt, workSize}
 use Rattle.scratch.specs.View.{memory, Memory}
-use Rattle.scratch.specs.Fill.{Fresh}
+use Rattle.reset.specs.Fill.{Fresh}
 use Rattle.scratch.proofs.Part.{drop-at}
-use Rattle.scratch.proofs.Filling.{part-same}
+use Rattle.reset.proofs.Filling.{part-same}
 use Rattle.model.specs.Tables.{Tables, Query, position, trips}
 use Rattle.model.specs.Search.{State, Boardings, lineAt, dominated, roundStart, newBoardings}
-use Rattle.boardings.specs.Chain.{positionsAt, tripStampsAt, offsetsAt, departuresAt, lineStampsAt, headsAt, linksAt, leastAt, firstOf, chainFrom, chain, isIn, someBefore}
-use Rattle.boardings.specs.Books.{Chains, Books}
-use Rattle.boardings.proofs.Chains.{chain-high, some-kept}
-use Rattle.boardings.proofs.Reading.{never}
+use Rattle.pruning.specs.Chain.{positionsAt, tripStampsAt, offsetsAt, departuresAt, lineStampsAt, headsAt, linksAt, leastAt, firstOf, chainFrom, chain, isIn, someBefore}
+use Rattle.pruning.specs.Books.{Chains, Books}
+use Rattle.pruning.proofs.Chains.{chain-high, some-kept}
+use Rattle.pruning.proofs.Reading.{never}
 
 -- no line bears the stamp: every chain is empty
 module _ (lay : Lay) (stamp : ℕ) (w : List ℕ) where

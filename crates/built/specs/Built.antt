@@ -6,7 +6,7 @@ use lib.ListN.{length, getD}
 use lib.Dec.{eqb}
 use Rattle.loops.specs.Iter.{firstIn, foundOr}
 use Rattle.tables.specs.Timetable.{Timetable}
-use Rattle.lines.specs.Lines.{lineOf, linesOf, lineTrips}
+use Rattle.line_numbers.specs.Lines.{lineOf, linesOf, lineTrips}
 use Rattle.line_layout.specs.Layout.{LineTrips}
 
 -- each line lists its trips, in their order

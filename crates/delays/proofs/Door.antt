@@ -13,15 +13,15 @@ use Rattle.loops.specs.Iter.{Hit, everyIn}
 use Rattle.loops.proofs.Iter.{and-left, and-right, everyIn-at}
 use Rattle.door.proofs.Laws.{ask-yes, ask-later}
 use Rattle.door.specs.Door.{ask, answer, refusal, success, timeLimit}
-use Rattle.delays.specs.declared.DelayRow.{DelayRow}
-use Rattle.delays.specs.declared.StopRow.{StopRow}
-use Rattle.delays.specs.declared.DelayAt.{DelayAt}
-use Rattle.delays.specs.Delays.{DelayTables, unknownTrip, delayRow, stopDelay, margin}
-use Rattle.delays.specs.Flat.{delayCount, stopCount, delayTables}
+use Rattle.delay_tables.specs.declared.DelayRow.{DelayRow}
+use Rattle.delay_tables.specs.declared.StopRow.{StopRow}
+use Rattle.delay_tables.specs.declared.DelayAt.{DelayAt}
+use Rattle.delay_tables.specs.Delays.{DelayTables, unknownTrip, delayRow, stopDelay, margin}
+use Rattle.delay_tables.specs.Flat.{delayCount, stopCount, delayTables}
 use Rattle.realtime.specs.Times.{noDelay, sizeOf}
-use Rattle.delays.specs.Door.{delayCounts, delayLengths, tripNumbered, tripsRise, stopsRise, inOrder, delayNumbers, delayRanges, delayOrder, delaysDoor, told, knownOf, delayAnswer, marginOutcome, delayAtOutcome}
+use Rattle.delay_tables.specs.Door.{delayCounts, delayLengths, tripNumbered, tripsRise, stopsRise, inOrder, delayNumbers, delayRanges, delayOrder, delaysDoor, told, knownOf, delayAnswer, marginOutcome, delayAtOutcome}
 use Rattle.realtime.specs.Door.{sizeOk}
-use Rattle.delays.specs.Asked.{delayAsked, stopAsked}
+use Rattle.delay_tables.specs.Asked.{delayAsked, stopAsked}
 use Rattle.delays.specs.Sane.{DelayRows, StopRows, Delays}
 
 or-split : (a b : Bool) → (a || b) ≡ true → (a ≡ true) ⊎ (b ≡ true)

@@ -6,10 +6,10 @@ use mathlib.Core.List.{List, [], _∷_}
 use lib.Dec.{eqb}
 use Rattle.loops.specs.Iter.{iter, first, every}
 use Rattle.loops.specs.Count.{one}
-use Rattle.delays.specs.Delays.{delayRow, stopDelay, margin}
-use Rattle.delays.specs.Flat.{delayTables}
+use Rattle.delay_tables.specs.Delays.{delayRow, stopDelay, margin}
+use Rattle.delay_tables.specs.Flat.{delayTables}
 use Rattle.realtime.specs.Times.{skippedAt, effectiveDeparture, effectiveArrival}
-use Rattle.delays.specs.Door.{delaysDoor}
+use Rattle.delay_tables.specs.Door.{delaysDoor}
 
 -- the tables, a stop time of trip 3 at sequence 7 that arrives at 200 and departs at 230, and what must come out
 pub record Case : Type 0 where

@@ -9,7 +9,7 @@ use Rattle.loops.specs.Iter.{iter}
 use Rattle.loops.proofs.Iter.{range-done}
 use Rattle.loops.proofs.Search.{split}
 use Rattle.realtime.specs.Times.{departureGiven, arrivalGiven, sizeOf}
-use Rattle.delays.specs.Delays.{DelayTables, orLarger, largest, givenSize, largestDelay, margin}
+use Rattle.delay_tables.specs.Delays.{DelayTables, orLarger, largest, givenSize, largestDelay, margin}
 use Rattle.delays.specs.Sane.{Delays}
 
 grows : (f : ℕ → ℕ) (i n s : ℕ) → s ≤ iter (orLarger f) i n s

@@ -8,7 +8,7 @@ use lib.Dec.{eqb}
 use borrow.Author.Tests.{eq-eqb, ne-eqb}
 use Rattle.loops.specs.Iter.{Hit, hit, miss}
 use Rattle.loops.proofs.Search.{first-is, first-isnt, hit-below}
-use Rattle.delays.specs.Delays.{DelayTables, unknownTrip, delayRow, stopRow, besideTrip, stopDelay}
+use Rattle.delay_tables.specs.Delays.{DelayTables, unknownTrip, delayRow, stopRow, besideTrip, stopDelay}
 use Rattle.realtime.specs.Times.{noDelay}
 use Rattle.delays.specs.Sane.{DelayRows, StopRows}
 use Rattle.realtime.specs.Door.{Bounded}

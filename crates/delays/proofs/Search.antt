@@ -12,9 +12,9 @@ use borrow.Author.Tests.{leb-true, leb-false, eqb-true, eqb-false, le-leb, lt-le
 use Rattle.loops.specs.Iter.{firstIn, Hit, hit, miss}
 use Rattle.loops.specs.Order.{Stays, Rising, Halved}
 use Rattle.loops.proofs.Search.{first-ext, halved-ext, stays-ext, keys-stay, same-found, same-past, same-other}
-use Rattle.delays.specs.Flat.{delaysAlone, stopsAlone, delayCount, stopCount, delayRowAt, stopRowAt, foundOf}
-use Rattle.delays.specs.Delays.{delayRow, stopRow}
-use Rattle.delays.specs.declared.Found.the-variants.{At, Nothing}
+use Rattle.delay_tables.specs.Flat.{delaysAlone, stopsAlone, delayCount, stopCount, delayRowAt, stopRowAt, foundOf}
+use Rattle.delay_tables.specs.Delays.{delayRow, stopRow}
+use Rattle.delay_tables.specs.declared.Found.the-variants.{At, Nothing}
 use Rattle.delays.specs.Sane.{DelayRows, StopRows}
 use Rattle.delays.specs.Halving.{keyAt, Keyed}
 

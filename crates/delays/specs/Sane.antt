@@ -4,9 +4,9 @@ use mathlib.Core.Path.{_≡_}
 use mathlib.Core.Logic.{_⊎_}
 use Rattle.door.specs.Door.{timeLimit}
 use Rattle.realtime.specs.Times.{sizeOf}
-use Rattle.delays.specs.declared.DelayRow.{DelayRow}
-use Rattle.delays.specs.declared.StopRow.{StopRow}
-use Rattle.delays.specs.Delays.{DelayTables, unknownTrip}
+use Rattle.delay_tables.specs.declared.DelayRow.{DelayRow}
+use Rattle.delay_tables.specs.declared.StopRow.{StopRow}
+use Rattle.delay_tables.specs.Delays.{DelayTables, unknownTrip}
 
 -- the delay rows: few, trips strictly rise save that the unknown trip may repeat, sizes within the limit
 pub record DelayRows (n : ℕ) (delay : ℕ → DelayRow) : Type 0 where

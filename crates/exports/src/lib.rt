@@ -9,8 +9,8 @@ ghost use Rattle.cell_bitset.specs.CellSet.{created, resized, withCell, held, m
 ghost use Rattle.walk.specs.Walk.{walkDuration, roundCount};
 ghost use Rattle.frequency.specs.Entry.{freqOutcome};
 ghost use Rattle.realtime.specs.Door.{departureOutcome, arrivalOutcome, skippedOutcome};
-ghost use Rattle.delays.specs.Door.{marginOutcome, delayAtOutcome};
-ghost use Rattle.label.specs.Calls.{outcome, storeOutcome, loadAnswer};
+ghost use Rattle.delay_tables.specs.Door.{marginOutcome, delayAtOutcome};
+ghost use Rattle.label_table.specs.Calls.{outcome, storeOutcome, loadAnswer};
 ghost use Rattle.label.specs.declared.Label.the-variants.{Access, Transit, Walk};
 ghost use Rattle.clock.specs.Clock.{serviceSecond};
 ghost use Rattle.departures.specs.Call.{areas as departureAreas, outcomeOf as departureOutcomeOf, outcome as sortOutcome};
@@ -19,18 +19,18 @@ ghost use Rattle.line_layout.specs.Call.{areas as layoutAreas, outcomeOf as lay
 ghost use Rattle.transfers.specs.Call.{areas as transferAreas, lent, outcome as transfersOutcome};
 ghost use Rattle.asking.specs.Lent.{lent as lentForQuery};
 ghost use Rattle.asking.specs.Door.{workspaceAnswer};
-ghost use Rattle.query.specs.Outcome.{areas, runTbrOutcome, queryOutcome};
+ghost use Rattle.replies.specs.Outcome.{areas, runTbrOutcome, queryOutcome};
 ghost use Rattle.exports.specs.Counts.{countsOf, gathered, queryCountsOf};
 ghost use Rattle.exports.specs.Shown.{shown, shownOf, shownTransfers, shownTransfersOf};
 use asking::QueryCounts;
 use cell_bitset::CellBitSet;
 use cell_bitset::CellSetAnswer;
-use delays::DelayAt;
+use delay_tables::DelayAt;
 use door::Answer;
 use frequency::FreqAnswer;
-use label::LabelAnswer;
+use label_table::LabelAnswer;
 use lines::Grouped;
-use query::Reply;
+use replies::Reply;
 use tables::Counts;
 use transfers::Built;
 
@@ -280,7 +280,7 @@ pub extern "C" fn savoiky_label_store_access(
 ) -> u32
     ensures { λ r. ⌜ outcome r (now (labels .exit)) (now (distances .exit)) ≡ storeOutcome (Access «stop_idx» «arrival_s» «walk_duration» «walk_distance») stops stop row (now (labels .entry)) (now (distances .entry)) ⌝ }
 {
-    label::store_access(
+    label_table::store_access(
         stops,
         stop,
         row,
@@ -311,7 +311,7 @@ pub extern "C" fn savoiky_label_store_transit(
 ) -> u32
     ensures { λ r. ⌜ outcome r (now (labels .exit)) (now (distances .exit)) ≡ storeOutcome (Transit «arrival_s» «trip_idx» «board_stop» «board_off» «alight_off» «prev_round» «time_shift_s») stops stop row (now (labels .entry)) (now (distances .entry)) ⌝ }
 {
-    label::store_transit(
+    label_table::store_transit(
         stops,
         stop,
         row,
@@ -344,7 +344,7 @@ pub extern "C" fn savoiky_label_store_walk(
 ) -> u32
     ensures { λ r. ⌜ outcome r (now (labels .exit)) (now (distances .exit)) ≡ storeOutcome (Walk «arrival_s» «from_stop» «to_stop» «duration_s» «distance_m» «prev_round») stops stop row (now (labels .entry)) (now (distances .entry)) ⌝ }
 {
-    label::store_walk(
+    label_table::store_walk(
         stops,
         stop,
         row,
@@ -370,7 +370,7 @@ pub extern "C" fn savoiky_label_load(
 ) -> LabelAnswer
     ensures { λ r. ⌜ r ≡ loadAnswer stops stop row (now (labels .entry)) (now (distances .entry)) ⌝ }
 {
-    label::load(stops, stop, row, labels, distances)
+    label_table::load(stops, stop, row, labels, distances)
 }
 
 fn counts(stops: u32, trips: u32, times: u32, windows: u32, edges: u32) -> Counts

@@ -18,7 +18,7 @@ use Rattle.tables.specs.Timetable.{Timetable, timetable}
 use Rattle.model.specs.Tables.{Tables, Query}
 use Rattle.model.specs.Search.{someTransfer, targetsFrom, targetCells, holdsTarget, useArcFlags, skipsEdge, skipsTransfer, flagsInUse}
 use Rattle.flags.specs.Flags.{patternAt, Patterned, egressAt, egressRows, runFirst, runLength, eventSkips, RunsIn, Transferring}
-use Rattle.transfers.specs.Transfers.{Transfer, transferAt, eventsBefore}
+use Rattle.line_transfers.specs.Transfers.{Transfer, transferAt, eventsBefore}
 use native.Mathlib.Nat.{add-zero, add-suc}
 
 pub cell-is : (T : Tables) (t : List ℕ) (c : Counts) → T .timetable ≡ timetable t c → (s : ℕ) → T .timetable .cell s ≡ getD t (stopsAt c + s) 0

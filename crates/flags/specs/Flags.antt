@@ -10,7 +10,7 @@ use Rattle.cell_bitset.specs.declared.CellBitSet.{CellBitSet}
 use Rattle.tables.specs.declared.Counts.{Counts}
 use Rattle.tables.specs.Tables.{tripOf}
 use Rattle.tables.specs.Timetable.{Timetable, timetable}
-use Rattle.transfers.specs.Transfers.{Transfer, transferAt, eventsBefore}
+use Rattle.line_transfers.specs.Transfers.{Transfer, transferAt, eventsBefore}
 use Rattle.model.specs.Tables.{Tables, Query}
 use Rattle.model.specs.Search.{holdsTarget, targetCells}
 

@@ -13,7 +13,7 @@ ghost use Rattle.model.specs.Tables.{Tables, Query};
 ghost use Rattle.model.specs.Search.{targetCells, holdsTarget, useArcFlags, skipsEdge, skipsTransfer, flagsInUse};
 ghost use Rattle.flags.specs.Flags.{patternAt, Patterned, PatternsOk, egressRows, EgressIn, RunsIn, eventSkips, Transferring};
 ghost use Rattle.loops.specs.Iter.{someIn};
-ghost use Rattle.transfers.specs.Transfers.{transferAt, eventsBefore};
+ghost use Rattle.line_transfers.specs.Transfers.{transferAt, eventsBefore};
 use cell_bitset::CellBitSet;
 use tables::Counts;
 

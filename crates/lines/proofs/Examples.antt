@@ -11,7 +11,7 @@ use Rattle.sorts.specs.Orders.{keep}
 use Rattle.tables.specs.declared.Counts.{Counts}
 use Rattle.tables.specs.Tables.{timeOf, tripOf, windowOf, edgeOf}
 use Rattle.tables.specs.Door.{countsOk, slicesOk, tripRuns, stopTimeNumbers, edgeNumbers, stopTimeRanges, tripRanges, windowRanges, edgeRanges, runsOk, numbersOk, rangesOk}
-use Rattle.lines.specs.Lines.{same, leadOf, isLead, lineOf, lineTrips, entriesOf, lineCount, lineFirst, runsOf}
+use Rattle.line_numbers.specs.Lines.{same, leadOf, isLead, lineOf, lineTrips, entriesOf, lineCount, lineFirst, runsOf}
 use Rattle.lines.specs.Call.{Areas, areas, sizesOk, verdict, made, outcome}
 use Rattle.lines.specs.declared.Grouped.{Grouped}
 use Rattle.lines.specs.declared.Grouped.the-variants.{Lines, Refused}

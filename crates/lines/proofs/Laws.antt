@@ -18,12 +18,12 @@ use Rattle.sorts.proofs.Orders.{sort-all}
 use Rattle.sorts.proofs.Places.{all-at, keep-all, sort-tally, tally}
 use Rattle.sorts.proofs.Stable.{length-sortBy}
 use Rattle.tables.specs.Timetable.{Timetable, timeAt}
-use Rattle.lines.specs.Lines.{InRun, entriesOf, entryAt, firstDeparture, firstTrip, isLead, leadOf, lineBelow, lineCount, lineFirst, lineIs, lineOf, lineTrips, linesOf, stopsOf}
-use Rattle.lines.proofs.Same.{is-own, lead-is, lead-lead, line-below, line-same, lists-same, same-line, same-lists, same-yes}
-use Rattle.lines.proofs.Parts.{flat-length, flat-split}
-use Rattle.lines.proofs.Tally.{below-split, lines-few}
+use Rattle.line_numbers.specs.Lines.{InRun, entriesOf, entryAt, firstDeparture, firstTrip, isLead, leadOf, lineBelow, lineCount, lineFirst, lineIs, lineOf, lineTrips, linesOf, stopsOf}
+use Rattle.line_numbers.proofs.Same.{is-own, lead-is, lead-lead, line-below, line-same, lists-same, same-line, same-lists, same-yes}
+use Rattle.line_numbers.proofs.Parts.{flat-length, flat-split}
+use Rattle.line_numbers.proofs.Tally.{below-split, lines-few}
 use Rattle.lines.proofs.Entries.{all-upto}
-use Rattle.lines.proofs.Lists.{Before, Nth, all-imp, count-each, count-none, flat-tally, length-keep, nth, one-is, pairs-at, sort-kept, tally-found, tally-keep, tally-none, tally-two, tally-upto}
+use Rattle.line_numbers.proofs.Lists.{Before, Nth, all-imp, count-each, count-none, flat-tally, length-keep, nth, one-is, pairs-at, sort-kept, tally-found, tally-keep, tally-none, tally-two, tally-upto}
 
 -- two trips have one line exactly if they have the same stops in the same order
 pub one-line : (T : Timetable) (i j : ℕ) → stopsOf T i ≡ stopsOf T j → lineOf T i ≡ lineOf T j

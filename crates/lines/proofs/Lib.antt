@@ -1,9 +1,3 @@
-pub mod Same
-pub mod Chain
-pub mod Group
-pub mod Parts
-pub mod Lists
-pub mod Tally
 pub mod Entries
 pub mod Outcome
 pub mod Laws

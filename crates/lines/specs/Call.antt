@@ -1,5 +1,6 @@
 -- The call that makes the lines: its questions, in order, and what it answers and writes. Definitions only.
 use Prim.Native.Nat.{ℕ, zero, suc, _*_}
+use mathlib.Core.Path.{_≡_}
 use mathlib.Core.Bool.{Bool, _&&_}
 use mathlib.Core.List.{List}
 use lib.ListN.{length, replicate}
@@ -8,9 +9,10 @@ use Rattle.loops.specs.Count.{tab}
 use Rattle.door.specs.declared.Answer.{Answer}
 use Rattle.door.specs.Door.{ask, refusal, success}
 use Rattle.tables.specs.declared.Counts.{Counts}
+use Rattle.tables.specs.Sane.{Sane}
 use Rattle.tables.specs.Timetable.{timetable}
 use Rattle.tables.specs.Door.{countsOk, slicesOk, runsOk, numbersOk, rangesOk}
-use Rattle.lines.specs.Lines.{lineOf, linesOf, entriesOf, runsOf}
+use Rattle.line_numbers.specs.Lines.{lineOf, linesOf, entriesOf, runsOf}
 use Rattle.lines.specs.declared.Lengths.{Lengths}
 use Rattle.lines.specs.declared.Grouped.{Grouped}
 use Rattle.lines.specs.declared.Grouped.the-variants.{Refused, Lines}
@@ -64,3 +66,12 @@ outcome t c s = settle (verdict t c (lengthsOf s)) t c s
 abbrev pub answerOf : Grouped → Answer
 answerOf (Refused n) = refusal n
 answerOf (Lines n) = success n
+
+-- the call was admitted: the timetable is sound, and the slices are as long as they should be
+pub record Admitted (t : List ℕ) (c : Counts) (s : Areas) : Type 0 where
+  pub sound : Sane t c
+  pub lines : length (s .lines) ≡ c .trips
+  pub runs : length (s .runs) ≡ c .trips * 2
+  pub entries : length (s .entries) ≡ c .trips
+  pub work : length (s .work) ≡ c .trips
+  pub other : length (s .other) ≡ c .trips

@@ -6,7 +6,7 @@ use lib.ListN.{length}
 use Rattle.frequency.specs.declared.Boarding.{Boarding}
 use Rattle.frequency.specs.declared.FreqBoard.{FreqBoard}
 use Rattle.frequency.specs.declared.FreqBoard.the-variants.{Board}
-use Rattle.delays.specs.declared.Found.{Found}
+use Rattle.delay_tables.specs.declared.Found.{Found}
 use Rattle.tables.specs.declared.Counts.{Counts}
 use Rattle.tables.specs.Timetable.{timetable}
 use Rattle.departures.specs.Departures.{rowAt, rowDeparture}
@@ -14,7 +14,7 @@ use Rattle.departures.specs.Listed.{RowsKnown}
 use Rattle.scratch.specs.declared.Lay.{Lay}
 use Rattle.scratch.specs.Places.{Sized}
 use Rattle.boarding.specs.Reads.{hitOf, Agree}
-use Rattle.boardings.specs.Books.{Chains}
+use Rattle.pruning.specs.Books.{Chains}
 use Rattle.model.specs.Tables.{Tables, Query}
 use Rattle.model.specs.Search.{boardAt}
 

@@ -15,13 +15,13 @@ ghost use Rattle.departures.specs.Listed.{RunsListed};
 ghost use Rattle.model.specs.Tables.{Tables, Query, permitted, noPickup};
 ghost use Rattle.model.specs.Search.{Boardings, State, notBefore, skipped, pruned, boarding};
 ghost use Rattle.boarding.specs.Reads.{hitOf, Known, Ground, Event, Agree, Asks};
-ghost use Rattle.boardings.specs.Books.{Agrees, Books};
+ghost use Rattle.pruning.specs.Books.{Agrees, Books};
 ghost use Rattle.asking.specs.Lent.{marksAt, stopRuns, departureRows};
 ghost use Rattle.asking.specs.Sane.{Limits};
 ghost use Rattle.listed.specs.Listed.{Chained, Ordered, AsBoarded};
 use asking::QueryCounts;
 use boarding::Terms;
-use delays::Found;
+use delay_tables::Found;
 use frequency::FreqBoard;
 use scratch::Lay;
 use tables::Counts;
@@ -84,7 +84,7 @@ fn barred_listed(
     if !fit {
         return true;
     }
-    let cut = boardings::pruned(lay, stamp, built, adj, trip, off, work);
+    let cut = pruning::pruned(lay, stamp, built, adj, trip, off, work);
     if cut {
         return true;
     }
@@ -137,7 +137,7 @@ pub fn board_listed(
     if best <= b.departure {
         return FreqBoard::Nothing;
     }
-    if boardings::passed_over(lay, stamp, trip, off as u32, b.departure, work) {
+    if pruning::passed_over(lay, stamp, trip, off as u32, b.departure, work) {
         return FreqBoard::Nothing;
     }
     FreqBoard::Board(b)

@@ -6,7 +6,7 @@ use mathlib.Core.Logic.{⊎-elim}
 use mathlib.Core.Bool.{true, _&&_}
 use native.Mathlib.Omega.{arith}
 use lib.Dec.{ltb, eqb}
-use Rattle.lines.specs.Lines.{lineOf, linesOf}
+use Rattle.line_numbers.specs.Lines.{lineOf, linesOf}
 use Rattle.lines.proofs.Laws.{line-counts, line-stops}
 use Rattle.line_layout.specs.Layout.{fifoLine, positionIn}
 use Rattle.line_layout.specs.Claims.{NotLater}

@@ -8,8 +8,8 @@ use Rattle.loops.specs.Count.{one}
 use Rattle.departures.specs.declared.DepartureRow.{DepartureRow}
 use Rattle.departures.specs.Departures.{sorted, markOf, frequencyListed}
 use Rattle.tables.specs.Timetable.{Timetable, frequencyTrip}
-use Rattle.lines.specs.Lines.{same, leadOf, isLead, lineOf, linesOf, lineTrips}
-use Rattle.transfers.specs.Transfers.{Input, departuresOfLine, firstNotBefore, transferTo, transfersOf, builtTransfers}
+use Rattle.line_numbers.specs.Lines.{same, leadOf, isLead, lineOf, linesOf, lineTrips}
+use Rattle.line_transfers.specs.Transfers.{Input, departuresOfLine, firstNotBefore, transferTo, transfersOf, builtTransfers}
 
 -- the timetable with these bytes
 abbrev pub withBytes : (ℕ → ℕ) → (ℕ → ℕ) → Timetable → Timetable

@@ -16,7 +16,7 @@ use Rattle.realtime.specs.Times.{sizeOf}
 use Rattle.label.specs.declared.Label.{Label}
 use Rattle.label.specs.declared.Label.the-variants.{Empty, Access, Transit, Walk}
 use Rattle.label.specs.Label.{noDistance}
-use Rattle.label.specs.Table.{recordOf}
+use Rattle.label_table.specs.Table.{recordOf}
 use Rattle.model.specs.Tables.{Tables, Origin, Query, never, stops, trips, stopCount, stopAt, noPickup, noDropOff, edgesFrom, edgeTo, walkTime, permitted}
 use Rattle.model.specs.Search.{Segment, Arrivals, delayOf, skipped, boardAt, arrivalNow}
 use Rattle.model.specs.Door.{Door}

@@ -38,7 +38,4 @@ pub mod Bounds
 pub mod Candidates
 pub mod Answers
 pub mod Totals
-pub mod DayTests
-pub mod Examples
-pub mod PlainDays
 pub mod Bytes

@@ -18,11 +18,11 @@ use Rattle.frequency.specs.declared.FreqBoard.{FreqBoard}
 use Rattle.frequency.specs.declared.FreqBoard.the-variants.{Nothing, Board}
 use Rattle.label.specs.declared.Label.{Label}
 use Rattle.label.specs.declared.Label.the-variants.{Access, Transit, Walk}
-use Rattle.label.specs.Table.{recordOf}
+use Rattle.label_table.specs.Table.{recordOf}
 use Rattle.label.specs.Label.{noDistance}
 use Rattle.departures.specs.declared.DepartureRow.{DepartureRow}
 use Rattle.line_layout.specs.Layout.{LineTrips}
-use Rattle.transfers.specs.Transfers.{Transfer}
+use Rattle.line_transfers.specs.Transfers.{Transfer}
 use Rattle.model.specs.Tables.{never, Tables, Origin, Query, changeBefore, stops, trips, stopCount, stopAt, departure, noPickup, noDropOff, noWindows, edgesFrom, edgeTo, walkTime, position, fifo, usable, permitted}
 use Rattle.model.specs.Door.{Door}
 use Rattle.model.specs.Search.{Segment, Arrivals, bestAfter, setOut, access, State, at, holdsTarget, departuresAt, markAt, lineAt, notBefore, delayOf, skipped, arrivalNow, marginOf, boardAt, improve, relax, resolveIn, lineTripsAt, resolve, enqueue, takeTransfers, alightings, transferring, scanTripForward, logged, rideSegments, boarding, board, scanDepartures, scanStops, walkFrom, walkAll, emptied, roundStart, ridePhase, walkPhase, idle, rounds, newArrivals, begin}

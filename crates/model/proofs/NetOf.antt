@@ -5,7 +5,7 @@ use mathlib.Core.Bool.{Bool, true, false, not}
 use mathlib.Core.List.{List, [], _∷_, _++_, map}
 use lib.Dec.{ltb}
 use Rattle.departures.specs.declared.DepartureRow.{DepartureRow}
-use Rattle.delays.specs.Delays.{DelayTables}
+use Rattle.delay_tables.specs.Delays.{DelayTables}
 use Rattle.model.specs.Tables.{never, Tables, Origin, Query, isEgress, egressWalk, stops, trips, stopCount, stopAt, arrival, departure, noPickup, noDropOff, edgesFrom, edgeTo, walkTime, position, fifo, permitted}
 use Rattle.model.specs.Search.{reachedBy, Arrivals, Boardings, State, departuresAt, lineAt}
 use Rattle.model.proofs.Net.{Net}

@@ -18,9 +18,9 @@ use Rattle.frequency.specs.declared.FreqBoard.the-variants.{Nothing, Board}
 use Rattle.label.specs.declared.Label.{Label}
 use Rattle.label.specs.declared.Label.the-variants.{Transit, Walk}
 use Rattle.label.specs.Label.{noDistance}
-use Rattle.label.specs.Table.{recordOf}
+use Rattle.label_table.specs.Table.{recordOf}
 use Rattle.line_layout.specs.Layout.{LineTrips}
-use Rattle.transfers.specs.Transfers.{Transfer}
+use Rattle.line_transfers.specs.Transfers.{Transfer}
 use Rattle.model.specs.Tables.{Tables, Query, stops, trips, stopCount, stopAt, departure, noPickup, noDropOff, noWindows, position, fifo, usable, permitted}
 use Rattle.model.specs.Search.{Segment, Arrivals, at, reachedBy, delayOf, skipped, boardAt, arrivalNow, bestAfter, marginOf, holdsTarget, lineAt, improve, relax, resolveIn, lineTripsAt, resolve, enqueue, takeTransfers, alightings, transferring, scanTripForward}
 use Rattle.model.specs.Door.{Door}

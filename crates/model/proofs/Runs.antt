@@ -14,7 +14,7 @@ use Rattle.frequency.specs.declared.FreqBoard.{FreqBoard}
 use Rattle.frequency.specs.declared.FreqBoard.the-variants.{Nothing, Board}
 use Rattle.label.specs.declared.Label.{Label}
 use Rattle.label.specs.declared.Label.the-variants.{Access, Walk}
-use Rattle.label.specs.Table.{recordOf}
+use Rattle.label_table.specs.Table.{recordOf}
 use Rattle.departures.specs.declared.DepartureRow.{DepartureRow}
 use Rattle.model.specs.Tables.{Tables, Origin, Query, roundsOf, changeBefore, never, stops, trips, stopCount, stopAt, departure, noPickup, edgesFrom, edgeTo, walkTime, permitted}
 use Rattle.model.specs.Search.{Segment, Arrivals, State, at, delayOf, skipped, boardAt, marginOf, holdsTarget, departuresAt, markAt, notBefore, relax, bestAfter, scanTripForward, logged, rideSegments, pruned, passedOver, boarding, board, scanDepartures, scanStops, walkFrom, walkAll, emptied, roundStart, ridePhase, stamped, walkPhase, idle, rounds, setOut, access, newArrivals, begin, final}

@@ -18,10 +18,10 @@ use Rattle.frequency.specs.declared.FreqBoard.the-variants.{Nothing, Board}
 use Rattle.realtime.specs.Times.{noDelay, shifted, effectiveArrival, effectiveDeparture}
 use Rattle.label.specs.declared.Label.{Label}
 use Rattle.label.specs.declared.Label.the-variants.{Empty, Access, Transit, Walk}
-use Rattle.label.specs.Table.{recordOf}
+use Rattle.label_table.specs.Table.{recordOf}
 use Rattle.departures.specs.declared.DepartureRow.{DepartureRow}
 use Rattle.frequency.specs.Gtfs.{earliestFreqBoard}
-use Rattle.delays.specs.Delays.{DelayTables, margin}
+use Rattle.delay_tables.specs.Delays.{DelayTables, margin}
 use Rattle.model.specs.Tables.{never, Tables, Origin, Query, roundsOf, changeBefore, isEgress, egressWalk, stops, trips, stopCount, stopAt, arrival, departure, sequence, noPickup, noDropOff, noWindows, edgesFrom, edgeTo, walkTime, position, fifo, permitted}
 use Rattle.model.specs.Search.{reachedBy, Arrivals, Boardings, State, Answer, tripWindow, departureNow, marginOf, boardAt, notBefore, departuresAt, markAt, lineAt, bestAfter, improve, relax, alightings, scanTripForward, dominated, pruned, passedOver, boarding, board, scanDepartures, scanStops, walkFrom, walkAll, stamped, emptied, roundStart, ridePhase, walkPhase, idle, rounds, setOut, access, newArrivals, begin, bestTarget, rowTarget, candidatesFrom, final, answer}
 use Rattle.model.proofs.Base.{no-both}

@@ -21,7 +21,7 @@ use Rattle.frequency.proofs.Best.{found-says}
 use Rattle.realtime.specs.declared.StopDelay.{StopDelay}
 use Rattle.realtime.specs.Times.{departureGiven, arrivalGiven, sizeOf, shifted}
 use Rattle.realtime.proofs.Times.{shifted-near}
-use Rattle.delays.specs.Delays.{delayRow, stopRow, besideTrip, stopDelay}
+use Rattle.delay_tables.specs.Delays.{delayRow, stopRow, besideTrip, stopDelay}
 use Rattle.model.specs.Tables.{Tables, Query, trips, stopCount, arrival, departure, sequence, noWindows}
 use Rattle.model.specs.Search.{delayOf, delayAt, departureNow, arrivalNow, boardAt, tripWindow}
 use Rattle.model.specs.Door.{Door}

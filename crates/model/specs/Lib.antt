@@ -2,4 +2,3 @@ pub mod Tables
 pub mod Search
 pub mod Door
 pub mod Promise
-pub mod K

@@ -6,10 +6,10 @@ use mathlib.Core.Bool.{Bool, true, false}
 use mathlib.Core.List.{List, [], _∷_, List·Memᴰ}
 use Rattle.departures.specs.declared.DepartureRow.{DepartureRow}
 use Rattle.tables.specs.Timetable.{Timetable}
-use Rattle.lines.specs.Lines.{lineOf, linesOf}
+use Rattle.line_numbers.specs.Lines.{lineOf, linesOf}
 use Rattle.built.specs.Built.{AsBuilt}
 use Rattle.departures.specs.Departures.{sorted, markOf}
-use Rattle.transfers.specs.Transfers.{Input, builtTransfers}
+use Rattle.line_transfers.specs.Transfers.{Input, builtTransfers}
 use Rattle.model.specs.Tables.{never, Tables, Origin, Query, roundsOf, changeBefore, stops, trips, stopCount, stopAt, arrival, departure, noPickup, noDropOff, noWindows, edgesFrom, edgeTo, walkTime, permitted}
 use Rattle.model.specs.Search.{Answer, flagsInUse}
 

@@ -21,12 +21,12 @@ use Rattle.realtime.specs.Times.{skippedAt, effectiveDeparture, effectiveArriva
 use Rattle.label.specs.declared.Label.{Label}
 use Rattle.label.specs.declared.Label.the-variants.{Empty, Access, Transit, Walk}
 use Rattle.label.specs.Label.{noDistance}
-use Rattle.label.specs.Table.{recordOf}
+use Rattle.label_table.specs.Table.{recordOf}
 use Rattle.departures.specs.declared.DepartureRow.{DepartureRow}
 use Rattle.tables.specs.Timetable.{Timetable, timeAt}
 use Rattle.line_layout.specs.Layout.{LineTrips}
-use Rattle.transfers.specs.Transfers.{Transfer}
-use Rattle.delays.specs.Delays.{DelayTables, delayRow, stopDelay, margin}
+use Rattle.line_transfers.specs.Transfers.{Transfer}
+use Rattle.delay_tables.specs.Delays.{DelayTables, delayRow, stopDelay, margin}
 use Rattle.model.specs.Tables.{Settings, never, Tables, Origin, Query, roundsOf, changeBefore, isEgress, egressWalk, stops, trips, stopCount, stopAt, arrival, departure, sequence, noPickup, noDropOff, noWindows, edgesFrom, edgeTo, walkTime, position, fifo, usable, permitted}
 
 -- a segment (`seg_queue`), queued for the next round: trip, boarding offset, boarding stop, time shift

@@ -13,7 +13,7 @@ use Rattle.departures.proofs.Parts.{getD-slice}
 use Rattle.tables.specs.declared.Counts.{Counts}
 use Rattle.tables.specs.Timetable.{timetable}
 use Rattle.tables.specs.Sane.{Sane, CountsOk, RunsOk}
-use Rattle.transfers.specs.Transfers.{eventsBefore, transferAt}
+use Rattle.line_transfers.specs.Transfers.{eventsBefore, transferAt}
 use Rattle.model.specs.Search.{useArcFlags, flagsInUse}
 use Rattle.flags.specs.Flags.{RunsIn, runFirst, runLength, Transferring}
 use Rattle.scratch.specs.declared.Lay.{Lay}
@@ -25,10 +25,10 @@ use Rattle.asking.specs.Lent.{Lent, lent, tablesOf, queryOf, eventsOf, transfer
 use Rattle.asking.specs.Sane.{Admitted}
 use Rattle.asking.proofs.Asking.{rows-room}
 use Rattle.asking.proofs.Laws.{events-below}
-use Rattle.trip_scan.specs.declared.Net.{Net}
+use Rattle.alighting.specs.declared.Net.{Net}
 use Rattle.begin.specs.Begin.{layOf, netOf, Lends, Askable, Begun}
-use Rattle.rounds.specs.Rounds.{Started, Ended}
-use Rattle.query.specs.Parts.{modeBy, Flagging}
+use Rattle.round.specs.Rounds.{Started, Ended}
+use Rattle.replies.specs.Parts.{modeBy, Flagging}
 
 -- trips have at most 65,536 stop times each
 events-few : (t : List ℕ) (c : Counts) → RunsOk t c → CountsOk c → (i : ℕ) → i ≤ c .trips → eventsBefore (timetable t c) i ≤ i * 65536

@@ -1,5 +1,1 @@
 pub mod Given
-pub mod Replying
-pub mod Ends
-pub mod Outcomes
-pub mod Demands

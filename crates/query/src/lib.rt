@@ -1,36 +1,25 @@
 // query: the two calls that answer a query: `run_tbr`, the Rust's answer, and `query`, the promise's: `run_tbr` with arc flags put off where
 // they would skip nothing.
-// Specs: the outcome of each (Outcome); what the inner functions are given and leave (Parts); the three demands of the calls (Claims).
+// Specs: the three demands of the calls (Claims). The outcome of each call is in `replies` specs/Outcome.
 // Proves: each call's whole outcome is its definition, on every input; in proofs/Demands the three demands, of the calls.
 // Assumes nothing.
 ghost use mathlib.Core.Path.{_≡_};
-ghost use mathlib.Core.Bool.{true, false};
 ghost use mathlib.Core.List.{List};
 ghost use Prim.Native.Nat.{ℕ, _/_};
 ghost use lib.ListN.{length};
 ghost use lib.Ieee.{Float};
-ghost use Rattle.model.specs.Tables.{Tables, Query};
-ghost use Rattle.model.specs.Search.{Arrivals};
 ghost use Rattle.scratch.specs.View.{memory};
 ghost use Rattle.asking.specs.Lent.{lent, queryOf};
 ghost use Rattle.asking.specs.Sane.{Admitted};
 ghost use Rattle.begin.specs.Begin.{layOf, netOf};
-ghost use Rattle.rounds.specs.Rounds.{Ended};
-ghost use Rattle.query.specs.Outcome.{areas, lengthsOf, cleared, queueFull, settled, runTbrOutcome, queryOutcome};
-ghost use Rattle.query.specs.Parts.{outcomeBy, modeBy, answerBy, outcome, Flagging, Opened, Ending, Agrees, Replied, Finished};
+ghost use Rattle.round.specs.Rounds.{Ended};
+ghost use Rattle.replies.specs.Outcome.{areas, lengthsOf, queueFull, settled, runTbrOutcome, queryOutcome};
+ghost use Rattle.replies.specs.Parts.{outcomeBy, modeBy, answerBy, outcome, Flagging, Opened};
+use alighting::Net;
 use asking::Lengths;
 use asking::QueryCounts;
+use replies::Reply;
 use scratch::Head;
-use trip_scan::Net;
-
-// What a call gives back: the number of the first question answered no, or 0; the best total and its stop; how many candidates.
-#[repr(C)]
-pub struct Reply {
-    pub code: u32,
-    pub total: u32,
-    pub stop: u32,
-    pub candidates: u32,
-}
 
 // Are arc flags in use? Of `run_tbr` (rust) where they are not put off; of `query` where besides they skip something.
 fn in_use(
@@ -106,89 +95,6 @@ fn search(
     )
 }
 
-// Total, stop and candidates, the candidate rows written.
-fn reply_of(
-    n: QueryCounts,
-    q: &[u32],
-    work: &[u32],
-    labels: &[u32],
-    label_distances: &[f64],
-    candidates: &mut [u32],
-) -> Reply
-    requires { ⌜ Ending n (now q) (now work) (now labels) (now «label_distances») ⌝ ∗ ⌜ length (now candidates) ≡ 39 ⌝ }
-    ensures { λ r. ⌜ ((T : Tables) (Q : Query) (a : Arrivals) → Agrees T Q a n (now (q .entry)) (now (work .entry)) (now (labels .entry)) (now («label_distances» .entry)) → Replied T Q a r (now (candidates .exit))) ⌝ }
-{
-    let stops = n.timetable.stops;
-    let egress = asking::egress_rows(q, n);
-    let best = totals::best_target(work, stops, egress);
-    if best.total == 4294967295 {
-        scratch::zero_words(candidates);
-        return Reply {
-            code: 0,
-            total: best.total,
-            stop: best.stop,
-            candidates: 0,
-        };
-    }
-    let rounds = walk::tbr_max_rounds(q[2], q[3]);
-    let m = totals::candidates(
-        labels,
-        label_distances,
-        stops,
-        egress,
-        best.total,
-        3600,
-        rounds,
-        candidates,
-    );
-    Reply {
-        code: 0,
-        total: best.total,
-        stop: best.stop,
-        candidates: m as u32,
-    }
-}
-
-// Workspace and queue become 0.
-fn zero_work(work: &mut [u32], queue_a: &mut [u32], queue_b: &mut [u32])
-    ensures { λ _. ⌜ now (work .exit) ≡ cleared (now (work .entry)) ⌝ ∗ ⌜ now («queue_a» .exit) ≡ cleared (now («queue_a» .entry)) ⌝ ∗ ⌜ now («queue_b» .exit) ≡ cleared (now («queue_b» .entry)) ⌝ }
-{
-    scratch::zero_words(work);
-    scratch::zero_words(queue_a);
-    scratch::zero_words(queue_b);
-}
-
-// After the rounds: 8 with all areas but the candidate rows zero, or the answer.
-fn finish(
-    n: QueryCounts,
-    q: &[u32],
-    h: Head,
-    labels: &mut [u32],
-    label_distances: &mut [f64],
-    work: &mut [u32],
-    queue_a: &mut [u32],
-    queue_b: &mut [u32],
-    candidates: &mut [u32],
-) -> Reply
-    requires { ⌜ (h .full ≡ false → Ending n (now q) (now work) (now labels) (now «label_distances»)) ⌝ ∗ ⌜ length (now candidates) ≡ 39 ⌝ }
-    ensures { λ r. ⌜ Finished n (now (q .entry)) (h .full) (areas (now (labels .entry)) (now («label_distances» .entry)) (now (work .entry)) (now («queue_a» .entry)) (now («queue_b» .entry)) (now (candidates .entry))) (areas (now (labels .exit)) (now («label_distances» .exit)) (now (work .exit)) (now («queue_a» .exit)) (now («queue_b» .exit)) (now (candidates .exit))) r ⌝ }
-{
-    if h.full {
-        zero_work(work, queue_a, queue_b);
-        scratch::zero_words(labels);
-        scratch::zero_distances(label_distances);
-        return Reply {
-            code: 8,
-            total: 0,
-            stop: 0,
-            candidates: 0,
-        };
-    }
-    let r = reply_of(n, q, work, labels, label_distances, candidates);
-    zero_work(work, queue_a, queue_b);
-    r
-}
-
 // A query that the door admits.
 fn answer_query(
     rust: bool,
@@ -224,7 +130,7 @@ fn answer_query(
         queue_a,
         queue_b,
     );
-    finish(
+    replies::finish(
         n,
         q,
         h,

@@ -104,7 +104,7 @@ fn margin(w: &[u32]) -> bool {
 }
 
 // One stop time: skipped, departure and arrival under what the tables say of it.
-fn timed(d: delays::DelayAt, w: &[u32], g: usize) -> bool
+fn timed(d: delay_tables::DelayAt, w: &[u32], g: usize) -> bool
     requires { ⌜ g < 4096 ⌝ }
 {
     let time = at(w, g + 2);

@@ -4,7 +4,7 @@ use crate::cases::at;
 use crate::cases::both;
 use crate::cases::length_at;
 use exports::QuerySizes;
-use query::Reply;
+use replies::Reply;
 
 fn sizes(w: &[u32]) -> QuerySizes {
     QuerySizes {

@@ -28,13 +28,13 @@ use Rattle.scratch.proofs.Part.{first-at, part-at, part-length}
 use Rattle.asking.specs.declared.QueryCounts.{QueryCounts}
 use Rattle.asking.specs.Lent.{marksAt, stopRuns, departureRows}
 use Rattle.asking.proofs.Converse.{order-next}
-use Rattle.trip_scan.specs.declared.Net.{Net}
+use Rattle.alighting.specs.declared.Net.{Net}
 use Rattle.listed.specs.Listed.{Ordered}
-use Rattle.rides.specs.Laid.{Rides, Laid, Kept, otherAt, Waiting}
-use Rattle.rides.specs.Phase.{Seen}
-use Rattle.rides.specs.Going.{Going, Rode, Changing}
-use Rattle.rides.proofs.Keep.{other-kept}
-use Rattle.rides.proofs.Riding.{ride-none, ride-as}
+use Rattle.riding.specs.Laid.{Rides, Laid, Kept, otherAt, Waiting}
+use Rattle.riding.specs.Phase.{Seen}
+use Rattle.riding.specs.Going.{Going, Rode, Changing}
+use Rattle.riding.proofs.Keep.{other-kept}
+use Rattle.riding.proofs.Riding.{ride-none, ride-as}
 
 module _ (T : Tables) (Q : Query) (flagged : Bool) (round stamp : ℕ) where
   -- one stop, by its two tests

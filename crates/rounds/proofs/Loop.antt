@@ -18,11 +18,11 @@ use Rattle.scratch.proofs.Queue.{queue-length}
 use Rattle.asking.specs.declared.QueryCounts.{QueryCounts}
 use Rattle.asking.specs.Lent.{Lent, tablesOf, queryOf, delayRows, stopRows}
 use Rattle.asking.proofs.Laws.{door-of}
-use Rattle.trip_scan.specs.declared.Net.{Net}
-use Rattle.rides.specs.Laid.{Rides, Laid}
-use Rattle.rounds.specs.Round.{stateAt, idleHead, read, filled, Fed, Between, Holds, Reached, Opened, Round, Running}
-use Rattle.rounds.specs.Rounds.{overflows, Started, Ended}
-use Rattle.rounds.proofs.States.{overflow-stays, state-ran, onward-start, onward-next, onward-idle, onward-end}
+use Rattle.alighting.specs.declared.Net.{Net}
+use Rattle.riding.specs.Laid.{Rides, Laid}
+use Rattle.round.specs.Round.{stateAt, idleHead, read, filled, Fed, Between, Holds, Reached, Opened, Round, Running}
+use Rattle.round.specs.Rounds.{overflows, Started, Ended}
+use Rattle.round.proofs.States.{overflow-stays, state-ran, onward-start, onward-next, onward-idle, onward-end}
 
 -- THE HALVES OF THE QUEUE
 halves-of : (even : Bool) (qa qb : List ℕ) (k : ℕ) → length qa ≡ k → length qb ≡ k → length (read even qa qb) ≡ length (filled even qa qb)

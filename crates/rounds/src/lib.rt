@@ -1,102 +1,19 @@
-// rounds: the rounds of a query: ride phase and walk phase, one after the other, the two queue halves and the two lists of stops in turn.
-// Specs: question 8, the state after the rounds (Rounds); one round in memory (Round).
-// Proves: after `rounds` memory holds the model's `final` of the tables and the query that the lent slices say, or question 8 is answered no.
+// rounds: the rounds of a query, one after the other (`round`), the two queue halves and the two lists of stops in turn.
+// Proves: after `rounds` memory holds the model's `final` of the tables and the query that the lent slices say, or question 8 is answered no
+// (`round` specs/Rounds).
 // Assumes nothing.
 ghost use mathlib.Core.Path.{_≡_};
 ghost use mathlib.Core.Bool.{_||_};
-ghost use Prim.Native.Nat.{ℕ, _+_, _*_, _/_, _≤_, _<_};
+ghost use Prim.Native.Nat.{_/_};
 ghost use lib.ListN.{length};
-ghost use Rattle.model.specs.Tables.{Query, changeBefore};
 ghost use Rattle.scratch.specs.View.{memory};
 ghost use Rattle.asking.specs.Lent.{lent};
-ghost use Rattle.rounds.specs.Round.{idleHead, read, filled, Opened, Round};
-ghost use Rattle.rounds.specs.Rounds.{Started, Ended};
+ghost use Rattle.round.specs.Round.{idleHead, read, filled, Opened, Round};
+ghost use Rattle.round.specs.Rounds.{Started, Ended};
+use alighting::Net;
 use asking::QueryCounts;
 use scratch::Head;
 use scratch::Lay;
-use trip_scan::Net;
-use walks::Rules;
-
-// The change time before a boarding in round r: none in the first.
-fn change_before(r: u32, change: u32) -> u32
-    ensures { λ x. ⌜ ((Q : Query) → Q .change ≡ change → changeBefore Q r ≡ x) ⌝ }
-{
-    if r == 0 { 0 } else { change }
-}
-
-// ONE ROUND: the segments in `from` are ridden, the stops of lay.other boarded at; then walks. Segments are queued in `to`.
-fn round(
-    n: QueryCounts,
-    t: &[u32],
-    rows: &[u32],
-    stop_rows: &[u32],
-    built: &[u32],
-    bytes: &[u8],
-    area: &[u32],
-    distances: &[f64],
-    net: Net,
-    flagged: bool,
-    change: u32,
-    r: u32,
-    lay: Lay,
-    from: &[u32],
-    work: &mut [u32],
-    labels: &mut [u32],
-    metres: &mut [f64],
-    to: &mut [u32],
-    h: Head,
-) -> Head
-    requires { ⌜ Opened n (now t) (now rows) (now «stop_rows») (now built) (now bytes) (now area) (now distances) net lay flagged change r (memory (now work) (now labels) (now metres) h) (now from) (length (now to)) ⌝ }
-    ensures { λ x. ⌜ Round n (now (t .entry)) (now (rows .entry)) (now («stop_rows» .entry)) (now (built .entry)) (now (bytes .entry)) (now (area .entry)) (now (distances .entry)) net lay flagged change r (memory (now (work .entry)) (now (labels .entry)) (now (metres .entry)) h) (memory (now (work .exit)) (now (labels .exit)) (now (metres .exit)) x) (now (from .entry)) (now (to .entry)) (now (to .exit)) ⌝ }
-{
-    let stamp = r + 2;
-    let before = change_before(r, change);
-    let g = rides::ride_phase(
-        n,
-        t,
-        rows,
-        stop_rows,
-        built,
-        bytes,
-        area,
-        net,
-        flagged,
-        stamp,
-        before,
-        lay,
-        from,
-        work,
-        labels,
-        metres,
-        to,
-        h,
-    );
-    if g.full {
-        return g;
-    }
-    let counts = n.timetable;
-    let targets = net.target;
-    let terms = net.terms;
-    let rules = Rules {
-        counts,
-        patterns: net.patterns,
-        targets,
-        flagged,
-        wheelchair: terms.wheelchair,
-    };
-    walks::walk_phase(
-        lay,
-        rules,
-        stamp,
-        t,
-        distances,
-        bytes,
-        work,
-        labels,
-        metres,
-        g,
-    )
-}
 
 // The same with the halves of the queue in turn: an even round reads the first and fills the second.
 fn turn(
@@ -125,7 +42,7 @@ fn turn(
     ensures { λ x. ⌜ Round n (now (t .entry)) (now (rows .entry)) (now («stop_rows» .entry)) (now (built .entry)) (now (bytes .entry)) (now (area .entry)) (now (distances .entry)) net lay flagged change r (memory (now (work .entry)) (now (labels .entry)) (now (metres .entry)) h) (memory (now (work .exit)) (now (labels .exit)) (now (metres .exit)) x) (read even (now («queue_a» .entry)) (now («queue_b» .entry))) (filled even (now («queue_a» .entry)) (now («queue_b» .entry))) (filled even (now («queue_a» .exit)) (now («queue_b» .exit))) ⌝ }
 {
     if even {
-        return round(
+        return round::round(
             n,
             t,
             rows,
@@ -147,7 +64,7 @@ fn turn(
             h,
         );
     }
-    round(
+    round::round(
         n,
         t,
         rows,

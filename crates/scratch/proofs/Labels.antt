@@ -14,8 +14,8 @@ use Rattle.loops.proofs.Count.{length-tabFrom, getD-tab}
 use Rattle.label.specs.declared.Label.{Label}
 use Rattle.label.specs.declared.LabelRow.{LabelRow}
 use Rattle.label.specs.Label.{rowOf}
-use Rattle.label.specs.Table.{InTable, wordsOf, rowAt, loaded, putWords, putDistance, wordsOfAll, distancesOfAll}
-use Rattle.label.proofs.Laws.{row-back, row-other, load-store, load-other}
+use Rattle.label_table.specs.Table.{InTable, wordsOf, rowAt, loaded, putWords, putDistance, wordsOfAll, distancesOfAll}
+use Rattle.label_table.proofs.Laws.{row-back, row-other, load-store, load-other}
 use Rattle.scratch.specs.View.{labelsOf, Written}
 
 -- by whether two numbers are equal

@@ -4,5 +4,3 @@ pub mod Marking
 pub mod Steps
 pub mod Queue
 pub mod Starts
-pub mod Filling
-pub mod Turns

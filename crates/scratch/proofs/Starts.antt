@@ -11,8 +11,8 @@ use borrow.Author.Tests.{lt-ltb, le-ltb}
 use Rattle.label.specs.declared.Label.{Label}
 use Rattle.label.specs.declared.Label.the-variants.{Access}
 use Rattle.label.specs.Label.{rowOf}
-use Rattle.label.specs.Table.{InTable, recordOf, putWords, putDistance}
-use Rattle.label.proofs.Laws.{put-words-length, put-distance-length}
+use Rattle.label_table.specs.Table.{InTable, recordOf, putWords, putDistance}
+use Rattle.label_table.proofs.Laws.{put-words-length, put-distance-length}
 use Rattle.model.specs.Tables.{Tables, Query, Origin}
 use Rattle.model.specs.Search.{Arrivals, at, bestAfter, setOut}
 use Rattle.scratch.specs.declared.Lay.{Lay}

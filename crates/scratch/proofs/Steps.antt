@@ -10,8 +10,8 @@ use lib.Ieee.{Float}
 use borrow.Author.Tests.{eq-eqb, ne-eqb, lt-ltb, le-ltb}
 use Rattle.label.specs.declared.Label.{Label}
 use Rattle.label.specs.Label.{rowOf}
-use Rattle.label.specs.Table.{InTable, recordOf, putWords, putDistance}
-use Rattle.label.proofs.Laws.{put-words-length, put-distance-length}
+use Rattle.label_table.specs.Table.{InTable, recordOf, putWords, putDistance}
+use Rattle.label_table.proofs.Laws.{put-words-length, put-distance-length}
 use Rattle.model.specs.Tables.{Tables, Query, isEgress, egressWalk}
 use Rattle.model.specs.Search.{Arrivals, at, bestAfter, improve, relax}
 use Rattle.scratch.specs.declared.Lay.{Lay}

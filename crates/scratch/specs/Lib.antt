@@ -2,4 +2,3 @@ pub mod Part
 pub mod Places
 pub mod View
 pub mod Step
-pub mod Fill

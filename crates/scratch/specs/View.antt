@@ -7,7 +7,7 @@ use lib.Ieee.{Float}
 use Rattle.loops.specs.Count.{tab}
 use Rattle.label.specs.declared.Label.{Label}
 use Rattle.label.specs.Label.{rowOf}
-use Rattle.label.specs.Table.{rowAt, loaded}
+use Rattle.label_table.specs.Table.{rowAt, loaded}
 use Rattle.model.specs.Search.{Arrivals, Segment}
 use Rattle.scratch.specs.declared.Lay.{Lay}
 use Rattle.scratch.specs.declared.Head.{Head}

@@ -1,26 +1,24 @@
-// scratch: a query's state in memory (the Rust's TbrScratch): an arrival, a queued segment, an origin, a new state.
-// Specs: where the sections of the working numbers begin (Places), the state seen as the model's (View), what a call does to it
-// (Step), slices filled before a query (Fill).
+// scratch: a query's state in memory (the Rust's TbrScratch): an arrival, a queued segment, an origin.
+// Specs: where the sections of the working numbers begin (Places), parts of a list (Part), the state seen as the model's (View), what a
+// call does to it (Step).
 // Proves: best_after, improve, relax, enqueue and set_out are the model's functions on the state seen so, for all tables and queries
 // that agree with what they read, and all else in memory is as it came; every label record stays its label's row, no word left over
-// (Written); reset is the new state; fill_egress its egress stops.
-// proofs/Steps, Queue: how calls compose (step-as, step-then, queue-step, queue-then, queue-over; alight and transfer are callers);
-// proofs/Turns: from one phase to the next; proofs/Labels: the label slices are the words and distances of the model's labels (labels-are).
+// (Written). proofs/Steps, Queue: how calls compose (step-as, step-then, queue-step, queue-then, queue-over; alight and transfer are
+// callers); proofs/Labels: the label slices are the words and distances of the model's labels (labels-are).
 // Assumes nothing.
 ghost use mathlib.Core.Path.{_≡_};
 ghost use Prim.Native.Nat.{ℕ, _+_, _*_, _-_, _/_, _≤_, _<_};
-ghost use mathlib.Core.Bool.{false, cond, _&&_};
-ghost use mathlib.Core.List.{List, []};
-ghost use lib.ListN.{length, getD, set, replicate};
+ghost use mathlib.Core.Bool.{false, cond};
+ghost use mathlib.Core.List.{List};
+ghost use lib.ListN.{length, set};
 ghost use lib.Ieee.{Float};
 ghost use Rattle.label.specs.Label.{noDistance};
 ghost use Rattle.tables.specs.Timetable.{timetable};
 ghost use Rattle.model.specs.Tables.{noWindows, stopAt};
 ghost use Rattle.model.specs.Search.{improve as improved, relax as relaxed, enqueue as enqueued, setOut};
-ghost use Rattle.scratch.specs.Places.{WorkSized, Sized, Same, Counted, Grown, Walks, EgressTable, restAt};
+ghost use Rattle.scratch.specs.Places.{WorkSized, Counted, EgressTable};
 ghost use Rattle.scratch.specs.View.{memory, putSegment};
-ghost use Rattle.scratch.specs.Step.{Stamp, Ready, Step, QueueStep, Starting, StartStep, Entered, Marked, bestBy, Alighting};
-ghost use Rattle.scratch.specs.Fill.{Filled, Fresh, EgressRows, Egressed, egressOf};
+ghost use Rattle.scratch.specs.Step.{Ready, Step, QueueStep, Starting, StartStep, Entered, Marked, bestBy, Alighting};
 use label::Label;
 use tables::Counts;
 
@@ -98,7 +96,7 @@ pub fn improve(
     let best = best_after(work[at], v, h.best);
     let row = 13 * s + (stamp - 1) as usize;
     let count = mark(lay, stamp, s, v, work, h.count);
-    label::store_label(how, labels, distances, row);
+    label_table::store_label(how, labels, distances, row);
     Head {
         best,
         count,
@@ -235,7 +233,7 @@ pub fn set_out(
         walk_duration: duration,
         walk_distance: distance,
     };
-    label::store_label(how, labels, distances, label::record_of(stop, 0));
+    label_table::store_label(how, labels, distances, label_table::record_of(stop, 0));
     Head {
         best,
         count: count + 1,
@@ -312,100 +310,4 @@ pub fn transfer(
     let s = seg.stop as usize;
     let x = relax(lay, stamp, s, v, how, work, labels, distances, h);
     enqueue(lay, plain, seg, work, queue, x)
-}
-
-// The numbers from `from` up to `to` become `v`.
-pub fn fill(words: &mut [u32], from: usize, to: usize, v: u32)
-    requires { ⌜ from ≤ to ⌝ ∗ ⌜ to ≤ length (now words) ⌝ }
-    ensures { λ _. ⌜ Filled from to v (now (words .entry)) (now (words .exit)) ⌝ }
-{
-    let mut i = from;
-    while i < to {
-        words[i] = v;
-        i += 1;
-    }
-}
-
-// The numbers from `from` up to `to` become 0.
-pub fn clear(words: &mut [u32], from: usize, to: usize)
-    requires { ⌜ from ≤ to ⌝ ∗ ⌜ to ≤ length (now words) ⌝ }
-    ensures { λ _. ⌜ Filled from to 0 (now (words .entry)) (now (words .exit)) ⌝ }
-{
-    fill(words, from, to, 0);
-}
-
-// All numbers become 0.
-pub fn zero_words(words: &mut [u32])
-    ensures { λ _. ⌜ now (words .exit) ≡ replicate (length (now (words .entry))) 0 ⌝ }
-{
-    clear(words, 0, words.len());
-}
-
-// All distances become +0.0.
-pub fn zero_distances(distances: &mut [f64])
-    ensures { λ _. ⌜ now (distances .exit) ≡ replicate (length (now (distances .entry))) noDistance ⌝ }
-{
-    let mut i: usize = 0;
-    while i < distances.len() {
-        distances[i] = 0.0;
-        i += 1;
-    }
-}
-
-// Labels, their distances and the working numbers become 0.
-pub fn zero_all(work: &mut [u32], labels: &mut [u32], distances: &mut [f64])
-    ensures { λ _. ⌜ now (work .exit) ≡ replicate (length (now (work .entry))) 0 ⌝ ∗ ⌜ now (labels .exit) ≡ replicate (length (now (labels .entry))) 0 ⌝ ∗ ⌜ now (distances .exit) ≡ replicate (length (now (distances .entry))) noDistance ⌝ }
-{
-    zero_words(work);
-    zero_words(labels);
-    zero_distances(distances);
-}
-
-// A new query's state.
-pub fn reset(lay: Lay, work: &mut [u32], labels: &mut [u32], distances: &mut [f64]) -> Head
-    requires { ⌜ Sized lay (length (now work)) (length (now labels)) (length (now distances)) ⌝ }
-    ensures { λ x. ⌜ Fresh lay (memory (now (work .exit)) (now (labels .exit)) (now (distances .exit)) x) ⌝ ∗ ⌜ now (distances .exit) ≡ replicate (length (now (distances .entry))) noDistance ⌝ }
-{
-    zero_all(work, labels, distances);
-    let reach = lay.stops * 2;
-    fill(work, 0, lay.stops, 4294967295);
-    fill(work, reach, reach + lay.trips, 4294967295);
-    Head {
-        best: 4294967295,
-        count: 0,
-        queued: 0,
-        full: false,
-    }
-}
-
-// One egress stop of the query, its row at `at`, into the egress table.
-fn put_egress(lay: Lay, q: &[u32], at: usize, work: &mut [u32])
-    requires { ⌜ WorkSized lay (length (now work)) ⌝ ∗ ⌜ at + 1 < length (now q) ⌝ ∗ ⌜ getD (now q) at 0 < lay .stops ⌝ ∗ ⌜ getD (now q) (at + 1) 0 ≤ 1048575 ⌝ }
-    ensures { λ _. ⌜ now (work .exit) ≡ set (now (work .entry)) (restAt lay + getD (now (q .entry)) at 0) (getD (now (q .entry)) (at + 1) 0 + 1) ⌝ }
-{
-    let i = lay.stops * 4 + lay.trips + 128 + tables::field(q, at);
-    let d = q[at + 1];
-    work[i] = d + 1;
-}
-
-// All of them, into an empty egress table, the last row first.
-fn put_egresses(lay: Lay, q: &[u32], first: usize, n: usize, work: &mut [u32])
-    requires { ⌜ WorkSized lay (length (now work)) ⌝ ∗ ⌜ EgressRows lay (now q) first n ⌝ ∗ ⌜ Egressed [] lay (now work) (now work) ⌝ }
-    ensures { λ _. ⌜ Egressed (egressOf (now (q .entry)) first n) lay (now (work .entry)) (now (work .exit)) ⌝ }
-{
-    let mut k = n;
-    while 0 < k {
-        k -= 1;
-        put_egress(lay, q, first + 2 * k, work);
-    }
-}
-
-// The egress table: 0 for no egress stop, else its walk + 1.
-pub fn fill_egress(lay: Lay, q: &[u32], first: usize, n: usize, work: &mut [u32])
-    requires { ⌜ WorkSized lay (length (now work)) ⌝ ∗ ⌜ EgressRows lay (now q) first n ⌝ }
-    ensures { λ _. ⌜ Egressed (egressOf (now (q .entry)) first n) lay (now (work .entry)) (now (work .exit)) ⌝ }
-{
-    let rest = lay.stops * 4 + lay.trips + 128;
-    clear(work, rest, rest + lay.stops);
-    put_egresses(lay, q, first, n, work);
 }

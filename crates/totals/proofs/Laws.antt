@@ -17,7 +17,7 @@ use Rattle.loops.specs.Count.{tabFrom}
 use Rattle.model.specs.Tables.{never, Tables, Query}
 use Rattle.model.specs.Search.{Arrivals, at, reachedBy, bestTarget, rowTarget, candidatesFrom}
 use Rattle.label.specs.declared.Label.the-variants.{Empty}
-use Rattle.label.specs.Table.{recordOf}
+use Rattle.label_table.specs.Table.{recordOf}
 use Rattle.totals.specs.declared.Target.{Target}
 use Rattle.totals.specs.Totals.{targetOf, better, withStop, withReach, candidateAt, candidatesIn, ZeroFrom, Put}
 use Rattle.flags.specs.Flags.{egressAt, egressRows}

@@ -10,7 +10,7 @@ use lib.Ieee.{Float}
 use Rattle.loops.specs.Count.{tab}
 use Rattle.label.specs.declared.Label.{Label}
 use Rattle.label.specs.declared.Label.the-variants.{Empty}
-use Rattle.label.specs.Table.{recordOf, loaded}
+use Rattle.label_table.specs.Table.{recordOf, loaded}
 use Rattle.model.specs.Tables.{never}
 use Rattle.model.specs.Search.{Arrivals, reachedBy}
 use Rattle.totals.specs.declared.Target.{Target}

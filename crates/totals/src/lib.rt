@@ -7,7 +7,7 @@ ghost use Prim.Native.Nat.{ℕ, suc, _+_, _*_, _/_, _≤_, _<_};
 ghost use lib.ListN.{length, getD};
 ghost use Rattle.model.specs.Tables.{Tables, Query, never};
 ghost use Rattle.model.specs.Search.{Arrivals, bestTarget, rowTarget, reachedBy, candidatesFrom};
-ghost use Rattle.label.specs.Table.{recordOf, loaded};
+ghost use Rattle.label_table.specs.Table.{recordOf, loaded};
 ghost use Rattle.totals.specs.Totals.{EgressOk, targetOf, EarliestOk, Reached, better, withStop, withReach, LabelsOk, Labelled, candidatesIn, ZeroFrom, Put};
 ghost use Rattle.flags.specs.Flags.{egressRows};
 ghost use mathlib.Core.Bool.{_&&_};
@@ -133,7 +133,7 @@ fn reached_in(labels: &[u32], distances: &[f64], stops: usize, stop: u32, row: u
     requires { ⌜ LabelsOk stops (now labels) (now distances) ⌝ ∗ ⌜ (stop < stops) × (row < 13) ⌝ }
     ensures { λ r. ⌜ r ≡ reachedBy (loaded (now (labels .entry)) (now (distances .entry)) (recordOf stop row)) ⌝ }
 {
-    reached_by(label::load_label(labels, distances, label::record_of(stop, row)))
+    reached_by(label_table::load_label(labels, distances, label_table::record_of(stop, row)))
 }
 
 // The least total over the egress stops' labels of a row, with its stop.

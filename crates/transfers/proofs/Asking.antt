@@ -20,7 +20,7 @@ use Rattle.departures.specs.Listed.{RowsListed, RunsListed, listedOk, stopRunsO
 use Rattle.departures.proofs.Yes.{rows-listed, runs-listed}
 use Rattle.transfers.specs.declared.Built.{Built}
 use Rattle.transfers.specs.declared.Built.the-variants.{Refused, Rows}
-use Rattle.transfers.specs.Transfers.{eventsBefore}
+use Rattle.line_transfers.specs.Transfers.{eventsBefore}
 use Rattle.transfers.specs.Call.{Admitted, Areas, Lent, LinesBelow, inputOf, linesOk, outcome, outcomeOf, question1, question2, question3, question4, question5, settle, settled, sizesOk, verdict}
 
 -- a test that is asked only where the one before it is yes

@@ -13,7 +13,7 @@ use Rattle.tables.specs.declared.Counts.{Counts}
 use Rattle.tables.specs.Tables.{edgeOf, timeOf, tripOf, windowOf}
 use Rattle.tables.specs.Door.{countsOk, edgeNumbers, edgeRanges, numbersOk, rangesOk, runsOk, slicesOk, stopTimeNumbers, stopTimeRanges, tripRanges, tripRuns, windowRanges}
 use Rattle.departures.specs.Listed.{atStopsOk, listedOk, rowAtStop, rowNumbers, rowsOk, runIn, stopRowsOk, stopRunsOk}
-use Rattle.transfers.specs.Transfers.{departuresOfLine, eventsBefore, eventsOf, firstNotBefore, runsFrom, transferTo, transfersOf, wordsOf}
+use Rattle.line_transfers.specs.Transfers.{departuresOfLine, eventsBefore, eventsOf, firstNotBefore, runsFrom, transferTo, transfersOf, wordsOf}
 use Rattle.transfers.specs.Call.{Lent, answerOf, areaWith, areas, lent, linesOk, outcome, question1, question2, question3, question4, question5, roomOk, settled, sizesOk, verdict}
 
 -- two lists of numbers are the same

@@ -14,7 +14,7 @@ use Rattle.sorts.specs.Sort.{insertBy, sortBy}
 use Rattle.sorts.specs.Orders.{All, Rising, cons, keep, nil}
 use Rattle.sorts.proofs.Orders.{sort-rising, sort-stable}
 use Rattle.sorts.proofs.Places.{rising-all, rising-tail}
-use Rattle.transfers.proofs.Lists.{all-append, all-imp, keep-append, keep-every, keep-none-of}
+use Rattle.line_transfers.proofs.Lists.{all-append, all-imp, keep-append, keep-every, keep-none-of}
 
 clash : false ≡ true → ⊥
 clash z = let y : _≡_ {A = ℕ} 0 1 = cc in omega arith

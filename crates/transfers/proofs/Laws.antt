@@ -22,9 +22,9 @@ use Rattle.departures.specs.Departures.{rowDeparture, runAt, runFirst}
 use Rattle.departures.proofs.Sorting.{all-tab}
 use Rattle.transfers.specs.declared.Built.{Built}
 use Rattle.transfers.specs.declared.Built.the-variants.{Refused, Rows}
-use Rattle.transfers.specs.Transfers.{Input, Transfer, allTransfers, builtTransfers, departuresOfLine, eventsBefore, eventsOf, firstNotBefore, runsFrom, transferAt, transferTo, transfersAt, transfersOf, wordsOf}
+use Rattle.line_transfers.specs.Transfers.{Input, Transfer, allTransfers, builtTransfers, departuresOfLine, eventsBefore, eventsOf, firstNotBefore, runsFrom, transferAt, transferTo, transfersAt, transfersOf, wordsOf}
 use Rattle.transfers.specs.Call.{Admitted, Areas, Lent, Outcome, areaWith, inputOf, outcome, outcomeOf, roomOk, settle, settled, verdict, written}
-use Rattle.transfers.proofs.Lists.{all-both, all-flatten, all-imp, all-keep, all-kept, all-take, length-keep}
+use Rattle.line_transfers.proofs.Lists.{all-both, all-flatten, all-imp, all-keep, all-kept, all-take, length-keep}
 use Rattle.transfers.proofs.Firsts.{Climbs, Earliest, all-members, climbs, earliest, none, picked}
 use Rattle.transfers.proofs.Asking.{admitted}
 use Rattle.transfers.proofs.Written.{Room, events-length, room-yes}

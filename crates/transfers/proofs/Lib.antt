@@ -1,9 +1,5 @@
-pub mod Laying
-pub mod Lists
-pub mod Grouping
 pub mod Packing
 pub mod Asking
-pub mod Events
 pub mod Runs
 pub mod Meaning
 pub mod Written

@@ -20,14 +20,14 @@ use Rattle.departures.specs.declared.DepartureRow.{DepartureRow}
 use Rattle.departures.specs.Departures.{listedAt, rowDeparture, sorted}
 use Rattle.departures.specs.Packed.{unTrip}
 use Rattle.departures.proofs.Sorting.{all-tab}
-use Rattle.transfers.specs.Transfers.{Input, allTransfers, builtTransfers, departuresOfLine, eventsOf, firstNotBefore, transferOf, transferTo, transfersOf}
-use Rattle.transfers.specs.Packed.{Prepared, alightKeys, allKeys, depX, eventKeys, lineX, prepared, targets, toGroup}
+use Rattle.line_transfers.specs.Transfers.{Input, allTransfers, builtTransfers, departuresOfLine, eventsOf, firstNotBefore, transferOf, transferTo, transfersOf}
+use Rattle.line_transfers.specs.Packed.{Prepared, alightKeys, allKeys, depX, eventKeys, lineX, prepared, targets, toGroup}
 use Rattle.transfers.specs.Call.{Admitted, Lent, inputOf}
-use Rattle.transfers.proofs.Lists.{all-flatten, all-imp, all-kept, all-take, flatten-map, flatten-up-to, keep-map, keep-none-of, map-take}
-use Rattle.transfers.proofs.Grouping.{line-hi}
+use Rattle.line_transfers.proofs.Lists.{all-flatten, all-imp, all-kept, all-take, flatten-map, flatten-up-to, keep-map, keep-none-of, map-take}
+use Rattle.line_transfers.proofs.Grouping.{line-hi}
 use Rattle.transfers.proofs.Packing.{pack-departure, pack-line, pack-trip}
 use Rattle.transfers.proofs.Runs.{RowFits, packOf, rows-fit, run-is, workOf}
-use Rattle.transfers.proofs.Events.{event-time}
+use Rattle.event_transfers.proofs.Events.{event-time}
 
 -- within a line, the order by line and departure is that by departure
 same-order : (l a b : ℕ) → eqb (lineX a) l ≡ true → eqb (lineX b) l ≡ true → leb (hi a) (hi b) ≡ leb (depX a) (depX b)

@@ -19,9 +19,9 @@ use Rattle.departures.proofs.Flat.{listed-slice}
 use Rattle.departures.proofs.Laws.{stops-apart}
 use Rattle.departures.proofs.Parts.{part-row, stop-known}
 use Rattle.departures.proofs.Sorting.{all-tab}
-use Rattle.transfers.specs.Packed.{Keys, Lines, SortedRuns, lineX, packLine, packedAt}
+use Rattle.line_transfers.specs.Packed.{Keys, Lines, SortedRuns, lineX, packLine, packedAt}
 use Rattle.transfers.specs.Call.{Admitted, Lent, inputOf}
-use Rattle.transfers.proofs.Lists.{all-imp, all-map, map-slice, rising-at}
+use Rattle.line_transfers.proofs.Lists.{all-imp, all-map, map-slice, rising-at}
 use Rattle.transfers.proofs.Packing.{Fits, pack-line, row-fits}
 
 abbrev pub packOf : Lent → DepartureRow → ℕ

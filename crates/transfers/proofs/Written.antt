@@ -19,12 +19,13 @@ use Rattle.tables.specs.Timetable.{Timetable}
 use Rattle.departures.specs.declared.DepartureRow.{DepartureRow}
 use Rattle.departures.specs.Departures.{sortStops}
 use Rattle.transfers.specs.declared.Built.the-variants.{Refused, Rows}
-use Rattle.transfers.specs.Transfers.{Input, allTransfers, builtTransfers, eventsBefore, eventsOf, runsFrom, transferOf, wordsOf}
-use Rattle.transfers.specs.Packed.{Laid, Lines, Most, Prepared, SortedRuns, Walk, allKeys, laid, lay, layEvents, prepared, settledKeys, walk, walkAreas}
+use Rattle.line_transfers.specs.Transfers.{Input, allTransfers, builtTransfers, eventsBefore, eventsOf, runsFrom, transferOf, wordsOf}
+use Rattle.line_transfers.specs.Packed.{Laid, Lines, Most, Prepared, SortedRuns, Walk, allKeys, laid, lay, layEvents, prepared, walk}
+use Rattle.transfers.specs.Settled.{settledKeys, walkAreas}
 use Rattle.transfers.specs.Call.{Admitted, Areas, Lent, Outcome, areaWith, areas, inputOf, outcomeOf, roomOk, settled, written}
-use Rattle.transfers.proofs.Lists.{all-flatten, flatten-map, length-map, within-is}
-use Rattle.transfers.proofs.Events.{total-is}
-use Rattle.transfers.proofs.Laying.{events-laid, events-runs, keyWords, lay-area}
+use Rattle.line_transfers.proofs.Lists.{all-flatten, flatten-map, length-map, within-is}
+use Rattle.event_transfers.proofs.Events.{total-is}
+use Rattle.line_transfers.proofs.Laying.{events-laid, events-runs, keyWords, lay-area}
 use Rattle.transfers.proofs.Packing.{pack-offset, pack-trip}
 use Rattle.transfers.proofs.Runs.{RowFits, numbersOf, packOf, sorted-runs, workOf}
 use Rattle.transfers.proofs.Meaning.{all-keys, events-are, preparedOf, rowEvents, all-are, transfers-fit}

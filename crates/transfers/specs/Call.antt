@@ -16,7 +16,7 @@ use Rattle.departures.specs.Departures.{listedAt}
 use Rattle.departures.specs.Listed.{stopRunsOk, listedOk, RowsListed}
 use Rattle.transfers.specs.declared.Built.{Built}
 use Rattle.transfers.specs.declared.Built.the-variants.{Refused, Rows}
-use Rattle.transfers.specs.Transfers.{Input, allTransfers, eventsOf, eventsBefore, wordsOf, runsFrom}
+use Rattle.line_transfers.specs.Transfers.{Input, allTransfers, eventsOf, eventsBefore, wordsOf, runsFrom}
 
 -- what is lent: the timetable and its counts, each trip's line and how many lines there are, the listed departures
 -- (a run for each stop, d rows), and the transfer time in seconds

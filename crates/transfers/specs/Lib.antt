@@ -1,3 +1,2 @@
-pub mod Transfers
 pub mod Call
-pub mod Packed
+pub mod Settled

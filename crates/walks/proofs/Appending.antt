@@ -10,7 +10,7 @@ use lib.Seq.{take-suc, getD-drop}
 use lib.Dec.{eqb}
 use borrow.Author.Tests.{eq-eqb, ne-eqb}
 use Rattle.sorts.specs.Orders.{keep}
-use Rattle.transfers.proofs.Lists.{keep-append}
+use Rattle.line_transfers.proofs.Lists.{keep-append}
 use Rattle.model.specs.Tables.{Tables, Query}
 use Rattle.model.specs.Search.{stamped}
 use Rattle.scratch.specs.declared.Lay.{Lay}

@@ -10,7 +10,7 @@ use crate::words::say_number;
 use crate::words::say_time;
 use crate::words::wide;
 use exports::QuerySizes;
-use query::Reply;
+use replies::Reply;
 
 // The total of "no way".
 const NEVER: u32 = 4294967295;

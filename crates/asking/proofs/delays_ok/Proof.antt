@@ -2,8 +2,8 @@ use Prim.Native.Nat.{ℕ}
 use Rattle.tables.specs.Timetable.{timetable}
 use mathlib.Core.Path.{_∙_, ap₂}
 use mathlib.Core.List.{List}
-use Rattle.delays.specs.Asked.{rowsAsked}
-use Rattle.delays.specs.Flat.{delayTables}
+use Rattle.delay_tables.specs.Asked.{rowsAsked}
+use Rattle.delay_tables.specs.Flat.{delayTables}
 use borrow.Author.Needs.{needs}
 use Rattle.asking.proofs.delays_ok.Statement.{statement}
 use Rattle.asking.proofs.delays_ok.Tie as tie
@@ -11,7 +11,7 @@ use Rattle.asking.proofs.delays_ok.Reads as reads
 use Rattle.asking.proofs.delays_ok.Lts as lts
 use Rattle.asking.proofs.delay_rows.Reads as delay-rows-reads
 use Rattle.asking.proofs.stop_rows.Reads as stop-rows-reads
-use Rattle.delays.proofs.rows_asked.Reads as rows-asked-reads
+use Rattle.delay_tables.proofs.rows_asked.Reads as rows-asked-reads
 
 cast-rows-asked : tie.Need-cast-rows-asked
 cast-rows-asked c = search needs

@@ -1,5 +1,5 @@
 use denote.Ref.{now}
-use Rattle.scratch.proofs.Filling.{sized-same}
+use Rattle.reset.proofs.Filling.{sized-same}
 use Rattle.begin.proofs.Reading.{askable-as, layable}
 use Rattle.begin.proofs.Beginning.{sized-as, access-needs, begins}
 use borrow.Author.Needs.{needs}

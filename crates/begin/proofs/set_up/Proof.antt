@@ -1,6 +1,6 @@
 use mathlib.Core.Path.{_∙_}
 use denote.Ref.{now}
-use Rattle.scratch.proofs.Filling.{sized-same}
+use Rattle.reset.proofs.Filling.{sized-same}
 use Rattle.begin.proofs.Laying.{egress-over, laid-out}
 use borrow.Author.Needs.{needs}
 use Rattle.begin.proofs.set_up.Statement.{statement}

@@ -1,13 +1,13 @@
 use denote.Ref.{now}
 use native.Mathlib.Omega.{arith}
 use lib.ListN.{length-set}
-use Rattle.boardings.proofs.Reading.{linked-as}
+use Rattle.pruning.proofs.Reading.{linked-as}
 use borrow.Author.Needs.{needs}
 use Rattle.boardings.proofs.link.Statement.{statement}
 use Rattle.boardings.proofs.link.Tie as tie
 use Rattle.boardings.proofs.link.Reads as reads
 use Rattle.boardings.proofs.link.Lts as lts
-use Rattle.boardings.proofs.first_of.Reads as first-of-reads
+use Rattle.pruning.proofs.first_of.Reads as first-of-reads
 
 -- src/lib.rt:138:14
 mul-at : tie.Need-mul-at

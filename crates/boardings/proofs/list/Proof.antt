@@ -1,6 +1,6 @@
 use denote.Ref.{now}
 use borrow.Author.Tests.{not-true, not-false}
-use Rattle.boardings.proofs.Reading.{listed-no, listed-seen, listed-new}
+use Rattle.pruning.proofs.Reading.{listed-no, listed-seen, listed-new}
 use borrow.Author.Needs.{needs}
 use Rattle.boardings.proofs.list.Statement.{statement}
 use Rattle.boardings.proofs.list.Tie as tie

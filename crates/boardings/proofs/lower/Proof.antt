@@ -1,5 +1,5 @@
 use denote.Ref.{now}
-use Rattle.boardings.proofs.Reading.{lowered-no, lowered-yes}
+use Rattle.pruning.proofs.Reading.{lowered-no, lowered-yes}
 use borrow.Author.Needs.{needs}
 use Rattle.boardings.proofs.lower.Statement.{statement}
 use Rattle.boardings.proofs.lower.Tie as tie

@@ -1,7 +1,7 @@
 use denote.Ref.{now}
 use native.Mathlib.Omega.{arith}
 use lib.ListN.{length-set}
-use Rattle.boardings.proofs.Reading.{stamped-as}
+use Rattle.pruning.proofs.Reading.{stamped-as}
 use borrow.Author.Needs.{needs}
 use Rattle.boardings.proofs.stamp_trip.Statement.{statement}
 use Rattle.boardings.proofs.stamp_trip.Tie as tie

@@ -1,10 +1,10 @@
-use Rattle.delays.specs.Flat.{delaysAlone}
+use Rattle.delay_tables.specs.Flat.{delaysAlone}
 use denote.Ref.{now}
-use Rattle.delays.specs.Door.{told}
+use Rattle.delay_tables.specs.Door.{told}
 use Rattle.loops.specs.Iter.{hit, miss}
 use Rattle.delays.proofs.Search.{found-hit, found-miss}
 use Rattle.loops.proofs.Search.{hit-below}
-use Rattle.delays.specs.Delays.{delayRow}
+use Rattle.delay_tables.specs.Delays.{delayRow}
 use Rattle.delays.proofs.Door.{admitted, delay-given, delay-refused}
 use mathlib.Core.Path.{_∙_, ap, sym}
 use borrow.Author.Needs.{needs}

@@ -1,8 +1,8 @@
-use Rattle.delays.specs.Flat.{stopCount, stopRowAt}
+use Rattle.delay_tables.specs.Flat.{stopCount, stopRowAt}
 use Rattle.loops.proofs.Iter.{range-again, range-left}
 use Rattle.loops.specs.Iter.{range}
 use borrow.Author.Needs.{needs}
-use Rattle.delays.specs.Delays.{givenSize, largest, orLarger}
+use Rattle.delay_tables.specs.Delays.{givenSize, largest, orLarger}
 use native.Mathlib.Omega.{arith}
 use mathlib.Core.Path.{_≡_, refl}
 use Prim.Native.Nat.{_-_}

@@ -2,8 +2,8 @@ use Rattle.realtime.specs.Times.{sizeOf}
 use Rattle.loops.proofs.Iter.{range-again, range-left}
 use Rattle.loops.specs.Iter.{range}
 use borrow.Author.Needs.{needs}
-use Rattle.delays.specs.Delays.{largest, orLarger}
-use Rattle.delays.specs.Flat.{delayCount, delayRowAt}
+use Rattle.delay_tables.specs.Delays.{largest, orLarger}
+use Rattle.delay_tables.specs.Flat.{delayCount, delayRowAt}
 use native.Mathlib.Omega.{arith}
 use mathlib.Core.Path.{_≡_, refl}
 use Prim.Native.Nat.{_-_}

@@ -1,5 +1,5 @@
-use Rattle.delays.specs.Flat.{stopsAlone}
-use Rattle.delays.specs.Delays.{stopRow}
+use Rattle.delay_tables.specs.Flat.{stopsAlone}
+use Rattle.delay_tables.specs.Delays.{stopRow}
 use denote.Ref.{now}
 use Rattle.delays.proofs.Search.{found-hit, found-miss}
 use Rattle.loops.proofs.Search.{hit-below}

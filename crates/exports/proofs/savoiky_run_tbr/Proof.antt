@@ -2,7 +2,7 @@ use denote.Ref.{now}
 use mathlib.Core.Path.{ap, _∙_}
 use Rattle.asking.specs.declared.QueryCounts.{QueryCounts}
 use Rattle.asking.specs.Lent.{lent}
-use Rattle.query.specs.Outcome.{areas, runTbrOutcome}
+use Rattle.replies.specs.Outcome.{areas, runTbrOutcome}
 use borrow.Author.Needs.{needs}
 use Rattle.exports.proofs.savoiky_run_tbr.Statement.{statement}
 use Rattle.exports.proofs.savoiky_run_tbr.Tie as tie

@@ -2,7 +2,7 @@ use Rattle.flags.proofs.Laws.{event-at, some-yes, some-again, some-left
 use Rattle.flags.specs.Flags.{Patterned}
 use Rattle.model.specs.Search.{targetCells, holdsTarget}
 use Rattle.model.specs.Tables.{Tables, Query}
-use Rattle.transfers.specs.Transfers.{transferAt}
+use Rattle.line_transfers.specs.Transfers.{transferAt}
 use Rattle.loops.specs.Iter.{someIn}
 use Prim.Native.Nat.{ℕ, _+_, _-_}
 use mathlib.Core.Bool.{not}

@@ -2,7 +2,7 @@ use Rattle.flags.proofs.Laws.{tripSkips, transfers-first, events-none, 
 use Rattle.flags.specs.Flags.{Patterned, Transferring}
 use Rattle.model.specs.Search.{targetCells, skipsTransfer}
 use Rattle.model.specs.Tables.{Tables, Query}
-use Rattle.transfers.specs.Transfers.{eventsBefore}
+use Rattle.line_transfers.specs.Transfers.{eventsBefore}
 use Rattle.tables.specs.Timetable.{timetable}
 use Rattle.loops.specs.Iter.{someIn}
 use Prim.Native.Nat.{ℕ, _+_, _-_}

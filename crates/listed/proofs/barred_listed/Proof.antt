@@ -9,7 +9,7 @@ use Rattle.listed.proofs.barred_listed.Reads as reads
 use Rattle.listed.proofs.barred_listed.Lts as lts
 use Rattle.boarding.proofs.permitted.Reads as permitted-reads
 use Rattle.boarding.proofs.skipped.Reads as skipped-reads
-use Rattle.boardings.proofs.pruned.Reads as pruned-reads
+use Rattle.pruning.proofs.pruned.Reads as pruned-reads
 use Rattle.tables.proofs.time.Reads as time-reads
 use Rattle.tables.proofs.trip.Reads as trip-reads
 

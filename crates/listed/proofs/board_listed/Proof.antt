@@ -9,7 +9,7 @@ use Rattle.listed.proofs.board_listed.Tie as tie
 use Rattle.listed.proofs.board_listed.Reads as reads
 use Rattle.listed.proofs.board_listed.Lts as lts
 use Rattle.boarding.proofs.board_at.Reads as board-at-reads
-use Rattle.boardings.proofs.passed_over.Reads as passed-over-reads
+use Rattle.pruning.proofs.passed_over.Reads as passed-over-reads
 use Rattle.listed.proofs.barred_listed.Reads as barred-listed-reads
 
 -- src/lib.rt:115:8

@@ -1,15 +1,15 @@
 use mathlib.Core.Path.{refl}
 use denote.Ref.{now}
 use Rattle.asking.specs.Lent.{lent}
-use Rattle.query.specs.Outcome.{areas}
-use Rattle.query.proofs.Ends.{ending}
-use Rattle.query.proofs.Outcomes.{finished}
+use Rattle.replies.specs.Outcome.{areas}
+use Rattle.replies.proofs.Ends.{ending}
+use Rattle.replies.proofs.Outcomes.{finished}
 use borrow.Author.Needs.{needs}
 use Rattle.query.proofs.answer_query.Statement.{statement}
 use Rattle.query.proofs.answer_query.Tie as tie
 use Rattle.query.proofs.answer_query.Reads as reads
 use Rattle.query.proofs.answer_query.Lts as lts
-use Rattle.query.proofs.finish.Reads as finish-reads
+use Rattle.replies.proofs.finish.Reads as finish-reads
 use Rattle.query.proofs.search.Reads as search-reads
 
 -- src/lib.rt:230:9

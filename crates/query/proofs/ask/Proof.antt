@@ -2,8 +2,8 @@ use mathlib.Core.Path.{sym, _∙_}
 use denote.Ref.{now}
 use Rattle.asking.specs.Lent.{lent}
 use Rattle.asking.proofs.Yes.{admitted}
-use Rattle.query.specs.Outcome.{areas}
-use Rattle.query.proofs.Outcomes.{refused-is, admitted-is}
+use Rattle.replies.specs.Outcome.{areas}
+use Rattle.replies.proofs.Outcomes.{refused-is, admitted-is}
 use borrow.Author.Needs.{needs}
 use Rattle.query.proofs.ask.Statement.{statement}
 use Rattle.query.proofs.ask.Tie as tie

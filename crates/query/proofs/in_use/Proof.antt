@@ -4,7 +4,7 @@ use Prim.Native.Nat.{ℕ}
 use denote.Ref.{now}
 use Rattle.flags.specs.Flags.{Transferring}
 use Rattle.asking.specs.Lent.{lent, tablesOf, queryOf}
-use Rattle.trip_scan.specs.declared.Net.{Net}
+use Rattle.alighting.specs.declared.Net.{Net}
 use Rattle.query.proofs.Given.{transferring, runs-in, mode-rust, mode-promise}
 use borrow.Author.Needs.{needs}
 use Rattle.query.proofs.in_use.Statement.{statement}

@@ -1,10 +1,10 @@
-use Rattle.rides.proofs.Phased.{going-first, going-then, phase-is-ride, phase-over, phase-plain, phase-then, waiting-then}
+use Rattle.riding.proofs.Phased.{going-first, going-then, phase-is-ride, phase-over, phase-plain, phase-then, waiting-then}
 use borrow.Author.Needs.{needs}
 use Rattle.rides.proofs.ride_phase.Statement.{statement}
 use Rattle.rides.proofs.ride_phase.Tie as tie
 use Rattle.rides.proofs.ride_phase.Reads as reads
 use Rattle.rides.proofs.ride_phase.Lts as lts
-use Rattle.rides.proofs.ride_segments.Reads as ride-segments-reads
+use Rattle.segments.proofs.ride_segments.Reads as ride-segments-reads
 use Rattle.rides.proofs.scan_stops.Reads as scan-stops-reads
 
 -- src/lib.rt:528:9

@@ -11,7 +11,7 @@ use Rattle.listed.proofs.departures_at.Reads as departures-at-reads
 use Rattle.listed.proofs.not_before.Reads as not-before-reads
 use Rattle.rides.proofs.less.Reads as less-reads
 use Rattle.rides.proofs.marked.Reads as marked-reads
-use Rattle.rides.proofs.scan_departures.Reads as scan-departures-reads
+use Rattle.departure_scan.proofs.scan_departures.Reads as scan-departures-reads
 
 -- src/lib.rt:254:17
 mul-after : tie.Need-mul-after

@@ -1,8 +1,8 @@
-use Rattle.rides.proofs.Later.{stops-later}
+use Rattle.riding.proofs.Later.{stops-later}
 use Rattle.rides.proofs.Stopping.{other-in, other-length, stops-end, stops-turn}
 use denote.Ref.{now}
-use Rattle.rides.proofs.Phased.{going-on}
-use Rattle.rides.proofs.Keep.{changing-kept, waiting-kept}
+use Rattle.riding.proofs.Phased.{going-on}
+use Rattle.riding.proofs.Keep.{changing-kept, waiting-kept}
 use native.Mathlib.Omega.{arith}
 use mathlib.Core.Path.{_∙_, refl, sym}
 use Rattle.model.specs.Search.{scanStops}
@@ -10,8 +10,8 @@ use Rattle.scratch.specs.Part.{part}
 use Rattle.scratch.specs.View.{memory}
 use lib.ListN.{drop}
 use Prim.Native.Nat.{_-_, _+_}
-use Rattle.rides.proofs.Riding.{Riding, ride-end, ride-over, ride-start, ride-turn}
-use Rattle.rides.specs.Going.{Changing}
+use Rattle.riding.proofs.Riding.{Riding, ride-end, ride-over, ride-start, ride-turn}
+use Rattle.riding.specs.Going.{Changing}
 use Rattle.rides.proofs.scan_stops.Statement.{statement}
 use Rattle.rides.proofs.scan_stops.Tie as tie
 use Rattle.rides.proofs.scan_stops.Reads as reads

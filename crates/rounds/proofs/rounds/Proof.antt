@@ -2,7 +2,7 @@ use Rattle.walk.proofs.Laws.{rounds-most}
 use Prim.Native.Nat.{_-_}
 use mathlib.Core.Path.{refl, sym, _∙_}
 use Rattle.asking.specs.Lent.{lent, queryOf, tablesOf}
-use Rattle.rounds.specs.Round.{Running}
+use Rattle.round.specs.Round.{Running}
 use denote.Ref.{now}
 use borrow.Author.Needs.{needs}
 use Rattle.scratch.specs.View.{memory}

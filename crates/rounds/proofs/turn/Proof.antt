@@ -5,7 +5,7 @@ use Rattle.rounds.proofs.turn.Statement.{statement}
 use Rattle.rounds.proofs.turn.Tie as tie
 use Rattle.rounds.proofs.turn.Reads as reads
 use Rattle.rounds.proofs.turn.Lts as lts
-use Rattle.rounds.proofs.round.Reads as round-reads
+use Rattle.round.proofs.round.Reads as round-reads
 
 -- src/lib.rt:128:9
 round-requires : tie.Need-round-requires

@@ -1,4 +1,4 @@
-use Rattle.label.specs.Table.{loaded}
+use Rattle.label_table.specs.Table.{loaded}
 use Rattle.model.specs.Search.{reachedBy}
 use mathlib.Core.Path.{ap, _∙_}
 use native.Mathlib.Omega.{arith}
@@ -8,8 +8,8 @@ use Rattle.totals.proofs.reached_in.Statement.{statement}
 use Rattle.totals.proofs.reached_in.Tie as tie
 use Rattle.totals.proofs.reached_in.Reads as reads
 use Rattle.totals.proofs.reached_in.Lts as lts
-use Rattle.label.proofs.load_label.Reads as load-label-reads
-use Rattle.label.proofs.record_of.Reads as record-of-reads
+use Rattle.label_table.proofs.load_label.Reads as load-label-reads
+use Rattle.label_table.proofs.record_of.Reads as record-of-reads
 use Rattle.totals.proofs.reached_by.Reads as reached-by-reads
 
 -- src/lib.rt:133:53

@@ -3,7 +3,7 @@ use Rattle.totals.specs.Totals.{Labelled, withReach}
 use Rattle.flags.specs.Flags.{egressRows}
 use Rattle.model.specs.Search.{Arrivals, rowTarget, reachedBy}
 use Rattle.model.specs.Tables.{Tables, Query, never}
-use Rattle.label.specs.Table.{recordOf, loaded}
+use Rattle.label_table.specs.Table.{recordOf, loaded}
 use lib.ListN.{length}
 use Prim.Native.Nat.{ℕ, _+_, _*_, _-_, _/_, _<_}
 use mathlib.Core.Path.{_≡_, refl, sym, ap, ap₂, _∙_}

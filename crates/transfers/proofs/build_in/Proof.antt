@@ -8,7 +8,7 @@ use Rattle.transfers.proofs.build_in.Tie as tie
 use Rattle.transfers.proofs.build_in.Reads as reads
 use Rattle.transfers.proofs.build_in.Lts as lts
 use Rattle.departures.proofs.sort_stops.Reads as sort-stops-reads
-use Rattle.transfers.proofs.line_ends.Reads as line-ends-reads
+use Rattle.line_transfers.proofs.line_ends.Reads as line-ends-reads
 use Rattle.transfers.proofs.pack_lines.Reads as pack-lines-reads
 use Rattle.transfers.proofs.settle.Reads as settle-reads
 

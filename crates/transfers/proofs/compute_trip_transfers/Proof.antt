@@ -2,7 +2,7 @@ use lib.ListN.{length}
 use mathlib.Core.Path.{sym, _∙_}
 use denote.Ref.{now}
 use Rattle.transfers.specs.Call.{lent, areas}
-use Rattle.transfers.proofs.Lists.{repeat-room}
+use Rattle.line_transfers.proofs.Lists.{repeat-room}
 use Rattle.transfers.proofs.Asking.{admitted, answered, refused}
 use borrow.Author.Needs.{needs}
 use Rattle.transfers.proofs.compute_trip_transfers.Statement.{statement}

@@ -1,5 +1,5 @@
 use Rattle.transfers.proofs.Packing.{pack-line}
-use Rattle.transfers.specs.Packed.{packLine, packedAt}
+use Rattle.line_transfers.specs.Packed.{packLine, packedAt}
 use denote.Ref.{now}
 use borrow.Author.Needs.{needs}
 use lib.ListN.{getD, length, length-set, set}

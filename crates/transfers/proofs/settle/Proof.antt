@@ -1,5 +1,5 @@
 use Rattle.transfers.proofs.Written.{settle-most, settle-no, settle-yes}
-use Rattle.transfers.specs.Packed.{prepared}
+use Rattle.line_transfers.specs.Packed.{prepared}
 use Rattle.transfers.specs.Call.{areas}
 use borrow.Author.Tests.{not-false, not-true}
 use denote.Ref.{now}
@@ -8,10 +8,10 @@ use Rattle.transfers.proofs.settle.Statement.{statement}
 use Rattle.transfers.proofs.settle.Tie as tie
 use Rattle.transfers.proofs.settle.Reads as reads
 use Rattle.transfers.proofs.settle.Lts as lts
-use Rattle.transfers.proofs.all_events.Reads as all-events-reads
-use Rattle.transfers.proofs.most_all.Reads as most-all-reads
+use Rattle.event_transfers.proofs.all_events.Reads as all-events-reads
+use Rattle.event_transfers.proofs.most_all.Reads as most-all-reads
 use Rattle.transfers.proofs.room_ok.Reads as room-ok-reads
-use Rattle.transfers.proofs.total.Reads as total-reads
+use Rattle.event_transfers.proofs.total.Reads as total-reads
 
 most-all-requires : tie.Need-most-all-requires
 most-all-requires c κs = search needs

@@ -1,7 +1,7 @@
-use Rattle.trip_scan.proofs.Queuing.{queue-as}
-use Rattle.trip_scan.proofs.Transfers.{scan-plain, scan-flagged}
-use Rattle.trip_scan.proofs.Keeping.{nets-kept, netted-kept}
-use Rattle.trip_scan.specs.Scan.{Nets}
+use Rattle.transferring.proofs.Queuing.{queue-as}
+use Rattle.transferring.proofs.Transfers.{scan-plain, scan-flagged}
+use Rattle.transferring.proofs.Keeping.{nets-kept, netted-kept}
+use Rattle.alighting.specs.Scan.{Nets}
 use Rattle.scratch.proofs.Queue.{queue-step, queue-then}
 use Rattle.boarding.specs.Reads.{hitOf}
 use mathlib.Core.Path.{_∙_}
@@ -12,8 +12,8 @@ use Rattle.trip_scan.proofs.scan_trip_forward.Statement.{statement}
 use Rattle.trip_scan.proofs.scan_trip_forward.Tie as tie
 use Rattle.trip_scan.proofs.scan_trip_forward.Reads as reads
 use Rattle.trip_scan.proofs.scan_trip_forward.Lts as lts
-use Rattle.trip_scan.proofs.alightings.Reads as alightings-reads
-use Rattle.trip_scan.proofs.transferring.Reads as transferring-reads
+use Rattle.alighting.proofs.alightings.Reads as alightings-reads
+use Rattle.transferring.proofs.transferring.Reads as transferring-reads
 
 -- src/lib.rt:429:13
 cast-p : tie.Need-cast-p

@@ -1,0 +1,3 @@
+pub mod DayTests
+pub mod Examples
+pub mod PlainDays

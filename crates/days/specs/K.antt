@@ -1,0 +1,174 @@
+-- Timetable K (document 01), a second day with walks, and tables as the building definitions make them. Definitions only.
+use Prim.Native.Nat.{ℕ}
+use mathlib.Core.Bool.{Bool, true, false}
+use mathlib.Core.List.{List, [], _∷_}
+use lib.ListN.{length, getD}
+use Rattle.cell_bitset.specs.declared.CellBitSet.{CellBitSet}
+use Rattle.cell_bitset.specs.CellSet.{emptySet, withCell}
+use Rattle.label.specs.Label.{noDistance}
+use Rattle.delay_tables.specs.declared.DelayRow.{DelayRow}
+use Rattle.delay_tables.specs.declared.StopRow.{StopRow}
+use Rattle.tables.specs.declared.StopTimeRow.{StopTimeRow}
+use Rattle.tables.specs.declared.TripRow.{TripRow}
+use Rattle.tables.specs.declared.WindowRow.{WindowRow}
+use Rattle.tables.specs.declared.EdgeRow.{EdgeRow}
+use Rattle.departures.specs.declared.DepartureRow.{DepartureRow}
+use Rattle.tables.specs.Timetable.{Timetable}
+use Rattle.line_numbers.specs.Lines.{lineOf, linesOf, lineTrips}
+use Rattle.departures.specs.Departures.{sorted, markOf}
+use Rattle.line_transfers.specs.Transfers.{builtTransfers}
+use Rattle.delay_tables.specs.Delays.{DelayTables}
+use Rattle.model.specs.Tables.{rustSettings, Tables, Origin, Query}
+
+-- THE BUILT TABLES of a timetable: what the building calls make of the departures that a caller lists at each stop, after this
+-- transfer time; with these patterns over one cell, and no walk distances
+abbrev pub built : Timetable → (ℕ → List DepartureRow) → ℕ → List CellBitSet → Tables
+built X listed time patterns =
+    record {
+      timetable = X;
+      distance = λ e. noDistance;
+      lines = linesOf X;
+      lineOf = lineOf X;
+      line = λ l. record { count = length (lineTrips X l); trip = λ p. getD (lineTrips X l) p 0 };
+      departures = λ s. sorted X (listed s);
+      mark = λ s. markOf X (listed s);
+      transfers = builtTransfers (record { timetable = X; lines = linesOf X; lineOf = lineOf X; listed = λ s. sorted X (listed s); time = time });
+      cells = 1;
+      patterns = length patterns;
+      pattern = λ p. getD patterns p (emptySet 0);
+    }
+
+-- a stop time with ordinary pickup and drop-off: stop, sequence, arrival, departure
+abbrev pub calls : ℕ → ℕ → ℕ → ℕ → StopTimeRow
+calls s n a d = record { stop = s; arrival = a; departure = d; sequence = n; pickup = 0; «drop_off» = 0 }
+
+-- a trip of mode 0, not excluded: first stop time, count, is it active, how many windows from the first on
+abbrev pub runs : ℕ → ℕ → ℕ → ℕ → TripRow
+runs i n active windows = record { first = i; count = n; mode = 0; wheelchair = 0; window = 0; windows = windows; active = active; excluded = 0 }
+
+-- a departure: trip, offset
+abbrev pub leaves : ℕ → ℕ → DepartureRow
+leaves t o = record { trip = t; offset = o }
+
+abbrev pub window : ℕ → ℕ → ℕ → WindowRow
+window s e h = record { start = s; end = e; headway = h }
+
+-- a walk edge of pattern 0: from, to, duration, pathway mode
+abbrev pub foot : ℕ → ℕ → ℕ → ℕ → EdgeRow
+foot a b d m = record { from = a; to = b; duration = d; pathway = m; pattern = 0 }
+
+abbrev pub origin : ℕ → ℕ → Origin
+origin s d = record { stop = s; duration = d; distance = noDistance }
+
+abbrev pub noDelays : DelayTables
+noDelays =
+    record {
+      delays = 0;
+      delay = λ i. record { trip = 0; delay = 0 };
+      stopRows = 0;
+      stopRow = λ j. record { row = 0; sequence = 0; flags = 0; «departure_delay» = 0; «arrival_delay» = 0 };
+    }
+
+-- TIMETABLE K, with three choices: T1 ends at this second, T2 begins at this one, T0 has this many windows (600 to 1200, headway 300)
+abbrev pub timetableK : ℕ → ℕ → ℕ → Timetable
+timetableK end1 begin2 windows0 =
+    record {
+      stops = 3;
+      trips = 3;
+      edges = 0;
+      trip = λ t. getD (runs 0 3 1 windows0 ∷ runs 3 3 1 0 ∷ runs 6 2 1 0 ∷ []) t (runs 0 0 0 0);
+      time = λ i. getD
+          (calls 0 0 100 100 ∷ calls 1 1 200 210 ∷ calls 2 2 400 400
+          ∷ calls 0 0 160 160 ∷ calls 1 1 260 270 ∷ calls 2 2 end1 end1
+          ∷ calls 1 0 begin2 begin2 ∷ calls 2 1 380 380 ∷ []) i (calls 0 0 0 0);
+      window = λ i. window 600 1200 300;
+      edge = λ e. foot 0 0 0 0;
+      cell = λ s. 0;
+    }
+
+-- last stops list no departure
+abbrev pub listedK : ℕ → List DepartureRow
+listedK s = getD ((leaves 0 0 ∷ leaves 1 0 ∷ []) ∷ (leaves 0 1 ∷ leaves 1 1 ∷ leaves 2 0 ∷ []) ∷ []) s []
+
+-- K as the building calls make it
+abbrev pub tablesK : Tables
+tablesK = built (timetableK 460 320 0) listedK 120 []
+
+-- with one pattern, which holds every stop's cell
+abbrev pub everyCell : CellBitSet
+everyCell = withCell (emptySet 1) 0
+
+abbrev pub patternK : Tables
+patternK = built (timetableK 460 320 0) listedK 120 (everyCell ∷ [])
+
+-- with T0 as a frequency trip
+abbrev pub frequentK : Tables
+frequentK = built (timetableK 460 320 1) listedK 120 []
+
+-- a query: start, origins, egress, wheelchair, change time, delays, and the switch that puts arc flags off
+abbrev pub asks : ℕ → List Origin → List (ℕ × ℕ) → Bool → ℕ → DelayTables → Bool → Query
+asks start origins egress wheelchair change delays off =
+    record {
+      start = start;
+      origins = origins;
+      egress = egress;
+      modes = 0;
+      wheelchair = wheelchair;
+      change = change;
+      wantedRounds = 0;
+      transfers = 0;
+      delays = delays;
+      flagsOff = off;
+      settings = rustSettings;
+    }
+
+-- K's query: origin 0 (10), egress 2 (5); start and change
+abbrev pub queryK : ℕ → ℕ → Query
+queryK start change = asks start (origin 0 10 ∷ []) ((2, 5) ∷ []) false change noDelays false
+
+-- T0 60 seconds late, but 20 early on arrival at sequence 1 and skipping sequence 2; T2 10 early. (4294967276 and 4294967286 are the
+-- bits of -20 and -10.)
+abbrev pub delaysK : DelayTables
+delaysK =
+    record {
+      delays = 2;
+      delay = λ i. getD (record { trip = 0; delay = 60 } ∷ record { trip = 2; delay = 4294967286 } ∷ []) i (record { trip = 0; delay = 0 });
+      stopRows = 2;
+      stopRow = λ j. getD
+          (record { row = 0; sequence = 1; flags = 2; «departure_delay» = 0; «arrival_delay» = 4294967276 }
+          ∷ record { row = 0; sequence = 2; flags = 4; «departure_delay» = 0; «arrival_delay» = 0 } ∷ []) j
+          (record { row = 0; sequence = 0; flags = 0; «departure_delay» = 0; «arrival_delay» = 0 });
+    }
+
+abbrev pub delayedK : Query
+delayedK = asks 90 (origin 0 10 ∷ []) ((2, 5) ∷ []) false 120 delaysK false
+
+-- A DAY WITH WALKS. T0 and T1 go from stop 0 to stop 1, T1 the later; T2, not active, from 0 to 3; T3 and T4 from 2 to 3, T4 the
+-- earlier. Stops 1 and 2 are 60 seconds apart; from both, stairs of 2 seconds lead to stop 4.
+abbrev pub timetableW : Timetable
+timetableW =
+    record {
+      stops = 5;
+      trips = 5;
+      edges = 4;
+      trip = λ t. getD (runs 0 2 1 0 ∷ runs 2 2 1 0 ∷ runs 4 2 0 0 ∷ runs 6 2 1 0 ∷ runs 8 2 1 0 ∷ []) t (runs 0 0 0 0);
+      time = λ i. getD
+          (calls 0 0 100 100 ∷ calls 1 1 200 200
+          ∷ calls 0 0 150 150 ∷ calls 1 1 250 250
+          ∷ calls 0 0 110 110 ∷ calls 3 1 150 150
+          ∷ calls 2 0 380 380 ∷ calls 3 1 390 390
+          ∷ calls 2 0 300 300 ∷ calls 3 1 310 310 ∷ []) i (calls 0 0 0 0);
+      window = λ i. window 0 0 0;
+      edge = λ e. getD (foot 1 2 60 1 ∷ foot 1 4 2 2 ∷ foot 2 1 60 1 ∷ foot 2 4 2 2 ∷ []) e (foot 0 0 0 0);
+      cell = λ s. 0;
+    }
+
+abbrev pub listedW : ℕ → List DepartureRow
+listedW s = getD ((leaves 0 0 ∷ leaves 1 0 ∷ leaves 2 0 ∷ []) ∷ [] ∷ (leaves 3 0 ∷ leaves 4 0 ∷ []) ∷ []) s []
+
+abbrev pub tablesW : Tables
+tablesW = built timetableW listedW 120 []
+
+-- a wheelchair query: the stairs take 200 seconds. Long walks lead to stops 1, 2 and 4 too. Egress 3 (5) and 4 (5), change 120.
+abbrev pub queryW : Query
+queryW = asks 90 (origin 0 10 ∷ origin 1 700 ∷ origin 2 760 ∷ origin 4 900 ∷ []) ((3, 5) ∷ (4, 5) ∷ []) true 120 noDelays false

@@ -1,0 +1,4 @@
+pub mod Delays
+pub mod Flat
+pub mod Door
+pub mod Asked

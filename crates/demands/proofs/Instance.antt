@@ -1,0 +1,102 @@
+-- AN INSTANCE of demand 3's hypotheses, in one statement about what is lent: Timetable K of document 01 with Q1, as slices. The door admits
+-- them, the day that they say is a plain one, and the call's whole outcome is the answer with the total 385 at stop 2.
+use Prim.Native.Nat.{ℕ, zero, suc, _+_, _*_, _-_, _/_, _<_}
+use mathlib.Core.Path.{_≡_, refl, ap, _∙_}
+use mathlib.Core.Bool.{true}
+use mathlib.Core.List.{List, [], _∷_, _++_, flatten}
+use native.Mathlib.Omega.{arith}
+use lib.ListN.{length, getD, replicate}
+use Rattle.label.specs.Label.{noDistance}
+use Rattle.departures.specs.declared.DepartureRow.{DepartureRow}
+use Rattle.built.specs.Built.{AsBuilt}
+use Rattle.model.specs.Tables.{Tables, Query, stopCount, changeBefore, isEgress, egressWalk, edgesFrom, fifo, modeWanted, usable, permitted}
+use Rattle.model.specs.Search.{targetsFrom, targetCells, holdsTarget, useArcFlags, someTransfer, skipsEdge, skipsTransfer, flagsInUse, departuresAt, markAt, lineAt, notBefore, boardAt, bestAfter, improve, relax, resolveIn, lineTripsAt, resolve, enqueue, takeTransfers, alightings, transferring, scanTripForward, rideSegments, dominated, pruned, passedOver, boarding, board, scanDepartures, scanStops, walkFrom, walkAll, ridePhase, stamped, walkPhase, idle, rounds, setOut, access, bestTarget, rowTarget, candidatesFrom, final, answer, query as thePromise}
+use Rattle.model.specs.Promise.{PlainDay, Demand3, transferInput}
+use Rattle.days.proofs.DayTests.{allOf, allIn, anyIn, sortedTest, risingTest, has, plainTests, plain-when}
+use Rattle.asking.specs.Lent.{Lent, tablesOf, queryOf}
+use Rattle.asking.specs.Door.{question1, readOk, writtenOk, question2, transferRunsOk, question3, columnBelow, lineNumbers, queryNumbers, question4, markRanges, transferRanges, settingRanges, walkRanges, question5, notEarlier, partOrder, departureOrder, columnRises, question6, verdict}
+use Rattle.tables.specs.Door.{countsOk, slicesOk, tripRuns, stopTimeNumbers, edgeNumbers, stopTimeRanges, tripRanges, windowRanges, edgeRanges, edgeRises, runsOk, numbersOk, rangesOk, orderOk}
+use Rattle.departures.specs.Listed.{runIn, stopRunsOk, rowNumbers, rowsOk, rowAtStop, stopRowsOk, atStopsOk, listedOk}
+use Rattle.line_layout.specs.Listed.{runIn as lineRunIn, lineRunsOk, entriesOk}
+use Rattle.asking.proofs.Examples.{tK, builtK, transfersK, qK, query, time, trip, counts, lengths}
+use Rattle.tables.specs.Tables.{timeOf, tripOf, windowOf, edgeOf, cellOf}
+use Rattle.line_transfers.specs.Transfers.{eventsBefore, departuresOfLine, firstNotBefore, transferTo, transfersOf, builtTransfers}
+use Rattle.line_numbers.specs.Lines.{same, leadOf, isLead, lineOf, lineTrips}
+use Rattle.departures.specs.Departures.{frequencyListed, sorted, markOf}
+use Rattle.tables.specs.Timetable.{Timetable}
+use Rattle.loops.specs.Iter.{iter, every, first, some}
+use Rattle.loops.specs.Count.{count, tabFrom}
+use Rattle.sorts.specs.Sort.{insertBy, sortBy}
+use Rattle.sorts.specs.Orders.{keep}
+use Rattle.walk.specs.Walk.{effectiveDuration, roundCount}
+use Rattle.line_layout.specs.Layout.{fifoLine, inOrder, neighbours, lastIn, positionIn}
+use Rattle.replies.specs.Outcome.{Areas, areas, lengthsOf, Outcome, reply, answered, queryOutcome}
+use Rattle.demands.proofs.Demands.{plain-answered, demand3-call}
+
+-- what is lent to be read, and the tables and the query that it says
+abbrev pub lentK : Lent
+lentK = record { n = counts 2 1 0; t = tK; built = builtK; transfers = transfersK; patterns = []; distances = noDistance ∷ []; q = qK }
+
+abbrev pub tablesK : Tables
+tablesK = tablesOf lentK
+
+abbrev pub queryK : Query
+queryK = queryOf lentK
+
+abbrev X : Timetable
+X = tablesK .timetable
+
+-- the stops, the trips and the lines are 0, 1, 2; 0, 1, 2; 0, 1
+below-three : (P : ℕ → Type 0) → P 0 → P 1 → P 2 → (i : ℕ) → i < 3 → P i
+below-three P a b c zero h = a
+below-three P a b c (suc zero) h = b
+below-three P a b c (suc (suc zero)) h = c
+below-three P a b c (suc (suc (suc i))) h = absurd (omega arith)
+
+below-two : (P : ℕ → Type 0) → P 0 → P 1 → (i : ℕ) → i < 2 → P i
+below-two P a b zero h = a
+below-two P a b (suc zero) h = b
+below-two P a b (suc (suc i)) h = absurd (omega arith)
+
+-- THE DAY THAT THE SLICES SAY IS A PLAIN ONE: tables as built, from the departures as they are listed
+pub plain-K : PlainDay tablesK queryK
+unfolding qK query transfersK builtK tK time trip counts timeOf tripOf windowOf edgeOf eventsBefore allOf allIn anyIn sortedTest risingTest has effectiveDuration edgesFrom targetsFrom targetCells holdsTarget useArcFlags someTransfer skipsEdge skipsTransfer flagsInUse frequencyListed same leadOf isLead lineOf lineTrips departuresOfLine firstNotBefore transferTo transfersOf iter every first some count tabFrom insertBy sortBy keep flatten cellOf
+plain-K =
+    plain-when tablesK queryK (tablesK .departures)
+    (below-three (λ (s : ℕ). tablesK .departures s ≡ sorted X (tablesK .departures s)) refl refl refl)
+    (below-three (λ (s : ℕ). tablesK .mark s ≡ markOf X (tablesK .departures s)) refl refl refl)
+    refl
+    (below-three (λ (t : ℕ). tablesK .lineOf t ≡ lineOf X t) refl refl refl)
+    (record {
+      count = below-two (λ (l : ℕ). tablesK .line l .count ≡ length (lineTrips X l)) refl refl;
+      trip = λ l p h i. below-two (λ (l : ℕ). (p : ℕ) → p < tablesK .line l .count → tablesK .line l .trip p ≡ getD (lineTrips X l) p 0)
+          (below-two (λ (p : ℕ). tablesK .line 0 .trip p ≡ getD (lineTrips X 0) p 0) refl refl)
+          (λ p i. below-two (λ (p : ℕ). p < 1 → tablesK .line 1 .trip p ≡ getD (lineTrips X 1) p 0) (λ h. refl) (λ h. absurd (omega arith)) p (omega arith) i)
+          l h p i;
+    })
+    (λ t o h i. below-three (λ (t : ℕ). (o : ℕ) → o < stopCount tablesK t → tablesK .transfers t o ≡ builtTransfers (transferInput tablesK 120) t o)
+    (below-three (λ (o : ℕ). tablesK .transfers 0 o ≡ builtTransfers (transferInput tablesK 120) 0 o) refl refl refl)
+    (below-three (λ (o : ℕ). tablesK .transfers 1 o ≡ builtTransfers (transferInput tablesK 120) 1 o) refl refl refl)
+    (below-two (λ (o : ℕ). tablesK .transfers 2 o ≡ builtTransfers (transferInput tablesK 120) 2 o) refl refl)
+    t h o i)
+    refl
+
+-- areas of the right lengths, of any content; no arc flags are in use, so the halves of the queue may be empty
+abbrev pub areasK : Areas
+areasK = areas (replicate 312 7) (replicate 39 noDistance) (replicate 173 7) [] [] (replicate 39 7)
+
+pub door-K : verdict lentK (lengthsOf areasK) ≡ 0
+unfolding counts query qK transfersK builtK tK time trip every timeOf tripOf windowOf edgeOf countsOk slicesOk tripRuns stopTimeNumbers edgeNumbers stopTimeRanges tripRanges windowRanges edgeRanges edgeRises runsOk numbersOk rangesOk orderOk runIn stopRunsOk rowNumbers rowsOk rowAtStop stopRowsOk atStopsOk listedOk lineRunIn lineRunsOk entriesOk eventsBefore question1 readOk writtenOk question2 transferRunsOk question3 columnBelow lineNumbers queryNumbers question4 markRanges transferRanges settingRanges walkRanges question5 notEarlier partOrder departureOrder columnRises question6 verdict
+door-K = refl
+
+-- THE CALL ANSWERS, and its answer keeps demand 3
+pub answered-K : queryOutcome lentK areasK ≡ answered (thePromise tablesK queryK) areasK
+answered-K = plain-answered lentK areasK door-K plain-K
+
+pub demand3-K : Demand3 tablesK queryK (thePromise tablesK queryK)
+demand3-K = demand3-call lentK areasK (ap (λ (o : Outcome). o .reply .code) answered-K) plain-K .0
+
+-- with 385 at stop 2, and two candidates
+pub reply-K : queryOutcome lentK areasK .reply ≡ reply 0 385 2 2
+unfolding counts query qK transfersK builtK tK time trip timeOf tripOf windowOf edgeOf cellOf eventsBefore changeBefore isEgress egressWalk edgesFrom fifo modeWanted usable permitted targetsFrom targetCells holdsTarget useArcFlags someTransfer skipsEdge skipsTransfer flagsInUse departuresAt markAt lineAt notBefore boardAt bestAfter improve relax resolveIn lineTripsAt resolve enqueue takeTransfers alightings transferring scanTripForward rideSegments dominated pruned passedOver boarding board scanDepartures scanStops walkFrom walkAll ridePhase stamped walkPhase idle rounds setOut access bestTarget rowTarget candidatesFrom final answer thePromise inOrder neighbours fifoLine lastIn positionIn effectiveDuration roundCount iter every first some count tabFrom insertBy sortBy keep flatten
+reply-K = ap (λ (o : Outcome). o .reply) answered-K

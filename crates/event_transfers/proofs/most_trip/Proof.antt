@@ -1,0 +1,66 @@
+use Rattle.event_transfers.proofs.Events.{event-time, most-again, most-event, most-left, most-start}
+use Rattle.line_transfers.specs.Packed.{Most, eventKeys, prepared, tripKeys}
+use Rattle.loops.specs.Count.{tabFrom}
+use Rattle.tables.specs.Tables.{countOf, firstOf}
+use borrow.Author.Needs.{needs}
+use denote.Ref.{now}
+use lib.ListN.{length}
+use mathlib.Core.List.{flatten}
+use native.Mathlib.Omega.{arith}
+use mathlib.Core.Path.{_≡_}
+use Prim.Native.Nat.{_-_}
+use Rattle.event_transfers.proofs.most_trip.Statement.{statement}
+use Rattle.event_transfers.proofs.most_trip.Tie as tie
+use Rattle.event_transfers.proofs.most_trip.Reads as reads
+use Rattle.event_transfers.proofs.most_trip.Lts as lts
+use Rattle.tables.proofs.trip.Reads as trip-reads
+use Rattle.event_transfers.proofs.most_alight.Reads as most-alight-reads
+
+abbrev Inv-loop : tie.InvT-loop
+Inv-loop t c runs d work ends time ti n first count m₀ off₀ m off = (count ≡ countOf t c ti) × (first ≡ firstOf t c ti) × Most n (length (flatten (tripKeys (prepared t c runs work time) ti))) m (length (flatten (tabFrom (eventKeys (prepared t c runs work time) ti) off (count - off))))
+
+abbrev μ-loop : tie.MeasureT-loop
+μ-loop t c runs d work ends time ti n first count m₀ off₀ m off = count - off
+
+trip-requires : tie.Need-trip-requires Inv-loop μ-loop
+trip-requires c κs = search needs
+
+trip-requires-2 : tie.Need-trip-requires-2 Inv-loop μ-loop
+trip-requires-2 c κs = search needs
+
+loop-holds : tie.Need-loop-holds Inv-loop μ-loop
+loop-holds c = (c .trip2 .ensures .0, c .before .trip .ensures .0, most-start _ _ _ _ (c .trip2 .ensures .0) (c .before .before .before .before .before .before .pre .1 .1 .1 .few))
+
+add-most-alight : tie.Need-add-most-alight Inv-loop μ-loop
+add-most-alight c = omega (arith, event-time (now (c .before .before .before .before .before .before .before .before .args .t)) (c .before .before .before .before .before .before .before .before .args .c) (c .before .before .before .before .before .before .before .before .args .ti) (c .before .loop .off) (c .before .before .before .trip .result) (c .before .before .before .before .before .before .before .before .pre .0) (c .before .before .before .before .before .before .before .before .pre .1 .1 .1 .below) (omega arith) (c .before .loop .inv .1), c .before .before .before .before .before .before .before .before .pre .0 .counts .times)
+
+most-alight-requires : tie.Need-most-alight-requires Inv-loop μ-loop
+most-alight-requires c κs = (c .before .before .before .before .before .before .before .before .pre .0, (c .before .before .before .before .before .before .before .before .pre .1 .0, (c .before .before .before .before .before .before .before .before .pre .1 .1 .0, record { below = event-time (now (c .before .before .before .before .before .before .before .before .args .t)) (c .before .before .before .before .before .before .before .before .args .c) (c .before .before .before .before .before .before .before .before .args .ti) (c .before .loop .off) (c .before .before .before .trip .result) (c .before .before .before .before .before .before .before .before .pre .0) (c .before .before .before .before .before .before .before .before .pre .1 .1 .1 .below) (omega arith) (c .before .loop .inv .1); few = c .before .loop .inv .2 .few; short = c .before .before .before .before .before .before .before .before .pre .1 .1 .1 .short })))
+
+add-off : tie.Need-add-off Inv-loop μ-loop
+add-off c = omega arith
+
+loop-less : tie.Need-loop-less Inv-loop μ-loop
+loop-less c = omega arith
+
+loop-again : tie.Need-loop-again Inv-loop μ-loop
+loop-again c = (c .before .before .loop .inv .0, c .before .before .loop .inv .1, most-again (eventKeys (prepared (now (c .before .before .before .before .before .before .before .before .before .args .t)) (c .before .before .before .before .before .before .before .before .before .args .c) (now (c .before .before .before .before .before .before .before .before .before .args .runs)) (now (c .before .before .before .before .before .before .before .before .before .args .work)) (c .before .before .before .before .before .before .before .before .before .args .time)) (c .before .before .before .before .before .before .before .before .before .args .ti)) (c .before .before .before .before .before .before .before .before .before .args .n) _ (c .before .before .loop .off) (c .before .before .before .trip2 .result) (c .before .before .loop .m) (c .most-alight .result) (c .before .before .loop .inv .2) (most-event (prepared (now (c .before .before .before .before .before .before .before .before .before .args .t)) (c .before .before .before .before .before .before .before .before .before .args .c) (now (c .before .before .before .before .before .before .before .before .before .args .runs)) (now (c .before .before .before .before .before .before .before .before .before .args .work)) (c .before .before .before .before .before .before .before .before .before .args .time)) (c .before .before .before .before .before .before .before .before .before .args .ti) (c .before .before .loop .off) (c .before .before .before .before .trip .result) (c .before .before .loop .m) (c .most-alight .result) (c .before .before .loop .inv .1) (c .most-alight .ensures (c .before .before .before .before .before .before .before .before .before .args .ti))) (omega arith))
+
+returns : tie.Need-returns Inv-loop μ-loop
+returns c = most-left (eventKeys (prepared (now (c .before .before .before .before .before .before .before .before .args .t)) (c .before .before .before .before .before .before .before .before .args .c) (now (c .before .before .before .before .before .before .before .before .args .runs)) (now (c .before .before .before .before .before .before .before .before .args .work)) (c .before .before .before .before .before .before .before .before .args .time)) (c .before .before .before .before .before .before .before .before .args .ti)) (c .before .before .before .before .before .before .before .before .args .n) _ (c .before .loop .off) (c .before .before .trip2 .result) (c .before .loop .m) (c .before .loop .inv .2) (omega arith)
+
+pub most-trip-spec : {M : Type 1} → statement M
+most-trip-spec =
+    tie.close
+    (tie.spec
+    Inv-loop
+    μ-loop
+    trip-requires
+    trip-requires-2
+    loop-holds
+    add-most-alight
+    most-alight-requires
+    add-off
+    loop-less
+    loop-again
+    returns)

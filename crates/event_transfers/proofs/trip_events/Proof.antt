@@ -1,0 +1,69 @@
+use denote.Ref.{now}
+use borrow.Author.Needs.{needs}
+use lib.ListN.{length}
+use Rattle.event_transfers.proofs.Events.{events-again, events-left, event-at, events-start}
+use Rattle.line_transfers.specs.Packed.{eventKeys, layEvents, prepared, tripKeys, walk}
+use Rattle.tables.specs.Tables.{countOf}
+use native.Mathlib.Omega.{arith}
+use mathlib.Core.Path.{_≡_, refl}
+use Prim.Native.Nat.{_+_, _-_, _≤_}
+use Rattle.loops.specs.Count.{count, tabFrom}
+use Rattle.event_transfers.proofs.trip_events.Statement.{statement}
+use Rattle.event_transfers.proofs.trip_events.Tie as tie
+use Rattle.event_transfers.proofs.trip_events.Reads as reads
+use Rattle.event_transfers.proofs.trip_events.Lts as lts
+use Rattle.tables.proofs.trip.Reads as trip-reads
+use Rattle.event_transfers.proofs.event.Reads as event-reads
+
+abbrev Inv-loop : tie.InvT-loop
+Inv-loop t c runs d work ends area₀ evs₀ time ti e n count m₀ off₀ area evs m off = (count ≡ countOf t c ti) × (off ≤ count) × (m ≤ 65537) × (length area ≡ length area₀) × (length evs ≡ length evs₀) × (layEvents time e (tripKeys (prepared t c runs work time) ti) (walk n area₀ evs₀) ≡ layEvents time (e + off) (tabFrom (eventKeys (prepared t c runs work time) ti) off (count - off)) (walk m area evs))
+
+abbrev μ-loop : tie.MeasureT-loop
+μ-loop t c runs d work ends area₀ evs₀ time ti e n count m₀ off₀ area evs m off = count - off
+
+trip-requires : tie.Need-trip-requires Inv-loop μ-loop
+trip-requires c κs = search needs
+
+loop-holds : tie.Need-loop-holds Inv-loop μ-loop
+loop-holds c = (c .trip .ensures .0, omega arith, c .before .before .before .before .before .before .before .pre .1 .1 .1 .few, refl, refl, events-start _ _ _ _ _ _ (c .trip .ensures .0))
+
+add-event : tie.Need-add-event Inv-loop μ-loop
+add-event c = omega (arith, c .before .before .before .before .before .before .before .before .before .before .before .pre .1 .1 .1 .event, c .before .before .before .before .before .before .before .before .before .before .before .pre .1 .1 .1 .trip, c .before .before .before .before .before .before .before .before .before .before .before .pre .0 .counts .trips, c .before .before .before .before .trip .ensures .1)
+
+event-requires : tie.Need-event-requires Inv-loop μ-loop
+event-requires c κs = (c .before .before .before .before .before .before .before .before .before .before .before .pre .0, (c .before .before .before .before .before .before .before .before .before .before .before .pre .1 .0, (c .before .before .before .before .before .before .before .before .before .before .before .pre .1 .1 .0, event-at _ _ _ _ _ _ _ _ _ (c .before .before .before .before .before .before .before .before .before .before .before .pre .0) (c .before .before .before .before .before .before .before .before .before .before .before .pre .1 .1 .1) (c .before .before .before .loop .inv .0) (omega arith) (c .before .before .before .loop .inv .2))))
+
+add-off : tie.Need-add-off Inv-loop μ-loop
+add-off c = omega arith
+
+loop-less : tie.Need-loop-less Inv-loop μ-loop
+loop-less c = omega arith
+
+loop-again : tie.Need-loop-again Inv-loop μ-loop
+loop-again c = (c .before .before .before .before .before .before .before .before .loop .inv .0, omega arith, c .before .before .before .before .event .ensures .1, omega arith, omega arith, events-again (c .before .before .before .before .before .before .before .before .before .before .before .before .before .before .before .before .args .time) (c .before .before .before .before .before .before .before .before .before .before .before .before .before .before .before .before .args .e) (c .before .before .before .before .before .before .before .before .loop .off) (c .before .before .before .before .before .before .before .before .before .trip .result) (eventKeys (prepared (now (c .before .before .before .before .before .before .before .before .before .before .before .before .before .before .before .before .args .t)) (c .before .before .before .before .before .before .before .before .before .before .before .before .before .before .before .before .args .c) (now (c .before .before .before .before .before .before .before .before .before .before .before .before .before .before .before .before .args .runs)) (now (c .before .before .before .before .before .before .before .before .before .before .before .before .before .before .before .before .args .work)) (c .before .before .before .before .before .before .before .before .before .before .before .before .before .before .before .before .args .time)) (c .before .before .before .before .before .before .before .before .before .before .before .before .before .before .before .before .args .ti)) (walk (c .before .before .before .before .before .before .before .before .loop .m) (c .before .before .before .before .before .before .before .before .loop .area) (c .before .before .before .before .before .before .before .before .loop .evs)) (c .before .before .before .before .before .before .before .before .loop .inv .5) (c .before .before .before .before .event .ensures .0) (omega arith))
+
+same-length : tie.Need-same-length Inv-loop μ-loop
+same-length c = omega arith
+
+same-length-2 : tie.Need-same-length-2 Inv-loop μ-loop
+same-length-2 c = omega arith
+
+returns : tie.Need-returns Inv-loop μ-loop
+returns c = (events-left (c .before .before .before .before .before .before .before .before .before .args .time) (c .before .before .before .before .before .before .before .before .before .args .e) (c .before .loop .off) (c .before .before .trip .result) (eventKeys (prepared (now (c .before .before .before .before .before .before .before .before .before .args .t)) (c .before .before .before .before .before .before .before .before .before .args .c) (now (c .before .before .before .before .before .before .before .before .before .args .runs)) (now (c .before .before .before .before .before .before .before .before .before .args .work)) (c .before .before .before .before .before .before .before .before .before .args .time)) (c .before .before .before .before .before .before .before .before .before .args .ti)) (c .before .loop .inv .5) (omega arith), c .before .loop .inv .2)
+
+pub trip-events-spec : {M : Type 1} → statement M
+trip-events-spec =
+    tie.close
+    (tie.spec
+    Inv-loop
+    μ-loop
+    trip-requires
+    loop-holds
+    add-event
+    event-requires
+    add-off
+    loop-less
+    loop-again
+    same-length
+    same-length-2
+    returns)

@@ -1,0 +1,4 @@
+pub mod Chains
+pub mod Stages
+pub mod Noting
+pub mod Reading

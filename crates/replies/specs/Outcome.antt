@@ -1,0 +1,94 @@
+-- THE CALLS `run_tbr` and `query` (document 01, items 9 and 10): what they answer, and what every lent slice holds then. Definitions only.
+use Prim.Native.Nat.{ℕ, zero, suc, _+_, _*_, _-_, _/_}
+use mathlib.Core.Bool.{Bool, true, false}
+use mathlib.Core.List.{List, [], _∷_, _++_}
+use lib.ListN.{length, replicate}
+use lib.Ieee.{Float}
+use Rattle.label.specs.Label.{noDistance}
+use Rattle.label_table.specs.Table.{wordsOfAll, distancesOfAll}
+use Rattle.model.specs.Search.{Answer, runTbr as theRust, query as thePromise}
+use Rattle.asking.specs.declared.Lengths.{Lengths}
+use Rattle.asking.specs.Lent.{Lent, tablesOf, queryOf}
+use Rattle.asking.specs.Door.{verdict}
+use Rattle.round.specs.Rounds.{overflows}
+use Rattle.replies.specs.declared.Reply.{Reply}
+
+-- what is lent to be written: labels and their distances, workspace, the two halves of the segment queue, candidate rows
+pub record Areas : Type 0 where
+  pub labels : List ℕ
+  pub distances : List Float
+  pub work : List ℕ
+  pub queueA : List ℕ
+  pub queueB : List ℕ
+  pub candidates : List ℕ
+
+abbrev pub areas : List ℕ → List Float → List ℕ → List ℕ → List ℕ → List ℕ → Areas
+areas l d w a b c = record { labels = l; distances = d; work = w; queueA = a; queueB = b; candidates = c }
+
+-- how long they are
+abbrev pub lengthsOf : Areas → Lengths
+lengthsOf s =
+    record {
+      labels = length (s .labels);
+      «label_distances» = length (s .distances);
+      work = length (s .work);
+      «queue_a» = length (s .queueA);
+      «queue_b» = length (s .queueB);
+      candidates = length (s .candidates);
+    }
+
+-- AN OUTCOME: what the call gives back, and the areas as it leaves them
+pub record Outcome : Type 0 where
+  pub reply : Reply
+  pub areas : Areas
+
+abbrev pub reply : ℕ → ℕ → ℕ → ℕ → Reply
+reply code total stop candidates = record { code = code; total = total; stop = stop; candidates = candidates }
+
+-- refused by questions 1 to 6: all areas are as they came
+abbrev pub refused : ℕ → Areas → Outcome
+refused code s = record { reply = reply code 0 0 0; areas = s }
+
+-- zeros, as many as there were numbers
+abbrev pub cleared : List ℕ → List ℕ
+cleared l = replicate (length l) 0
+
+-- 8, a queue half had no room: labels, workspace and queue are zero, the candidate rows as they came
+abbrev pub overflown : Areas → Outcome
+overflown s =
+    record {
+      reply = reply 8 0 0 0;
+      areas = areas (cleared (s .labels)) (replicate (length (s .distances)) noDistance) (cleared (s .work)) (cleared (s .queueA)) (cleared (s .queueB)) (s .candidates);
+    }
+
+-- candidate rows, three numbers each: total, stop, row
+unfoldable pub candidateWords : List (ℕ × ℕ × ℕ) → List ℕ
+candidateWords [] = []
+candidateWords (c ∷ cs) = c .0 ∷ c .1 ∷ c .2 ∷ candidateWords cs
+
+-- answered: total, stop and how many candidates ("no way": 4,294,967,295, 4,294,967,295, 0); labels; workspace and queue zero;
+-- candidate rows, zero past the last
+abbrev pub answered : Answer → Areas → Outcome
+answered a s =
+    record {
+      reply = reply 0 (a .total) (a .stop) (length (a .candidates));
+      areas = areas (wordsOfAll (a .labels)) (distancesOfAll (a .labels)) (cleared (s .work)) (cleared (s .queueA)) (cleared (s .queueB))
+          (candidateWords (a .candidates) ++ replicate (39 - length (a .candidates) * 3) 0);
+    }
+
+-- the first question answered no decides: of 1 to 6 by the verdict, then of 8
+abbrev pub settled : ℕ → Bool → Answer → Areas → Outcome
+settled (suc code) full a s = refused (suc code) s
+settled zero true a s = overflown s
+settled zero false a s = answered a s
+
+-- QUESTION 8: has each round's queue room in a half, four numbers a segment?
+abbrev pub queueFull : Answer → Areas → Bool
+queueFull a s = overflows (length (s .queueA) / 4) (a .queued)
+
+-- THE OUTCOMES. `run_tbr`: the Rust's answer; `query`: the promise's
+unfoldable pub runTbrOutcome : Lent → Areas → Outcome
+runTbrOutcome x s = let a = theRust (tablesOf x) (queryOf x) in settled (verdict x (lengthsOf s)) (queueFull a s) a s
+
+unfoldable pub queryOutcome : Lent → Areas → Outcome
+queryOutcome x s = let a = thePromise (tablesOf x) (queryOf x) in settled (verdict x (lengthsOf s)) (queueFull a s) a s

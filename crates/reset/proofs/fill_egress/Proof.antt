@@ -1,0 +1,46 @@
+use denote.Ref.{now}
+use Rattle.reset.proofs.Filling.{egress-none, egress-from, sized-same}
+use borrow.Author.Needs.{needs}
+use Rattle.reset.proofs.fill_egress.Statement.{statement}
+use Rattle.reset.proofs.fill_egress.Tie as tie
+use Rattle.reset.proofs.fill_egress.Reads as reads
+use Rattle.reset.proofs.fill_egress.Lts as lts
+use Rattle.reset.proofs.clear.Reads as clear-reads
+use Rattle.reset.proofs.put_egresses.Reads as put-egresses-reads
+
+mul-rest : tie.Need-mul-rest
+mul-rest c = search needs
+
+add-rest : tie.Need-add-rest
+add-rest c = search needs
+
+add-rest-2 : tie.Need-add-rest-2
+add-rest-2 c = search needs
+
+add-clear : tie.Need-add-clear
+add-clear c = search needs
+
+clear-requires : tie.Need-clear-requires
+clear-requires c κs = search needs
+
+put-egresses-requires : tie.Need-put-egresses-requires
+put-egresses-requires c κs = let a = c .before .before .before .before .before .before .before .before .before .before in let x = a .args in (sized-same (a .pre .0) (c .before .before .before .clear .ensures .size), (a .pre .1, egress-none (x .lay) (now (x .work)) _ (c .before .before .before .clear .ensures)))
+
+same-length : tie.Need-same-length
+same-length c = search needs
+
+returns : tie.Need-returns
+returns c = let a = c .before .before .before .before .before .before .before .before .before .before .before .before .before in let x = a .args in egress-from (x .lay) (now (x .work)) _ _ _ (c .before .before .before .before .before .before .clear .ensures) (c .before .before .put-egresses .ensures)
+
+pub fill-egress-spec : {M : Type 1} → statement M
+fill-egress-spec =
+    tie.close
+    (tie.spec
+    mul-rest
+    add-rest
+    add-rest-2
+    add-clear
+    clear-requires
+    put-egresses-requires
+    same-length
+    returns)

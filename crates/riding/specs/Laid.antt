@@ -1,0 +1,64 @@
+-- What the ride phase reads, and which tables and queries agree with it. Definitions only.
+use Prim.Native.Nat.{ℕ, _+_, _*_, _/_, _≤_, _<_}
+use mathlib.Core.Path.{_≡_}
+use mathlib.Core.List.{List}
+use lib.ListN.{length, getD}
+use Rattle.door.specs.Door.{timeLimit}
+use Rattle.realtime.specs.Times.{sizeOf}
+use Rattle.tables.specs.declared.Counts.{Counts}
+use Rattle.departures.specs.Departures.{listedAt}
+use Rattle.departures.specs.Listed.{RowsListed}
+use Rattle.model.specs.Tables.{Tables, Query}
+use Rattle.scratch.specs.declared.Lay.{Lay}
+use Rattle.scratch.specs.Part.{part}
+use Rattle.scratch.specs.Places.{restAt}
+use Rattle.scratch.specs.View.{segmentAt}
+use Rattle.boarding.specs.Resolving.{linedOf}
+use Rattle.pruning.specs.Chain.{tripStampsAt}
+use Rattle.asking.specs.declared.QueryCounts.{QueryCounts}
+use Rattle.asking.specs.Lent.{marksAt, stopRuns, departureRows}
+use Rattle.asking.specs.Sane.{Limits}
+use Rattle.alighting.specs.declared.Net.{Net}
+use Rattle.alighting.specs.Scan.{Nets, Netted}
+
+-- where the events before each trip begin among the working numbers: after the FIFO flags
+abbrev pub eventsAt : Lay → ℕ
+eventsAt lay = lay .stops * 5 + lay .trips * 2 + lay .lines + 128
+
+-- tables and a query that hold what the ride phase reads: what a scanned trip reads, and each stop's departures and mark
+pub record Rides (n : QueryCounts) (t rows stopRows built bytes area : List ℕ) (net : Net) (lay : Lay) (w : List ℕ) (T : Tables) (Q : Query) : Type 0 where
+  pub nets : Nets t (n .timetable) rows stopRows built bytes area net lay w T Q
+  pub departures : (x : ℕ) → x < n .timetable .stops → T .departures x ≡ listedAt (stopRuns built n) (departureRows built n) x
+  pub mark : (x : ℕ) → x < n .timetable .stops → T .mark x ≡ getD built (marksAt n + x) 0
+
+-- the slices are as the door and a query's beginning leave them: some tables and a query that the door admits are in them
+pub record Laid (n : QueryCounts) (t rows stopRows built bytes area : List ℕ) (net : Net) (lay : Lay) (w : List ℕ) : Type 0 where
+  pub netted : Netted t (n .timetable) rows stopRows built bytes area net lay w
+  pub rides : Rides n t rows stopRows built bytes area net lay w (netted .T) (netted .Q)
+  pub limits : Limits n
+  pub long : marksAt n + n .timetable .stops ≤ length built
+  pub listed : RowsListed t (n .timetable) (stopRuns built n) (departureRows built n) (n .departures)
+  pub lined : net .lined ≡ linedOf (n .timetable) (lay .lines)
+  pub events : net .events ≡ eventsAt lay
+
+-- as it came: the other list, and what is read of the working numbers (egress table, positions, FIFO flags, events before each trip)
+pub record Kept (lay : Lay) (w w′ : List ℕ) : Type 0 where
+  pub size : length w′ ≡ length w
+  pub list : part w′ (lay .other) (lay .stops + 64) ≡ part w (lay .other) (lay .stops + 64)
+  pub rest : (i : ℕ) → restAt lay ≤ i → i < tripStampsAt lay → getD w′ i 0 ≡ getD w i 0
+
+-- the stop at place i of the other list
+abbrev pub otherAt : Lay → List ℕ → ℕ → ℕ
+otherAt lay w i = getD w (lay .other + i) 0
+
+-- the n stops of the other list, to be boarded at: each one of the table's, and reached by 108,003,224, the latest arrival
+pub record Waiting (lay : Lay) (w : List ℕ) (n : ℕ) : Type 0 where
+  pub few : n ≤ lay .stops + 64
+  pub inside : (i : ℕ) → i < n → otherAt lay w i < lay .stops
+  pub early : (i : ℕ) → i < n → getD w (otherAt lay w i) 0 ≤ 108003224
+
+-- the first n segments of a queue, to be ridden: there, on trips of the table, with small shifts
+pub record Segments (c : Counts) (q : List ℕ) (n : ℕ) : Type 0 where
+  pub room : n ≤ length q / 4
+  pub trip : (k : ℕ) → k < n → segmentAt q k .trip < c .trips
+  pub shift : (k : ℕ) → k < n → sizeOf (segmentAt q k .shift) ≤ timeLimit

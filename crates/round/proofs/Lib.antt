@@ -1,0 +1,5 @@
+pub mod Tests
+pub mod Keep
+pub mod States
+pub mod Opening
+pub mod Closing

@@ -1,0 +1,107 @@
+use Rattle.riding.proofs.Later.{segments-later}
+use Rattle.riding.proofs.Keep.{rides-kept}
+use denote.Ref.{now}
+use Rattle.riding.proofs.Phased.{going-on}
+use native.Mathlib.Omega.{arith}
+use mathlib.Core.Path.{_∙_, sym}
+use Rattle.segments.proofs.Segmented.{segmentsFrom, segments-end, segments-fewer, segments-start, segments-turn}
+use Rattle.model.specs.Search.{rideSegments}
+use Rattle.scratch.specs.View.{memory, queueOf}
+use Prim.Native.Nat.{_-_, _+_}
+use Rattle.riding.proofs.Riding.{Riding, ride-end, ride-over, ride-start, ride-turn}
+use Rattle.riding.specs.Laid.{Rides}
+use Rattle.segments.proofs.ride_segments.Statement.{statement}
+use Rattle.segments.proofs.ride_segments.Tie as tie
+use Rattle.segments.proofs.ride_segments.Reads as reads
+use Rattle.segments.proofs.ride_segments.Lts as lts
+use Rattle.segments.proofs.ride_segment.Reads as ride-segment-reads
+
+abbrev Inv-loop : tie.InvT-loop
+Inv-loop n t rows stop-rows built bytes area net flagged stamp m lay from work₀ labels₀ distances₀ queue₀ g₀ k₀ work labels distances queue g k =
+    Riding lay stamp (Rides n t rows stop-rows built bytes area net lay work₀) (λ T Q. rideSegments T Q flagged (stamp - 2) stamp (queueOf from m)) (λ T Q. segmentsFrom T Q flagged (stamp - 2) stamp from m k) (memory work₀ labels₀ distances₀ g₀) (memory work labels distances g) queue₀ queue
+
+abbrev μ-loop : tie.MeasureT-loop
+μ-loop n t rows stop-rows built bytes area net flagged stamp m lay from work₀ labels₀ distances₀ queue₀ g₀ k₀ work labels distances queue g k =
+    m - k
+
+-- src/lib.rt:454:5
+loop-holds : tie.Need-loop-holds Inv-loop μ-loop
+loop-holds c = let a = c .before .before .before .before .before .before .before .before .before .before .before in let x = a .args in let G = a .pre .0 in ride-start _ _ _ _ (G .ready) (G .chains) (G .room) (λ T Q y s. segments-start T Q (x .flagged) (x .stamp - 2) (x .stamp) (now (x .from)) (x .m) s)
+
+-- src/lib.rt:455:9
+ride-segment-requires : tie.Need-ride-segment-requires Inv-loop μ-loop
+ride-segment-requires c κs = let a = c .before .before .before .before .before .before .before .before .before .before .before .before .before .before .before .before .before in let x = a .args in let G = a .pre .0 in let p = c .before .before .before .before .before .loop .inv in (going-on G p, segments-fewer _ (a .pre .1) (omega (arith, c .before .before .before .before .loop-test .taken)))
+
+-- src/lib.rt:476:13
+same-length : tie.Need-same-length Inv-loop μ-loop
+same-length c = let a = c .before .before .before .before .before .before .before .before .before .before .before .before .before .before .before .before .before .before .before .before .before .before .before .before .before .before .before in let x = a .args in let G = a .pre .0 in let p = c .before .before .before .before .before .before .before .before .before .before .before .before .before .before .before .loop .inv in let z = c .before .before .before .before .before .before .before .before .before .ride-segment .ensures in z .step .kept .size ∙ p .kept .size
+
+-- src/lib.rt:476:13
+same-length-2 : tie.Need-same-length-2 Inv-loop μ-loop
+same-length-2 c = let a = c .before .before .before .before .before .before .before .before .before .before .before .before .before .before .before .before .before .before .before .before .before .before .before .before .before .before .before in let x = a .args in let G = a .pre .0 in let p = c .before .before .before .before .before .before .before .before .before .before .before .before .before .before .before .loop .inv in let z = c .before .before .before .before .before .before .before .before .before .ride-segment .ensures in z .step .ready .sized .rows ∙ sym (G .ready .sized .rows)
+
+-- src/lib.rt:476:13
+same-length-3 : tie.Need-same-length-3 Inv-loop μ-loop
+same-length-3 c = let a = c .before .before .before .before .before .before .before .before .before .before .before .before .before .before .before .before .before .before .before .before .before .before .before .before .before .before .before in let x = a .args in let G = a .pre .0 in let p = c .before .before .before .before .before .before .before .before .before .before .before .before .before .before .before .loop .inv in let z = c .before .before .before .before .before .before .before .before .before .ride-segment .ensures in z .step .ready .sized .metres ∙ sym (G .ready .sized .metres)
+
+-- src/lib.rt:476:13
+same-length-4 : tie.Need-same-length-4 Inv-loop μ-loop
+same-length-4 c = let a = c .before .before .before .before .before .before .before .before .before .before .before .before .before .before .before .before .before .before .before .before .before .before .before .before .before .before .before in let x = a .args in let G = a .pre .0 in let p = c .before .before .before .before .before .before .before .before .before .before .before .before .before .before .before .loop .inv in let z = c .before .before .before .before .before .before .before .before .before .ride-segment .ensures in z .step .size ∙ p .size
+
+-- src/lib.rt:476:13
+returns : tie.Need-returns Inv-loop μ-loop
+returns c = let a = c .before .before .before .before .before .before .before .before .before .before .before .before .before .before .before .before .before .before .before .before .before .before .before .before .before .before .before in let x = a .args in let G = a .pre .0 in let p = c .before .before .before .before .before .before .before .before .before .before .before .before .before .before .before .loop .inv in let z = c .before .before .before .before .before .before .before .before .before .ride-segment .ensures in ride-over (λ T Q. segmentsFrom T Q (x .flagged) (x .stamp - 2) (x .stamp) (now (x .from)) (x .m) (c .before .before .before .before .before .before .before .before .before .before .before .before .before .before .before .loop .k + 1)) p z (λ T Q y. rides-kept (G .laid) (p .kept) y) (λ T Q y s e. segments-turn T Q (x .flagged) (x .stamp - 2) (x .stamp) (now (x .from)) (x .m) (c .before .before .before .before .before .before .before .before .before .before .before .before .before .before .before .loop .k) s (c .before .before .before .before .before .before .before .before .before .before .before .before .before .before .loop-test .taken)) (c .if1 .taken) (λ T Q s. segments-later T Q (x .flagged) (x .stamp - 2) (x .stamp) _ s .queue)
+
+-- src/lib.rt:478:9
+add-k : tie.Need-add-k Inv-loop μ-loop
+add-k c = let a = c .before .before .before .before .before .before .before .before .before .before .before .before .before .before .before .before .before .before .before .before .before .before .before .before .before .before .before in omega (arith, a .fits .m .fits, c .before .before .before .before .before .before .before .before .before .before .before .before .before .before .loop-test .taken)
+
+-- src/lib.rt:454:5
+loop-less : tie.Need-loop-less Inv-loop μ-loop
+loop-less c = omega arith
+
+-- src/lib.rt:454:5
+loop-again : tie.Need-loop-again Inv-loop μ-loop
+loop-again c = let a = c .before .before .before .before .before .before .before .before .before .before .before .before .before .before .before .before .before .before .before .before .before .before .before .before .before .before .before in let x = a .args in let G = a .pre .0 in let p = c .before .before .before .before .before .before .before .before .before .before .before .before .before .before .before .loop .inv in let z = c .before .before .before .before .before .before .before .before .before .ride-segment .ensures in ride-turn _ p z (λ T Q y. rides-kept (G .laid) (p .kept) y) (λ T Q y s e. segments-turn T Q (x .flagged) (x .stamp - 2) (x .stamp) (now (x .from)) (x .m) (c .before .before .before .before .before .before .before .before .before .before .before .before .before .before .before .loop .k) s (c .before .before .before .before .before .before .before .before .before .before .before .before .before .before .loop-test .taken)) (c .if1 .left)
+
+-- src/lib.rt:429:1
+same-length-5 : tie.Need-same-length-5 Inv-loop μ-loop
+same-length-5 c = let a = c .before .before .before .before .before .before .before .before .before .before .before .before .before in let x = a .args in let G = a .pre .0 in let p = c .before .loop .inv in p .kept .size
+
+-- src/lib.rt:429:1
+same-length-6 : tie.Need-same-length-6 Inv-loop μ-loop
+same-length-6 c = let a = c .before .before .before .before .before .before .before .before .before .before .before .before .before in let x = a .args in let G = a .pre .0 in let p = c .before .loop .inv in p .ready .sized .rows ∙ sym (G .ready .sized .rows)
+
+-- src/lib.rt:429:1
+same-length-7 : tie.Need-same-length-7 Inv-loop μ-loop
+same-length-7 c = let a = c .before .before .before .before .before .before .before .before .before .before .before .before .before in let x = a .args in let G = a .pre .0 in let p = c .before .loop .inv in p .ready .sized .metres ∙ sym (G .ready .sized .metres)
+
+-- src/lib.rt:429:1
+same-length-8 : tie.Need-same-length-8 Inv-loop μ-loop
+same-length-8 c = let a = c .before .before .before .before .before .before .before .before .before .before .before .before .before in let x = a .args in let G = a .pre .0 in let p = c .before .loop .inv in p .size
+
+-- src/lib.rt:429:1
+returns-2 : tie.Need-returns-2 Inv-loop μ-loop
+returns-2 c = let a = c .before .before .before .before .before .before .before .before .before .before .before .before .before in let x = a .args in let G = a .pre .0 in let p = c .before .loop .inv in ride-end _ p (λ T Q y s e. segments-end T Q (x .flagged) (x .stamp - 2) (x .stamp) (now (x .from)) (x .m) (c .before .loop .k) s (c .loop-test .left))
+
+pub ride-segments-spec : {M : Type 1} → statement M
+ride-segments-spec =
+    tie.close
+    (tie.spec
+    Inv-loop
+    μ-loop
+    loop-holds
+    ride-segment-requires
+    same-length
+    same-length-2
+    same-length-3
+    same-length-4
+    returns
+    add-k
+    loop-less
+    loop-again
+    same-length-5
+    same-length-6
+    same-length-7
+    same-length-8
+    returns-2)

@@ -1,0 +1,4 @@
+pub mod Queuing
+pub mod Keeping
+pub mod Taking
+pub mod Transfers
