@@ -170,7 +170,7 @@ fn ask(
         queue_b: queue_b.len(),
         candidates: candidates.len(),
     };
-    let code = asking::questions(n, t, built, transfers, patterns, distances, q, l);
+    let code = query_door::questions(n, t, built, transfers, patterns, distances, q, l);
     if code != 0 {
         return Reply {
             code: code,

@@ -9,7 +9,7 @@ use Rattle.query.proofs.ask.Statement.{statement}
 use Rattle.query.proofs.ask.Tie as tie
 use Rattle.query.proofs.ask.Reads as reads
 use Rattle.query.proofs.ask.Lts as lts
-use Rattle.asking.proofs.questions.Reads as questions-reads
+use Rattle.query_door.proofs.questions.Reads as questions-reads
 use Rattle.query.proofs.answer_query.Reads as answer-query-reads
 
 -- src/lib.rt:285:9

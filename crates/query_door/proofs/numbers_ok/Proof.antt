@@ -1,0 +1,78 @@
+use Prim.Native.Nat.{ℕ}
+use Rattle.tables.specs.Timetable.{timetable}
+use Rattle.asking.specs.Door.{question4}
+use borrow.Author.Needs.{needs}
+use Rattle.asking.proofs.Parts.{marks-room, query-room, rows-size}
+use Rattle.departures.specs.Listed.{listedOk}
+use lib.ListN.{length}
+use Rattle.line_layout.proofs.Examples.{counts}
+use mathlib.Core.Path.{_∙_, ap, ap₂}
+use mathlib.Core.Bool.{_&&_}
+use mathlib.Core.List.{List}
+use denote.Ref.{now}
+use Rattle.query_door.proofs.numbers_ok.Statement.{statement}
+use Rattle.query_door.proofs.numbers_ok.Tie as tie
+use Rattle.query_door.proofs.numbers_ok.Reads as reads
+use Rattle.query_door.proofs.numbers_ok.Lts as lts
+use Rattle.query_door.proofs.delays_ok.Reads as delays-ok-reads
+use Rattle.asking.proofs.departure_rows.Reads as departure-rows-reads
+use Rattle.query_door.proofs.line_numbers.Reads as line-numbers-reads
+use Rattle.query_door.proofs.query_numbers.Reads as query-numbers-reads
+use Rattle.asking.proofs.stop_runs.Reads as stop-runs-reads
+use Rattle.departures.proofs.listed_ok.Reads as listed-ok-reads
+use Rattle.door.proofs.both.Reads as both-reads
+use Rattle.tables.proofs.numbers_ok.Reads as numbers-ok-reads
+
+stop-runs-requires : tie.Need-stop-runs-requires
+stop-runs-requires c κs = (c .before .before .before .before .pre .0, marks-room (c .before .before .before .before .pre .1 .0))
+
+departure-rows-requires : tie.Need-departure-rows-requires
+departure-rows-requires c κs = (c .before .before .before .before .before .pre .0, marks-room (c .before .before .before .before .before .pre .1 .0))
+
+listed-ok-requires : tie.Need-listed-ok-requires
+listed-ok-requires c κs = (c .before .before .before .before .before .before .pre .1 .0 .slices, (c .before .before .before .before .before .before .pre .1 .1 .trips, (rw (c .before .stop-runs .ensures) (c .before .before .before .before .before .before .pre .1 .1 .stops), ap length (c .departure-rows .ensures) ∙ rows-size (now (c .before .before .before .before .before .before .args .built)) (c .before .before .before .before .before .before .args .n) (marks-room (c .before .before .before .before .before .before .pre .1 .0)))))
+
+numbers-ok-requires : tie.Need-numbers-ok-requires
+numbers-ok-requires c κs = (c .before .before .before .before .before .before .before .pre .0 .counts, c .before .before .before .before .before .before .before .pre .1 .0 .slices)
+
+line-numbers-requires : tie.Need-line-numbers-requires
+line-numbers-requires c κs = (c .before .before .before .before .before .before .before .before .pre .0, marks-room (c .before .before .before .before .before .before .before .before .pre .1 .0))
+
+both-requires : tie.Need-both-requires
+both-requires c κs = search needs
+
+query-numbers-requires : tie.Need-query-numbers-requires
+query-numbers-requires c κs = (c .before .before .before .before .before .before .before .before .before .before .pre .0, query-room (c .before .before .before .before .before .before .before .before .before .before .pre .1 .0))
+
+delays-ok-requires : tie.Need-delays-ok-requires
+delays-ok-requires c κs = (c .before .before .before .before .before .before .before .before .before .before .before .pre .0, query-room (c .before .before .before .before .before .before .before .before .before .before .before .pre .1 .0))
+
+both-requires-2 : tie.Need-both-requires-2
+both-requires-2 c κs = search needs
+
+both-requires-3 : tie.Need-both-requires-3
+both-requires-3 c κs = search needs
+
+both-requires-4 : tie.Need-both-requires-4
+both-requires-4 c κs = search needs
+
+returns : tie.Need-returns
+unfolding question4
+returns c = c .both4 .ensures ∙ ap₂ _&&_ (c .before .before .before .before .before .both .ensures ∙ ap₂ _&&_ (c .before .before .before .before .before .before .before .numbers-ok .ensures) (c .before .before .before .before .before .before .line-numbers .ensures)) (c .before .both3 .ensures ∙ ap₂ _&&_ (c .before .before .before .before .before .before .before .before .listed-ok .ensures ∙ ap₂ (λ (a b : List ℕ). listedOk (now (c .before .before .before .before .before .before .before .before .before .before .before .before .before .before .before .args .t)) (c .before .before .before .before .before .before .before .before .before .before .before .before .before .before .before .args .n .timetable) a b (c .before .before .before .before .before .before .before .before .before .before .before .before .before .before .before .args .n .departures)) (c .before .before .before .before .before .before .before .before .before .before .stop-runs .ensures) (c .before .before .before .before .before .before .before .before .before .departure-rows .ensures)) (c .before .before .both2 .ensures ∙ ap₂ _&&_ (c .before .before .before .before .query-numbers .ensures) (c .before .before .before .delays-ok .ensures)))
+
+pub numbers-ok-spec : {M : Type 1} → statement M
+numbers-ok-spec =
+    tie.close
+    (tie.spec
+    stop-runs-requires
+    departure-rows-requires
+    listed-ok-requires
+    numbers-ok-requires
+    line-numbers-requires
+    both-requires
+    query-numbers-requires
+    delays-ok-requires
+    both-requires-2
+    both-requires-3
+    both-requires-4
+    returns)

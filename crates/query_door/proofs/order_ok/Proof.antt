@@ -1,0 +1,73 @@
+use Prim.Native.Nat.{ℕ}
+use Rattle.tables.specs.Timetable.{timetable}
+use Rattle.asking.specs.Door.{departureOrder, question6}
+use mathlib.Core.Path.{_∙_, ap₂}
+use mathlib.Core.Bool.{_&&_}
+use mathlib.Core.List.{List}
+use denote.Ref.{now}
+use borrow.Author.Needs.{needs}
+use Rattle.query_door.proofs.order_ok.Statement.{statement}
+use Rattle.query_door.proofs.order_ok.Tie as tie
+use Rattle.query_door.proofs.order_ok.Reads as reads
+use Rattle.query_door.proofs.order_ok.Lts as lts
+use Rattle.query_door.proofs.delays_ok.Reads as delays-ok-reads
+use Rattle.query_door.proofs.departure_order.Reads as departure-order-reads
+use Rattle.asking.proofs.departure_rows.Reads as departure-rows-reads
+use Rattle.query_door.proofs.egress_order.Reads as egress-order-reads
+use Rattle.asking.proofs.stop_runs.Reads as stop-runs-reads
+use Rattle.door.proofs.both.Reads as both-reads
+use Rattle.tables.proofs.order_ok.Reads as order-ok-reads
+
+stop-runs-requires : tie.Need-stop-runs-requires
+stop-runs-requires c κs = search needs
+
+departure-rows-requires : tie.Need-departure-rows-requires
+departure-rows-requires c κs = search needs
+
+departure-order-requires : tie.Need-departure-order-requires
+departure-order-requires c κs = rw (c .before .stop-runs .ensures, c .departure-rows .ensures) (c .before .before .before .before .before .before .pre .1 .1)
+
+order-ok-requires : tie.Need-order-ok-requires
+order-ok-requires c κs = search needs
+
+both-requires : tie.Need-both-requires
+both-requires c κs = search needs
+
+mul-egress-order : tie.Need-mul-egress-order
+mul-egress-order c = search needs
+
+add-egress-order : tie.Need-add-egress-order
+add-egress-order c = search needs
+
+egress-order-requires : tie.Need-egress-order-requires
+egress-order-requires c κs = search needs
+
+delays-ok-requires : tie.Need-delays-ok-requires
+delays-ok-requires c κs = search needs
+
+both-requires-2 : tie.Need-both-requires-2
+both-requires-2 c κs = search needs
+
+both-requires-3 : tie.Need-both-requires-3
+both-requires-3 c κs = search needs
+
+returns : tie.Need-returns
+unfolding question6
+returns c = c .both3 .ensures ∙ ap₂ _&&_ (c .before .before .before .before .before .both .ensures ∙ ap₂ _&&_ (c .before .before .before .before .before .before .order-ok .ensures) (c .before .before .before .before .before .before .before .departure-order .ensures ∙ ap₂ (λ (a b : List ℕ). departureOrder (timetable (now (c .before .before .before .before .before .before .before .before .before .before .before .before .before .before .args .t)) (c .before .before .before .before .before .before .before .before .before .before .before .before .before .before .args .n .timetable)) a b (c .before .before .before .before .before .before .before .before .before .before .before .before .before .before .args .n .timetable .stops)) (c .before .before .before .before .before .before .before .before .before .stop-runs .ensures) (c .before .before .before .before .before .before .before .before .departure-rows .ensures))) (c .before .both2 .ensures ∙ ap₂ _&&_ (c .before .before .before .egress-order .ensures) (c .before .before .delays-ok .ensures))
+
+pub order-ok-spec : {M : Type 1} → statement M
+order-ok-spec =
+    tie.close
+    (tie.spec
+    stop-runs-requires
+    departure-rows-requires
+    departure-order-requires
+    order-ok-requires
+    both-requires
+    mul-egress-order
+    add-egress-order
+    egress-order-requires
+    delays-ok-requires
+    both-requires-2
+    both-requires-3
+    returns)

@@ -1,0 +1,51 @@
+use Prim.Native.Nat.{ℕ}
+use mathlib.Core.Path.{_∙_, _≡_, ap, subst, sym}
+use mathlib.Core.List.{List}
+use lib.ListN.{length}
+use denote.Ref.{now}
+use native.Mathlib.Omega.{arith}
+use borrow.Author.Tests.{not-false}
+use Rattle.asking.specs.Lent.{departureRows}
+use Rattle.asking.specs.Once.{InTurn}
+use Rattle.asking.proofs.Parts.{marks-room, rows-size}
+use Rattle.asking.proofs.Once.{passed-yes}
+use borrow.Author.Needs.{needs}
+use Rattle.query_door.proofs.passed.Statement.{statement}
+use Rattle.query_door.proofs.passed.Tie as tie
+
+query-ok-requires : tie.Need-query-ok-requires
+query-ok-requires c κs = search needs
+
+returns : tie.Need-returns
+returns c = λ h. let z : _≡_ {A = ℕ} 0 1 = cc in absurd (omega arith)
+
+tables-ok-requires : tie.Need-tables-ok-requires
+tables-ok-requires c κs = search needs
+
+returns-2 : tie.Need-returns-2
+returns-2 c = λ h. let z : _≡_ {A = ℕ} 0 1 = cc in absurd (omega arith)
+
+stop-runs-requires : tie.Need-stop-runs-requires
+stop-runs-requires c κs = search needs
+
+departure-rows-requires : tie.Need-departure-rows-requires
+departure-rows-requires c κs = search needs
+
+in-turn-requires : tie.Need-in-turn-requires
+in-turn-requires c κs = (c .before .before .before .before .before .before .before .before .before .before .pre .1 .0 .slices, (c .before .before .before .before .before .before .before .before .before .before .pre .1 .1 .0 .trips, (rw (c .before .stop-runs .ensures) (c .before .before .before .before .before .before .before .before .before .before .pre .1 .1 .0 .stops), ap length (c .departure-rows .ensures) ∙ rows-size (now (c .before .before .before .before .before .before .before .before .before .before .args .built)) (c .before .before .before .before .before .before .before .before .before .before .args .n) (marks-room (c .before .before .before .before .before .before .before .before .before .before .pre .1 .0)))))
+
+returns-3 : tie.Need-returns-3
+returns-3 c = λ h. let s = c .before .before .before .before .before .before .before .before .before .before .before in let t = now (s .args .t) in let b = now (s .args .built) in let n = s .args .n in passed-yes t b (now (s .args .transfers)) (now (s .args .q)) n (s .args .rows) (sym (c .before .before .before .before .before .before .query-ok .ensures) ∙ not-false _ (c .before .before .before .before .before .if1 .left)) (sym (c .before .before .before .before .tables-ok .ensures) ∙ not-false _ (c .before .before .before .if2 .left)) (subst (λ (l : List ℕ). InTurn t (n .timetable) l (departureRows b n) (n .departures)) (c .before .before .stop-runs .ensures) (subst (λ (l : List ℕ). InTurn t (n .timetable) (now (c .before .before .stop-runs .result)) l (n .departures)) (c .before .departure-rows .ensures) (c .in-turn .ensures h)))
+
+pub passed-spec : {M : Type 1} → statement M
+passed-spec =
+    tie.close
+    (tie.spec
+    query-ok-requires
+    returns
+    tables-ok-requires
+    returns-2
+    stop-runs-requires
+    departure-rows-requires
+    in-turn-requires
+    returns-3)

@@ -1,0 +1,73 @@
+use Rattle.asking.specs.Door.{question5}
+use Rattle.asking.proofs.Parts.{query-room, runs-room}
+use borrow.Author.Needs.{needs}
+use Rattle.line_layout.proofs.Examples.{counts}
+use native.Mathlib.Omega.{arith}
+use mathlib.Core.Path.{_∙_, ap₂}
+use mathlib.Core.Bool.{_&&_}
+use denote.Ref.{now}
+use Rattle.query_door.proofs.ranges_ok.Statement.{statement}
+use Rattle.query_door.proofs.ranges_ok.Tie as tie
+use Rattle.query_door.proofs.ranges_ok.Reads as reads
+use Rattle.query_door.proofs.ranges_ok.Lts as lts
+use Rattle.query_door.proofs.delays_ok.Reads as delays-ok-reads
+use Rattle.query_door.proofs.mark_ranges.Reads as mark-ranges-reads
+use Rattle.query_door.proofs.setting_ranges.Reads as setting-ranges-reads
+use Rattle.query_door.proofs.transfer_ranges.Reads as transfer-ranges-reads
+use Rattle.query_door.proofs.walk_ranges.Reads as walk-ranges-reads
+use Rattle.door.proofs.both.Reads as both-reads
+use Rattle.tables.proofs.ranges_ok.Reads as ranges-ok-reads
+
+ranges-ok-requires : tie.Need-ranges-ok-requires
+ranges-ok-requires c κs = (c .before .before .before .before .pre .0 .counts, c .before .before .before .before .pre .1 .0 .slices)
+
+mark-ranges-requires : tie.Need-mark-ranges-requires
+mark-ranges-requires c κs = (c .before .before .before .before .before .pre .0, runs-room (c .before .before .before .before .before .pre .1 .0))
+
+transfer-ranges-requires : tie.Need-transfer-ranges-requires
+transfer-ranges-requires c κs = c .before .before .before .before .before .before .pre .1 .1
+
+both-requires : tie.Need-both-requires
+both-requires c κs = search needs
+
+both-requires-2 : tie.Need-both-requires-2
+both-requires-2 c κs = search needs
+
+setting-ranges-requires : tie.Need-setting-ranges-requires
+setting-ranges-requires c κs = omega (arith, query-room (c .before .before .before .before .before .before .before .before .before .pre .1 .0))
+
+walk-ranges-requires : tie.Need-walk-ranges-requires
+walk-ranges-requires c κs = (c .before .before .before .before .before .before .before .before .before .before .pre .0, query-room (c .before .before .before .before .before .before .before .before .before .before .pre .1 .0))
+
+delays-ok-requires : tie.Need-delays-ok-requires
+delays-ok-requires c κs = (c .before .before .before .before .before .before .before .before .before .before .before .pre .0, query-room (c .before .before .before .before .before .before .before .before .before .before .before .pre .1 .0))
+
+both-requires-3 : tie.Need-both-requires-3
+both-requires-3 c κs = search needs
+
+both-requires-4 : tie.Need-both-requires-4
+both-requires-4 c κs = search needs
+
+both-requires-5 : tie.Need-both-requires-5
+both-requires-5 c κs = search needs
+
+returns : tie.Need-returns
+unfolding question5
+returns c = c .both5 .ensures ∙ ap₂ _&&_ (c .before .before .before .before .before .before .both2 .ensures ∙ ap₂ _&&_ (c .before .before .before .before .before .before .before .before .before .before .ranges-ok .ensures) (c .before .before .before .before .before .before .before .both .ensures ∙ ap₂ _&&_ (c .before .before .before .before .before .before .before .before .before .mark-ranges .ensures) (c .before .before .before .before .before .before .before .before .transfer-ranges .ensures))) (c .before .both4 .ensures ∙ ap₂ _&&_ (c .before .before .before .before .before .setting-ranges .ensures) (c .before .before .both3 .ensures ∙ ap₂ _&&_ (c .before .before .before .before .walk-ranges .ensures) (c .before .before .before .delays-ok .ensures)))
+
+pub ranges-ok-spec : {M : Type 1} → statement M
+ranges-ok-spec =
+    tie.close
+    (tie.spec
+    ranges-ok-requires
+    mark-ranges-requires
+    transfer-ranges-requires
+    both-requires
+    both-requires-2
+    setting-ranges-requires
+    walk-ranges-requires
+    delays-ok-requires
+    both-requires-3
+    both-requires-4
+    both-requires-5
+    returns)

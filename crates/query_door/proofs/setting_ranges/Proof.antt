@@ -1,0 +1,54 @@
+use Rattle.asking.specs.Door.{settingRanges}
+use borrow.Author.Needs.{needs}
+use Rattle.query_door.proofs.setting_ranges.Statement.{statement}
+use Rattle.query_door.proofs.setting_ranges.Tie as tie
+use Rattle.query_door.proofs.setting_ranges.Reads as reads
+use Rattle.query_door.proofs.setting_ranges.Lts as lts
+use Rattle.door.proofs.both.Reads as both-reads
+use Rattle.tables.proofs.field.Reads as field-reads
+
+field-requires : tie.Need-field-requires
+field-requires c κs = search needs
+
+field-requires-2 : tie.Need-field-requires-2
+field-requires-2 c κs = search needs
+
+both-requires : tie.Need-both-requires
+both-requires c κs = search needs
+
+field-requires-3 : tie.Need-field-requires-3
+field-requires-3 c κs = search needs
+
+field-requires-4 : tie.Need-field-requires-4
+field-requires-4 c κs = search needs
+
+both-requires-2 : tie.Need-both-requires-2
+both-requires-2 c κs = search needs
+
+field-requires-5 : tie.Need-field-requires-5
+field-requires-5 c κs = search needs
+
+both-requires-3 : tie.Need-both-requires-3
+both-requires-3 c κs = search needs
+
+both-requires-4 : tie.Need-both-requires-4
+both-requires-4 c κs = search needs
+
+returns : tie.Need-returns
+unfolding settingRanges
+returns c = cc
+
+pub setting-ranges-spec : {M : Type 1} → statement M
+setting-ranges-spec =
+    tie.close
+    (tie.spec
+    field-requires
+    field-requires-2
+    both-requires
+    field-requires-3
+    field-requires-4
+    both-requires-2
+    field-requires-5
+    both-requires-3
+    both-requires-4
+    returns)

@@ -1,0 +1,409 @@
+// query_door: the door of a query: questions 4 to 6 (document 01), and all six in order.
+// Proves: `questions` answers the verdict (`asking` specs/Door) on every input. A pass that reads each stop time and each listed departure
+// once (`passed`) admits what is in order; only where it does not is each question asked on its own, for the number.
+// Assumes nothing.
+ghost use mathlib.Core.Path.{_≡_};
+ghost use mathlib.Core.Bool.{true};
+ghost use Prim.Native.Nat.{_+_, _*_, _-_, _≤_, _<_};
+ghost use lib.ListN.{length};
+ghost use lib.Dec.{ltb, leb};
+ghost use Rattle.tables.specs.Timetable.{timetable};
+ghost use Rattle.tables.specs.Sane.{CountsOk, SlicesOk, RunsOk};
+ghost use Rattle.departures.specs.Departures.{rowAt, rowDeparture, departuresOf, runLength};
+ghost use Rattle.departures.specs.Listed.{RunsListed, RowsKnown, RowsListed};
+ghost use Rattle.asking.specs.Lent.{marksAt, transferRunsAt, querySize, delaysOf, stopRuns, departureRows, lent};
+ghost use Rattle.asking.specs.Door.{columnAt, lineNumbers, queryNumbers, question4, markRanges, transferRanges, settingRanges, walkRanges, question5, partOrder, departureOrder, columnRises, question6, verdict};
+ghost use Rattle.asking.specs.Sane.{Limits, Sized, Placed};
+ghost use Rattle.asking.specs.Once.{Leaving, RunRight, InTurn, queryOk, tablesOk, Passed};
+ghost use Rattle.delay_tables.specs.Asked.{rowsAsked};
+use asking::Lengths;
+use asking::QueryCounts;
+use departures::DepartureRow;
+use door::both;
+use tables::Counts;
+
+// Question 4 of the lines.
+fn line_numbers(built: &[u32], n: QueryCounts) -> bool
+    requires { ⌜ Limits n ⌝ ∗ ⌜ marksAt n ≤ length (now built) ⌝ }
+    ensures { λ r. ⌜ r ≡ lineNumbers (now (built .entry)) n ⌝ }
+{
+    let lines = asking::column_below(built, 0, 1, n.timetable.trips, n.lines);
+    let entries = line_layout::entries_ok(n.timetable, asking::line_entries(built, n), n.entries);
+    both(lines, entries)
+}
+
+// Question 4 of origins and egress.
+fn query_numbers(q: &[u32], n: QueryCounts) -> bool
+    requires { ⌜ Limits n ⌝ ∗ ⌜ querySize n ≤ length (now q) ⌝ }
+    ensures { λ r. ⌜ r ≡ queryNumbers (now (q .entry)) n ⌝ }
+{
+    let stops = n.timetable.stops;
+    let origins = asking::column_below(q, 7, 2, n.origins, stops);
+    let egress = asking::column_below(q, 7 + n.origins * 2, 2, n.egress, stops);
+    both(origins, egress)
+}
+
+// Question 4, 5 or 6 of the delay tables.
+fn delays_ok(question: u32, q: &[u32], n: QueryCounts) -> bool
+    requires { ⌜ Limits n ⌝ ∗ ⌜ querySize n ≤ length (now q) ⌝ }
+    ensures { λ r. ⌜ r ≡ rowsAsked question (n .timetable .trips) (delaysOf (now (q .entry)) n) ⌝ }
+{
+    delay_tables::rows_asked(
+        question,
+        n.timetable.trips as u32,
+        asking::delay_rows(q, n),
+        asking::stop_rows(q, n),
+    )
+}
+
+// Question 4.
+fn numbers_ok(t: &[u32], built: &[u32], q: &[u32], n: QueryCounts, rows: usize) -> bool
+    requires { ⌜ Limits n ⌝ ∗ ⌜ Sized (now t) n (length (now built)) (length (now q)) ⌝ ∗ ⌜ Placed (now t) (now built) n rows ⌝ }
+    ensures { λ r. ⌜ r ≡ question4 (now (t .entry)) (now (built .entry)) (now (q .entry)) n ⌝ }
+{
+    let c = n.timetable;
+    let listed = departures::listed_ok(
+        t,
+        c,
+        asking::stop_runs(built, n),
+        asking::departure_rows(built, n),
+        n.departures,
+    );
+    both(
+        both(tables::numbers_ok(t, c), line_numbers(built, n)),
+        both(listed, both(query_numbers(q, n), delays_ok(4, q, n))),
+    )
+}
+
+// Question 5 of the marks.
+fn mark_ranges(built: &[u32], n: QueryCounts) -> bool
+    requires { ⌜ Limits n ⌝ ∗ ⌜ transferRunsAt n ≤ length (now built) ⌝ }
+    ensures { λ r. ⌜ r ≡ markRanges (now (built .entry)) n ⌝ }
+{
+    asking::column_below(built, asking::marks_at(n), 1, n.timetable.stops, 2)
+}
+
+// Question 5 of the transfers: all bits of their times are kept.
+fn transfer_ranges(transfers: &[u32], rows: usize) -> bool
+    requires { ⌜ rows * 4 ≤ length (now transfers) ⌝ }
+    ensures { λ r. ⌜ r ≡ transferRanges (now (transfers .entry)) rows ⌝ }
+{
+    let mut bits: u32 = 0;
+    let mut k: usize = 0;
+    while k < rows {
+        bits = bits | tables::word(transfers, 2 + k * 4);
+        k += 1;
+    }
+    bits <= 1048575
+}
+
+// Question 5 of the query's settings.
+fn setting_ranges(q: &[u32]) -> bool
+    requires { ⌜ 7 ≤ length (now q) ⌝ }
+    ensures { λ r. ⌜ r ≡ settingRanges (now (q .entry)) ⌝ }
+{
+    let times = both(
+        tables::field(q, 0) <= 1048575,
+        tables::field(q, 1) <= 1048575,
+    );
+    let switches = both(tables::field(q, 5) <= 1, tables::field(q, 6) <= 1);
+    both(times, both(tables::field(q, 4) <= 127, switches))
+}
+
+// Question 5 of origins and egress.
+fn walk_ranges(q: &[u32], n: QueryCounts) -> bool
+    requires { ⌜ Limits n ⌝ ∗ ⌜ querySize n ≤ length (now q) ⌝ }
+    ensures { λ r. ⌜ r ≡ walkRanges (now (q .entry)) n ⌝ }
+{
+    let origins = asking::column_below(q, 8, 2, n.origins, 1048576);
+    let egress = asking::column_below(q, 7 + n.origins * 2 + 1, 2, n.egress, 1048576);
+    both(origins, egress)
+}
+
+// Question 5.
+fn ranges_ok(
+    t: &[u32],
+    built: &[u32],
+    transfers: &[u32],
+    q: &[u32],
+    n: QueryCounts,
+    rows: usize,
+) -> bool
+    requires { ⌜ Limits n ⌝ ∗ ⌜ Sized (now t) n (length (now built)) (length (now q)) ⌝ ∗ ⌜ rows * 4 ≤ length (now transfers) ⌝ }
+    ensures { λ r. ⌜ r ≡ question5 (now (t .entry)) (now (built .entry)) (now (transfers .entry)) (now (q .entry)) n rows ⌝ }
+{
+    let tables = both(
+        tables::ranges_ok(t, n.timetable),
+        both(mark_ranges(built, n), transfer_ranges(transfers, rows)),
+    );
+    both(
+        tables,
+        both(
+            setting_ranges(q),
+            both(walk_ranges(q, n), delays_ok(5, q, n)),
+        ),
+    )
+}
+
+// The departure of row k of a stop's part.
+fn departure_at(t: &[u32], c: Counts, rows: &[u32], count: usize, k: usize) -> usize
+    requires { ⌜ RowsKnown (now t) c (now rows) count ⌝ ∗ ⌜ k < count ⌝ }
+    ensures { λ b. ⌜ b ≡ rowDeparture (timetable (now (t .entry)) c) (rowAt (now (rows .entry)) k) ⌝ }
+{
+    asking::row_departure(t, c, departures::departure_row(rows, k))
+}
+
+fn in_order(before: usize, after: usize) -> bool
+    ensures { λ b. ⌜ b ≡ leb before after ⌝ }
+{
+    before <= after
+}
+
+// Question 6 of a stop's part: is no row earlier than the one before it?
+fn part_order(t: &[u32], c: Counts, rows: &[u32], count: usize) -> bool
+    requires { ⌜ RowsKnown (now t) c (now rows) count ⌝ }
+    ensures { λ b. ⌜ b ≡ partOrder (timetable (now (t .entry)) c) (now (rows .entry)) count ⌝ }
+{
+    if count == 0 {
+        return true;
+    }
+    let mut last = departure_at(t, c, rows, count, 0);
+    let mut k: usize = 1;
+    while k < count {
+        let next = departure_at(t, c, rows, count, k);
+        if !in_order(last, next) {
+            return false;
+        }
+        last = next;
+        k += 1;
+    }
+    true
+}
+
+// Of a stop.
+fn stop_order(t: &[u32], c: Counts, runs: &[u32], rows: &[u32], d: usize, s: usize) -> bool
+    requires { ⌜ RowsListed (now t) c (now runs) (now rows) d ⌝ ∗ ⌜ s < c .stops ⌝ }
+    ensures { λ b. ⌜ b ≡ partOrder (timetable (now (t .entry)) c) (departuresOf (now (runs .entry)) (now (rows .entry)) s) (runLength (now (runs .entry)) s) ⌝ }
+{
+    let r = departures::stop_run(runs, s);
+    part_order(
+        t,
+        c,
+        departures::departures_of(rows, r.first, r.length),
+        r.length,
+    )
+}
+
+// Of every stop.
+fn departure_order(t: &[u32], c: Counts, runs: &[u32], rows: &[u32], d: usize) -> bool
+    requires { ⌜ RowsListed (now t) c (now runs) (now rows) d ⌝ }
+    ensures { λ b. ⌜ b ≡ departureOrder (timetable (now (t .entry)) c) (now (runs .entry)) (now (rows .entry)) (c .stops) ⌝ }
+{
+    let n = c.stops;
+    let mut s: usize = 0;
+    while s < n {
+        if !stop_order(t, c, runs, rows, d, s) {
+            return false;
+        }
+        s += 1;
+    }
+    true
+}
+
+// Question 6 of an egress stop: is it above the one before it? They begin at `at`.
+fn stop_rises(q: &[u32], at: usize, i: usize) -> bool
+    requires { ⌜ 0 < i ⌝ ∗ ⌜ at + i * 2 < length (now q) ⌝ }
+    ensures { λ r. ⌜ r ≡ ltb (columnAt (now (q .entry)) at 2 (i - 1)) (columnAt (now (q .entry)) at 2 i) ⌝ }
+{
+    tables::field(q, at + (i - 1) * 2) < tables::field(q, at + i * 2)
+}
+
+// Of all egress stops.
+fn egress_order(q: &[u32], at: usize, count: usize) -> bool
+    requires { ⌜ at + count * 2 ≤ length (now q) ⌝ }
+    ensures { λ r. ⌜ r ≡ columnRises (now (q .entry)) at 2 count ⌝ }
+{
+    let mut i: usize = 1;
+    while i < count {
+        if !stop_rises(q, at, i) {
+            return false;
+        }
+        i += 1;
+    }
+    true
+}
+
+// Question 6.
+fn order_ok(t: &[u32], built: &[u32], q: &[u32], n: QueryCounts) -> bool
+    requires { ⌜ Limits n ⌝ ∗ ⌜ Sized (now t) n (length (now built)) (length (now q)) ⌝ ∗ ⌜ RowsListed (now t) (n .timetable) (stopRuns (now built) n) (departureRows (now built) n) (n .departures) ⌝ }
+    ensures { λ r. ⌜ r ≡ question6 (now (t .entry)) (now (built .entry)) (now (q .entry)) n ⌝ }
+{
+    let c = n.timetable;
+    let listed = departure_order(
+        t,
+        c,
+        asking::stop_runs(built, n),
+        asking::departure_rows(built, n),
+        n.departures,
+    );
+    both(
+        both(tables::order_ok(t, c), listed),
+        both(
+            egress_order(q, 7 + n.origins * 2, n.egress),
+            delays_ok(6, q, n),
+        ),
+    )
+}
+
+// Questions 4 and 6 of a listed row of stop s: when it leaves, plus 1; 0 where its numbers or its stop are not right.
+fn leaving(t: &[u32], c: Counts, s: usize, r: DepartureRow) -> usize
+    requires { ⌜ CountsOk c ⌝ ∗ ⌜ SlicesOk (now t) c ⌝ ∗ ⌜ RunsOk (now t) c ⌝ }
+    ensures { λ b. ⌜ (0 < b → Leaving (now (t .entry)) c s r b) ⌝ }
+{
+    if !departures::row_numbers(t, c, r) {
+        return 0;
+    }
+    let at = tables::trip(t, c, r.trip, 0) + r.offset;
+    if tables::time(t, c, at, 0) != s {
+        return 0;
+    }
+    tables::time(t, c, at, 2) + 1
+}
+
+// Of the rows of stop s from `first` on, up to `end`: is each right, and none earlier than the one before it?
+fn run_right(t: &[u32], c: Counts, rows: &[u32], s: usize, first: usize, end: usize) -> bool
+    requires { ⌜ CountsOk c ⌝ ∗ ⌜ SlicesOk (now t) c ⌝ ∗ ⌜ RunsOk (now t) c ⌝ ∗ ⌜ end * 2 ≤ length (now rows) ⌝ }
+    ensures { λ b. ⌜ (b ≡ true → RunRight (now (t .entry)) c (now (rows .entry)) s first end) ⌝ }
+{
+    let mut last: usize = 1;
+    let mut k = first;
+    while k < end {
+        let next = leaving(t, c, s, departures::departure_row(rows, k));
+        if next < last {
+            return false;
+        }
+        last = next;
+        k += 1;
+    }
+    true
+}
+
+// Of all departures, each read once. Only where the stops' runs follow one another and leave no row out; else false.
+fn in_turn(t: &[u32], c: Counts, runs: &[u32], rows: &[u32], d: usize) -> bool
+    requires { ⌜ SlicesOk (now t) c ⌝ ∗ ⌜ RunsOk (now t) c ⌝ ∗ ⌜ RunsListed c (now runs) d ⌝ ∗ ⌜ length (now rows) ≡ d * 2 ⌝ }
+    ensures { λ b. ⌜ (b ≡ true → InTurn (now (t .entry)) c (now (runs .entry)) (now (rows .entry)) d) ⌝ }
+{
+    let n = c.stops;
+    let mut end: usize = 0;
+    let mut s: usize = 0;
+    while s < n {
+        let r = departures::stop_run(runs, s);
+        let first = r.first;
+        if first != end {
+            return false;
+        }
+        end += r.length;
+        if !run_right(t, c, rows, s, first, end) {
+            return false;
+        }
+        s += 1;
+    }
+    end == d
+}
+
+// Questions 4 to 6 of the query's numbers.
+fn query_ok(q: &[u32], n: QueryCounts) -> bool
+    requires { ⌜ Limits n ⌝ ∗ ⌜ querySize n ≤ length (now q) ⌝ }
+    ensures { λ r. ⌜ r ≡ queryOk (now (q .entry)) n ⌝ }
+{
+    let numbers = both(query_numbers(q, n), delays_ok(4, q, n));
+    let ranges = both(
+        setting_ranges(q),
+        both(walk_ranges(q, n), delays_ok(5, q, n)),
+    );
+    let order = both(
+        egress_order(q, 7 + n.origins * 2, n.egress),
+        delays_ok(6, q, n),
+    );
+    both(numbers, both(ranges, order))
+}
+
+// Of the tables but for the departures.
+fn tables_ok(t: &[u32], built: &[u32], transfers: &[u32], n: QueryCounts, rows: usize) -> bool
+    requires { ⌜ Limits n ⌝ ∗ ⌜ SlicesOk (now t) (n .timetable) ⌝ ∗ ⌜ transferRunsAt n ≤ length (now built) ⌝ ∗ ⌜ rows * 4 ≤ length (now transfers) ⌝ }
+    ensures { λ r. ⌜ r ≡ tablesOk (now (t .entry)) (now (built .entry)) (now (transfers .entry)) n rows ⌝ }
+{
+    let c = n.timetable;
+    let timetable = both(tables::rows_ok(t, c), tables::order_ok(t, c));
+    let codes = both(mark_ranges(built, n), transfer_ranges(transfers, rows));
+    both(timetable, both(line_numbers(built, n), codes))
+}
+
+// Questions 4, 5 and 6 at once. True is a yes to all three; false says nothing.
+fn passed(
+    t: &[u32],
+    built: &[u32],
+    transfers: &[u32],
+    q: &[u32],
+    n: QueryCounts,
+    rows: usize,
+) -> bool
+    requires { ⌜ Limits n ⌝ ∗ ⌜ Sized (now t) n (length (now built)) (length (now q)) ⌝ ∗ ⌜ Placed (now t) (now built) n rows ⌝ ∗ ⌜ rows * 4 ≤ length (now transfers) ⌝ }
+    ensures { λ r. ⌜ (r ≡ true → Passed (now (t .entry)) (now (built .entry)) (now (transfers .entry)) (now (q .entry)) n rows) ⌝ }
+{
+    if !query_ok(q, n) {
+        return false;
+    }
+    if !tables_ok(t, built, transfers, n, rows) {
+        return false;
+    }
+    let runs = asking::stop_runs(built, n);
+    let listed = asking::departure_rows(built, n);
+    in_turn(t, n.timetable, runs, listed, n.departures)
+}
+
+// THE QUESTIONS: the number of the first that is answered no, or 0.
+pub fn questions(
+    n: QueryCounts,
+    t: &[u32],
+    built: &[u32],
+    transfers: &[u32],
+    patterns: &[u8],
+    distances: &[f64],
+    q: &[u32],
+    l: Lengths,
+) -> u32
+    ensures { λ r. ⌜ r ≡ verdict (lent n (now (t .entry)) (now (built .entry)) (now (transfers .entry)) (now (patterns .entry)) (now (distances .entry)) (now (q .entry))) l ⌝ }
+{
+    if !asking::counts_ok(n) {
+        return 1;
+    }
+    if !asking::sizes_ok(
+        t,
+        n,
+        built.len(),
+        patterns.len(),
+        distances.len(),
+        q.len(),
+        l,
+    ) {
+        return 2;
+    }
+    let rows = asking::transfer_rows(n, transfers.len());
+    if !asking::runs_ok(t, built, n, rows) {
+        return 3;
+    }
+    if passed(t, built, transfers, q, n, rows) {
+        return 0;
+    }
+    if !numbers_ok(t, built, q, n, rows) {
+        return 4;
+    }
+    if !ranges_ok(t, built, transfers, q, n, rows) {
+        return 5;
+    }
+    if !order_ok(t, built, q, n) {
+        return 6;
+    }
+    0
+}
