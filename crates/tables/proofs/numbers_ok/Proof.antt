@@ -1,5 +1,3 @@
-use mathlib.Core.Path.{_∙_, ap₂}
-use mathlib.Core.Bool.{_&&_}
 use Rattle.tables.specs.Door.{numbersOk}
 use borrow.Author.Needs.{needs}
 use Rattle.tables.proofs.numbers_ok.Statement.{statement}
@@ -16,7 +14,7 @@ both-requires c κs = search needs
 
 returns : tie.Need-returns
 unfolding numbersOk
-returns c = c .both .ensures ∙ ap₂ _&&_ (c .before .before .every-row .ensures) (c .before .every-row2 .ensures)
+returns c = cc
 
 pub numbers-ok-spec : {M : Type 1} → statement M
 numbers-ok-spec =
