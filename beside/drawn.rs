@@ -23,7 +23,7 @@ fn spread(r: &mut Random, c: &mut Case) {
 fn level(c: &mut Case, labels: &[(usize, [u32; 8], f64)]) {
     let total = c.egress.keys().filter_map(|s| reached(labels, *s)).max().unwrap_or(0) + 5;
     for (s, a) in c.egress.iter_mut() {
-        a.duration_s = total - reached(labels, *s).unwrap_or(total);
+        a.duration_s = (total - reached(labels, *s).unwrap_or(total)).min(LIMIT);
     }
 }
 

@@ -3,7 +3,7 @@
 const THINGS: [&str; 38] = [
     "arc flags put off by the switch", "arc flags in use that skip some row", "arc flags on that skip nothing", "segments queued", "a queue half that is just full",
     "a frequency trip ridden", "a mark at a stop without windows", "windows at a stop without mark", "a negative shift", "a window of headway 0 or that ends before it begins",
-    "a delay row", "a skipped stop", "an unknown trip", "unknown trips repeated", "a delay past the margin's cap", "a delay at the limit",
+    "a delay row", "a skipped stop", "an unknown trip", "unknown trips repeated", "a delay past the margin's cap", "a delay near the limit",
     "hand-made lines", "a line of 64 entries or more", "a departure listed twice", "hand-made transfers", "a transfer to no trip", "a departure at a last stop",
     "an origin repeated", "shared stop times", "a trip of one stop time", "wheelchair query with stairs or escalator", "a trip no wheelchair can take", "modes asked that bar a trip",
     "pickup or drop-off 2 or 3", "barred pickup or drop-off", "an excluded trip", "an inactive trip", "two egress stops of one total", "a time at the limit", "a duration at the limit",

@@ -77,10 +77,10 @@ impl Tallies {
         self.wrong += t.wrong;
     }
     fn differed(&self) -> bool {
-        self.calls.iter().any(|c| c.differed > 0) || self.plain.differed > 0 || self.sizes_differed > 0 || self.wrong > 0
+        self.calls.iter().any(|c| c.differed > 0) || self.plain.differed > 0 || self.sizes_differed > 0
     }
     fn fine(&self) -> bool {
-        !self.differed() && self.calls.iter().all(|c| c.met_all()) && self.plain.no_way > 0 && self.met.missing().is_empty()
+        !self.differed() && self.wrong == 0 && self.calls.iter().all(|c| c.met_all()) && self.plain.no_way > 0 && self.met.missing().is_empty()
     }
     fn print(&self) {
         self.calls[0].print("run_tbr");

@@ -435,7 +435,7 @@ fn close(r: &mut Random, kind: u32) -> Case {
     let mut c = asked_of(r, e, listed, vec![(vec![0, 2], 0)], kind, &LADDER);
     c.origins.push(access(2, 250 + r.below(400), 3.0));
     c.egress.values_mut().for_each(|a| a.duration_s = r.below(30));
-    if r.yes(15) {
+    if r.yes(15) && c.delays.iter().all(|d| d.1.abs() < 100_000) {
         early(&mut c);
     }
     c
