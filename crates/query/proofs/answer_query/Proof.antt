@@ -10,7 +10,7 @@ use Rattle.query.proofs.answer_query.Tie as tie
 use Rattle.query.proofs.answer_query.Reads as reads
 use Rattle.query.proofs.answer_query.Lts as lts
 use Rattle.replies.proofs.finish.Reads as finish-reads
-use Rattle.query.proofs.search.Reads as search-reads
+use Rattle.search.proofs.search.Reads as search-reads
 
 -- src/lib.rt:230:9
 search-requires : tie.Need-search-requires

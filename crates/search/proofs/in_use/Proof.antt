@@ -5,12 +5,12 @@ use denote.Ref.{now}
 use Rattle.flags.specs.Flags.{Transferring}
 use Rattle.asking.specs.Lent.{lent, tablesOf, queryOf}
 use Rattle.alighting.specs.declared.Net.{Net}
-use Rattle.query.proofs.Given.{transferring, runs-in, mode-rust, mode-promise}
+use Rattle.search.proofs.Given.{transferring, runs-in, mode-rust, mode-promise}
 use borrow.Author.Needs.{needs}
-use Rattle.query.proofs.in_use.Statement.{statement}
-use Rattle.query.proofs.in_use.Tie as tie
-use Rattle.query.proofs.in_use.Reads as reads
-use Rattle.query.proofs.in_use.Lts as lts
+use Rattle.search.proofs.in_use.Statement.{statement}
+use Rattle.search.proofs.in_use.Tie as tie
+use Rattle.search.proofs.in_use.Reads as reads
+use Rattle.search.proofs.in_use.Lts as lts
 use Rattle.asking.proofs.transfer_runs.Reads as transfer-runs-reads
 use Rattle.flags.proofs.flags_in_use.Reads as flags-in-use-reads
 use Rattle.flags.proofs.use_arc_flags.Reads as use-arc-flags-reads

@@ -3,16 +3,16 @@ use Prim.Native.Nat.{ℕ}
 use denote.Ref.{now}
 use lib.Dec.{eqb}
 use native.Mathlib.Omega.{arith}
-use Rattle.query.proofs.Given.{flagging, askable, lends, sized-at, started, ended}
+use Rattle.search.proofs.Given.{flagging, askable, lends, sized-at, started, ended}
 use borrow.Author.Needs.{needs}
-use Rattle.query.proofs.search.Statement.{statement}
-use Rattle.query.proofs.search.Tie as tie
-use Rattle.query.proofs.search.Reads as reads
-use Rattle.query.proofs.search.Lts as lts
+use Rattle.search.proofs.search.Statement.{statement}
+use Rattle.search.proofs.search.Tie as tie
+use Rattle.search.proofs.search.Reads as reads
+use Rattle.search.proofs.search.Lts as lts
 use Rattle.begin.proofs.begin.Reads as begin-reads
 use Rattle.begin.proofs.lay_of.Reads as lay-of-reads
 use Rattle.begin.proofs.net_of.Reads as net-of-reads
-use Rattle.query.proofs.in_use.Reads as in-use-reads
+use Rattle.search.proofs.in_use.Reads as in-use-reads
 use Rattle.rounds.proofs.rounds.Reads as rounds-reads
 use Rattle.tables.proofs.field.Reads as field-reads
 
