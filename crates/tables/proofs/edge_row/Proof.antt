@@ -1,3 +1,4 @@
+use Rattle.tables.proofs.Rows.{same-edge}
 use borrow.Author.Needs.{needs}
 use Rattle.tables.proofs.edge_row.Statement.{statement}
 use Rattle.tables.proofs.edge_row.Tie as tie
@@ -18,7 +19,7 @@ edge-requires-5 : tie.Need-edge-requires-5
 edge-requires-5 c κs = search needs
 
 returns : tie.Need-returns
-returns c = cc
+returns c = same-edge (c .before .before .before .before .edge .ensures .0) (c .before .before .before .edge2 .ensures .0) (c .before .before .edge3 .ensures .0) (c .before .edge4 .ensures .0) (c .edge5 .ensures .0)
 
 pub edge-row-spec : {M : Type 1} → statement M
 edge-row-spec =

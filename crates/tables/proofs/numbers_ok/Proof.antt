@@ -1,3 +1,5 @@
+use mathlib.Core.Path.{_∙_, ap₂}
+use mathlib.Core.Bool.{_&&_}
 use Rattle.tables.specs.Door.{numbersOk}
 use borrow.Author.Needs.{needs}
 use Rattle.tables.proofs.numbers_ok.Statement.{statement}
@@ -14,7 +16,7 @@ both-requires c κs = search needs
 
 returns : tie.Need-returns
 unfolding numbersOk
-returns c = cc
+returns c = c .both .ensures ∙ ap₂ _&&_ (c .before .before .every-row .ensures) (c .before .every-row2 .ensures)
 
 pub numbers-ok-spec : {M : Type 1} → statement M
 numbers-ok-spec =

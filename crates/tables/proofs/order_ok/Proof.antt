@@ -8,7 +8,7 @@ every-row-requires c κs = search needs
 
 returns : tie.Need-returns
 unfolding orderOk
-returns c = cc
+returns c = c .every-row .ensures
 
 pub order-ok-spec : {M : Type 1} → statement M
 order-ok-spec = tie.close (tie.spec every-row-requires returns)

@@ -1,3 +1,5 @@
+use mathlib.Core.Path.{_∙_, ap₂}
+use mathlib.Core.Bool.{_&&_}
 use Rattle.tables.specs.Door.{rangesOk}
 use borrow.Author.Needs.{needs}
 use Rattle.tables.proofs.ranges_ok.Statement.{statement}
@@ -26,7 +28,7 @@ both-requires-3 c κs = search needs
 
 returns : tie.Need-returns
 unfolding rangesOk
-returns c = cc
+returns c = c .both3 .ensures ∙ ap₂ _&&_ (c .before .before .both .ensures ∙ ap₂ _&&_ (c .before .before .before .before .before .before .every-row .ensures) (c .before .before .before .before .before .every-row2 .ensures)) (c .before .both2 .ensures ∙ ap₂ _&&_ (c .before .before .before .before .every-row3 .ensures) (c .before .before .before .every-row4 .ensures))
 
 pub ranges-ok-spec : {M : Type 1} → statement M
 ranges-ok-spec =

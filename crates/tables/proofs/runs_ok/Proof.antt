@@ -8,7 +8,7 @@ every-row-requires c κs = search needs
 
 returns : tie.Need-returns
 unfolding runsOk
-returns c = cc
+returns c = c .every-row .ensures
 
 pub runs-ok-spec : {M : Type 1} → statement M
 runs-ok-spec = tie.close (tie.spec every-row-requires returns)

@@ -1,3 +1,4 @@
+use Rattle.tables.proofs.Rows.{same-time}
 use borrow.Author.Needs.{needs}
 use Rattle.tables.proofs.stop_time_row.Statement.{statement}
 use Rattle.tables.proofs.stop_time_row.Tie as tie
@@ -21,7 +22,7 @@ time-requires-6 : tie.Need-time-requires-6
 time-requires-6 c κs = search needs
 
 returns : tie.Need-returns
-returns c = cc
+returns c = same-time (c .before .before .before .before .before .time .ensures .0) (c .before .before .before .before .time2 .ensures .0) (c .before .before .before .time3 .ensures .0) (c .before .before .time4 .ensures .0) (c .before .time5 .ensures .0) (c .time6 .ensures .0)
 
 pub stop-time-row-spec : {M : Type 1} → statement M
 stop-time-row-spec =

@@ -1,3 +1,4 @@
+use Rattle.tables.proofs.Rows.{same-trip}
 use borrow.Author.Needs.{needs}
 use Rattle.tables.proofs.trip_row.Statement.{statement}
 use Rattle.tables.proofs.trip_row.Tie as tie
@@ -27,7 +28,7 @@ trip-requires-8 : tie.Need-trip-requires-8
 trip-requires-8 c κs = search needs
 
 returns : tie.Need-returns
-returns c = (cc, search needs)
+returns c = (same-trip (c .before .before .before .before .before .before .before .trip .ensures .0) (c .before .before .before .before .before .before .trip2 .ensures .0) (c .before .before .before .before .before .trip3 .ensures .0) (c .before .before .before .before .trip4 .ensures .0) (c .before .before .before .trip5 .ensures .0) (c .before .before .trip6 .ensures .0) (c .before .trip7 .ensures .0) (c .trip8 .ensures .0), search needs)
 
 pub trip-row-spec : {M : Type 1} → statement M
 trip-row-spec =
