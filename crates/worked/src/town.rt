@@ -2,7 +2,7 @@
 use crate::building::Made;
 use crate::building::build;
 use crate::building::show_lines;
-use crate::query_door::ask;
+use crate::asking::ask;
 use crate::words::part;
 use crate::words::refused;
 use crate::words::say;
