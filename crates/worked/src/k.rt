@@ -1,9 +1,9 @@
 // Timetable K of document 01, built and asked.
+use crate::asking::ask;
 use crate::building::Made;
 use crate::building::build;
 use crate::building::show_lines;
 use crate::building::show_transfers;
-use crate::asking::ask;
 use crate::words::part;
 use crate::words::refused;
 use crate::words::say;

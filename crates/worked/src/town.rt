@@ -1,8 +1,8 @@
 // A larger timetable: ten stops, ten trips in five lines, stairs and lifts, a frequency trip, a trip that does not run.
+use crate::asking::ask;
 use crate::building::Made;
 use crate::building::build;
 use crate::building::show_lines;
-use crate::asking::ask;
 use crate::words::part;
 use crate::words::refused;
 use crate::words::say;
