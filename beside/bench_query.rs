@@ -3,6 +3,7 @@
 //   idle      the same query without origins: doors, setting up (positions, FIFO flags) and clearing, and nothing to search
 //   refused   by the last question: there the questions are asked one by one
 //   zeroing   zeroing areas of these sizes, by the program
+//   doors%    of a query: idle less zeroing (doors and setting up); clear%: zeroing
 #![allow(dead_code, unused)]
 include!(concat!(env!("BESIDE"), "/query_parts.rs"));
 use std::hint::black_box;
@@ -153,7 +154,12 @@ fn row(r: &mut Random, name: &str, c: &mut Case, rounds: u32, off: bool) -> usiz
     let (ours, tbr, rust) = (median(&mut t.query), median(&mut t.run_tbr), median(&mut t.rust));
     let (idle, refused, zeroing) = (median(&mut t.idle), median(&mut t.refused), median(&mut t.zeroing));
     let (flags, ways) = (if off { "off" } else { "on" }, 100 * t.ways / t.rust.len());
-    println!("{name:<54} {rounds:>6} {flags:>5} {ours:>7.0} {tbr:>7.0} {rust:>7.0} {:>6.2} {:>7.2} {idle:>7.0} {refused:>7.0} {zeroing:>7.0} {ways:>5}", ours / rust, tbr / rust);
+    let (doors, cleared) = (100.0 * (idle - zeroing) / ours, 100.0 * zeroing / ours);
+    println!(
+        "{name:<54} {rounds:>6} {flags:>5} {ours:>7.0} {tbr:>7.0} {rust:>7.0} {:>6.2} {:>7.2} {idle:>7.0} {refused:>7.0} {zeroing:>7.0} {doors:>6.0} {cleared:>6.0} {ways:>5}",
+        ours / rust,
+        tbr / rust
+    );
     t.differed
 }
 
@@ -167,7 +173,10 @@ fn day(r: &mut Random, stops: u32, trips: u32, each: u32) -> (String, Case) {
 
 fn main() {
     let mut r = Random(2026);
-    println!("{:<54} {:>6} {:>5} {:>7} {:>7} {:>7} {:>6} {:>7} {:>7} {:>7} {:>7} {:>5}", "microseconds, medians; doors and clearing counted", "rounds", "flags", "query", "run_tbr", "Rust", "ratio", "ratio", "idle", "refused", "zeroing", "ways%");
+    let head = ["rounds", "flags", "query", "run_tbr", "Rust", "ratio", "ratio", "idle", "refused", "zeroing", "doors%", "clear%", "ways%"];
+    let wide = [6, 5, 7, 7, 7, 6, 7, 7, 7, 7, 6, 6, 5];
+    let names: Vec<String> = head.iter().zip(wide).map(|(h, w)| format!("{h:>w$}")).collect();
+    println!("{:<54} {}", "microseconds, medians; doors and clearing counted", names.join(" "));
     let mut differed = 0;
     let (name, mut c) = day(&mut r, 1000, 2000, 20);
     for (rounds, off) in [(4, true), (4, false), (12, true), (12, false)] {
