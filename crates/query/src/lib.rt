@@ -1,7 +1,6 @@
 // query: the two calls that answer a query: `run_tbr`, the Rust's answer, and `query`, the promise's: `run_tbr` with arc flags put off where
 // they would skip nothing.
-// Specs: the three demands of the calls (Claims). The outcome of each call is in `replies` specs/Outcome.
-// Proves: each call's whole outcome is its definition, on every input; in proofs/Demands the three demands, of the calls.
+// Proves: each call's whole outcome is its definition (`replies` specs/Outcome), on every input. The three demands of them: crate `demands`.
 // Assumes nothing.
 ghost use mathlib.Core.Path.{_≡_};
 ghost use Rattle.asking.specs.Lent.{lent};

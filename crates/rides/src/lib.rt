@@ -1,7 +1,7 @@
-// rides: the ride phase of a round: the queued segments ridden, then the departures of the stops reached before boarded.
-// Specs: what is read (Laid), what boarding does to the state (Phase), what the parts of the phase need and do (Going).
+// rides: the ride phase of a round: the queued segments ridden (`segments`), then the departures of the stops reached before scanned
+// (`departure_scan`), from the first not too early on.
 // Proves: each function is the model's of the same name on the state in memory, for all tables and queries that agree with what is
-// read; what is read stays as it came.
+// read; what is read stays as it came (`riding` specs/Laid, Phase, Going).
 // Assumes nothing.
 ghost use mathlib.Core.Path.{_≡_};
 ghost use mathlib.Core.List.{[], _∷_};
