@@ -3,7 +3,8 @@
 //   idle      the same query without origins: doors, setting up (positions, FIFO flags) and clearing, and nothing to search
 //   refused   by the last question: there the questions are asked one by one
 //   zeroing   zeroing areas of these sizes, by the program
-//   doors%    of a query: idle less zeroing (doors and setting up); clear%: zeroing
+//   doors%    of a query, its doors: questions 1 to 3 (a refusal by 3 that reads all runs) and the pass that asks 4 to 6 at once (a refusal by 6 after
+//             that pass, less one before it); clear%: zeroing
 #![allow(dead_code, unused)]
 include!(concat!(env!("BESIDE"), "/query_parts.rs"));
 use std::hint::black_box;
@@ -105,6 +106,26 @@ fn refused_last(x: &Lent) -> Lent {
     y
 }
 
+// the same search with the departures of the last stop that has some turned round: refused by 6 too, after the pass that asks questions 4 to 6 at once
+fn refused_late(x: &Lent) -> Lent {
+    let mut y = x.clone();
+    let n = &x.sizes;
+    let runs = (n.trips + 2 * n.lines + n.entries) as usize;
+    let rows = runs + 2 * n.stops as usize;
+    let last = (0..n.stops as usize).rev().find(|s| x.built[runs + 2 * s + 1] > 1).unwrap();
+    let (first, count) = (x.built[runs + 2 * last] as usize, x.built[runs + 2 * last + 1] as usize);
+    let turned: Vec<u32> = x.built[rows + 2 * first..rows + 2 * (first + count)].chunks(2).rev().flatten().copied().collect();
+    y.built[rows + 2 * first..rows + 2 * (first + count)].copy_from_slice(&turned);
+    y
+}
+
+// the same search with its last transfer run too long: refused by 3, every run read
+fn refused_runs(x: &Lent) -> Lent {
+    let mut y = x.clone();
+    *y.built.last_mut().unwrap() = 65_537;
+    y
+}
+
 // the same search without origins
 fn no_origins(x: &Lent) -> Lent {
     let mut y = x.clone();
@@ -122,6 +143,9 @@ struct Times {
     rust: Vec<f64>,
     idle: Vec<f64>,
     refused: Vec<f64>,
+    late: Vec<f64>,
+    early: Vec<f64>,
+    runs: Vec<f64>,
     zeroing: Vec<f64>,
     ways: usize,
     differed: usize,
@@ -140,6 +164,13 @@ fn one(t: &mut Times, c: &Case, x: &Lent, a: &mut Areas) {
         t.differed += (timed(&mut t.refused, || ask_ours(Call::Query, black_box(&last), a)).code != 6) as usize;
         timed(&mut t.zeroing, || clear(black_box(a)));
     }
+    // the doors apart, so that these tables do not push the others out of the cache
+    let (late, runs) = (refused_late(x), refused_runs(x));
+    for _ in 0..PASSES {
+        t.differed += (timed(&mut t.late, || ask_ours(Call::Query, black_box(&late), a)).code != 6) as usize;
+        t.differed += (timed(&mut t.early, || ask_ours(Call::Query, black_box(&last), a)).code != 6) as usize;
+        t.differed += (timed(&mut t.runs, || ask_ours(Call::Query, black_box(&runs), a)).code != 3) as usize;
+    }
 }
 
 fn row(r: &mut Random, name: &str, c: &mut Case, rounds: u32, off: bool) -> usize {
@@ -154,7 +185,7 @@ fn row(r: &mut Random, name: &str, c: &mut Case, rounds: u32, off: bool) -> usiz
     let (ours, tbr, rust) = (median(&mut t.query), median(&mut t.run_tbr), median(&mut t.rust));
     let (idle, refused, zeroing) = (median(&mut t.idle), median(&mut t.refused), median(&mut t.zeroing));
     let (flags, ways) = (if off { "off" } else { "on" }, 100 * t.ways / t.rust.len());
-    let (doors, cleared) = (100.0 * (idle - zeroing) / ours, 100.0 * zeroing / ours);
+    let (doors, cleared) = (100.0 * (median(&mut t.late) - median(&mut t.early) + median(&mut t.runs)) / ours, 100.0 * zeroing / ours);
     println!(
         "{name:<54} {rounds:>6} {flags:>5} {ours:>7.0} {tbr:>7.0} {rust:>7.0} {:>6.2} {:>7.2} {idle:>7.0} {refused:>7.0} {zeroing:>7.0} {doors:>6.0} {cleared:>6.0} {ways:>5}",
         ours / rust,
