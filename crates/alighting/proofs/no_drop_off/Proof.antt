@@ -12,19 +12,15 @@ use Rattle.alighting.proofs.no_drop_off.Lts as lts
 use Rattle.tables.proofs.time.Reads as time-reads
 use Rattle.tables.proofs.trip.Reads as trip-reads
 
--- src/lib.rt:27:9
 trip-requires : tie.Need-trip-requires
 trip-requires c κs = search needs
 
--- src/lib.rt:28:24
 add-time : tie.Need-add-time
 add-time c = let a = c .before .before .before .before in let g = a .pre .0 .sane in let k = g .runs .run (a .args .trip) (a .pre .1 .trip) in omega (arith, (c .trip .ensures) .0, k, a .pre .1 .offset, g .counts .times)
 
--- src/lib.rt:28:5
 time-requires : tie.Need-time-requires
 time-requires c κs = let a = c .before .before .before .before in let g = a .pre .0 .sane in let k = g .runs .run (a .args .trip) (a .pre .1 .trip) in (g .counts, (g .slices, (omega (arith, (c .trip .ensures) .0, k, a .pre .1 .offset), omega arith)))
 
--- src/lib.rt:23:1
 returns : tie.Need-returns
 returns c = let a = c .before .before .before .before .before in λ T Q y. drop-off-is T (now (a .args .t)) (a .args .c) (a .args .trip) (a .args .off) _ (y .timetable) ((c .time .ensures .0) ∙ ap (λ (f : ℕ). timeOf (now (a .args .t)) (f + a .args .off) 5) ((c .before .trip .ensures) .0))
 

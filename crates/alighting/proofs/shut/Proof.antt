@@ -14,23 +14,18 @@ use Rattle.boarding.proofs.skipped.Reads as skipped-reads
 use Rattle.door.proofs.either.Reads as either-reads
 use Rattle.alighting.proofs.no_drop_off.Reads as no-drop-off-reads
 
--- src/lib.rt:74:9
 no-drop-off-requires : tie.Need-no-drop-off-requires
 no-drop-off-requires c κs = search needs
 
--- src/lib.rt:76:9
 returns : tie.Need-returns
 returns c = let x = c .before .before .before .before .before .args in λ T Q y. (c .before .no-drop-off .ensures T Q y) ∙ shut-by (x .tested) false (noDropOff T (x .trip) (x .off) || skipped T Q (hitOf (x .adj)) (x .trip) (x .off)) (noDropOff T (x .trip) (x .off)) (not-true (x .tested) (c .if1 .taken))
 
--- src/lib.rt:80:9
 skipped-requires : tie.Need-skipped-requires
 skipped-requires c κs = search needs
 
--- src/lib.rt:78:5
 either-requires : tie.Need-either-requires
 either-requires c κs = search needs
 
--- src/lib.rt:61:1
 returns-2 : tie.Need-returns-2
 returns-2 c = let x = c .before .before .before .before .before .before .before .args in λ T Q y. (c .either .ensures) ∙ ap₂ (λ (x z : Bool). x || z) (c .before .before .before .no-drop-off .ensures T Q y) (c .before .skipped .ensures T Q y) ∙ shut-by (x .tested) true (noDropOff T (x .trip) (x .off) || skipped T Q (hitOf (x .adj)) (x .trip) (x .off)) (noDropOff T (x .trip) (x .off)) (not-false (x .tested) (c .before .before .if1 .left))
 

@@ -13,33 +13,26 @@ use Rattle.asking.proofs.work_size.Reads as work-size-reads
 use Rattle.door.proofs.given.Reads as given-reads
 use Rattle.door.proofs.refused.Reads as refused-reads
 
--- src/lib.rt:181:9
 counts-ok-requires : tie.Need-counts-ok-requires
 counts-ok-requires c κs = search needs
 
--- src/lib.rt:182:9
 refused-requires : tie.Need-refused-requires
 refused-requires c κs = search needs
 
--- src/lib.rt:182:9
 returns : tie.Need-returns
 returns c = (c .refused .ensures) ∙ workspace-no _ (sym (c .before .before .counts-ok .ensures) ∙ not-true _ (c .before .if1 .taken))
 
--- src/lib.rt:184:17
 work-size-requires : tie.Need-work-size-requires
 work-size-requires c κs = limits-yes _ (sym (c .before .counts-ok .ensures) ∙ not-false _ (c .if1 .left))
 
--- src/lib.rt:184:17
 cast-given : tie.Need-cast-given
 cast-given c =
     let l = limits-yes _ (sym (c .before .before .counts-ok .ensures) ∙ not-false _ (c .before .if1 .left)) in
     omega (arith, c .work-size .ensures, l .counts .stops, l .counts .trips, l .lines)
 
--- src/lib.rt:184:5
 given-requires : tie.Need-given-requires
 given-requires c κs = search needs
 
--- src/lib.rt:178:1
 returns-2 : tie.Need-returns-2
 returns-2 c = (c .given .ensures) ∙ workspace-yes _ _ (sym (c .before .before .before .counts-ok .ensures) ∙ not-false _ (c .before .before .if1 .left)) (c .before .work-size .ensures)
 

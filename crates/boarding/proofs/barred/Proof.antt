@@ -14,27 +14,21 @@ use Rattle.boarding.proofs.skipped.Reads as skipped-reads
 use Rattle.boarding.proofs.usable.Reads as usable-reads
 use Rattle.door.proofs.either.Reads as either-reads
 
--- src/lib.rt:257:10
 usable-requires : tie.Need-usable-requires
 usable-requires c κs = search needs
 
--- src/lib.rt:258:9
 event-word-requires : tie.Need-event-word-requires
 event-word-requires c κs = search needs
 
--- src/lib.rt:256:9
 either-requires : tie.Need-either-requires
 either-requires c κs = search needs
 
--- src/lib.rt:260:25
 skipped-requires : tie.Need-skipped-requires
 skipped-requires c κs = search needs
 
--- src/lib.rt:260:5
 either-requires-2 : tie.Need-either-requires-2
 either-requires-2 c κs = search needs
 
--- src/lib.rt:243:1
 returns : tie.Need-returns
 returns c = let s = c .before .before .before .before .before .before .before .before in λ T Q g q. barred-is T Q (now (s .args .t)) (s .args .c) (hitOf (s .args .adj)) (s .args .trip) (s .args .off) _ _ _ _ _ (g .timetable) (c .before .before .before .before .usable .ensures T Q (g .timetable) q) (c .before .before .before .event-word .ensures) (c .before .skipped .ensures T Q g) (c .before .before .either .ensures) (c .either2 .ensures)
 

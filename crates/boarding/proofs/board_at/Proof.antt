@@ -18,35 +18,27 @@ use Rattle.boarding.proofs.freq_board_at.Reads as freq-board-at-reads
 use Rattle.signed.proofs.difference.Reads as difference-reads
 use Rattle.tables.proofs.trip.Reads as trip-reads
 
--- src/lib.rt:211:9
 departure-now-requires : tie.Need-departure-now-requires
 departure-now-requires c κs = search needs
 
--- src/lib.rt:212:8
 trip-requires : tie.Need-trip-requires
 trip-requires c κs = search needs
 
--- src/lib.rt:213:9
 freq-board-at-requires : tie.Need-freq-board-at-requires
 freq-board-at-requires c κs = search needs
 
--- src/lib.rt:213:9
 returns : tie.Need-returns
 returns c = let s = c .before .before .before .before .before .before .before in λ T Q g. board-freq T Q (hitOf (s .args .adj)) (s .args .trip) (s .args .off) (s .args .after) (now (s .args .t)) (s .args .c) _ _ (g .timetable) (c .before .before .trip .ensures .0) (c .before .before .before .departure-now .ensures .1 T Q g) _ (c .before .if1 .taken) (c .freq-board-at .ensures)
 
--- src/lib.rt:216:9
 returns-2 : tie.Need-returns-2
 returns-2 c = let s = c .before .before .before .before .before .before .before in λ T Q g. board-early T Q (hitOf (s .args .adj)) (s .args .trip) (s .args .off) (s .args .after) (now (s .args .t)) (s .args .c) _ _ (g .timetable) (c .before .before .trip .ensures .0) (c .before .before .before .departure-now .ensures .1 T Q g) (c .before .if1 .left) (c .if2 .taken)
 
--- src/lib.rt:218:9
 event-word-requires : tie.Need-event-word-requires
 event-word-requires c κs = search needs
 
--- src/lib.rt:221:23
 difference-requires : tie.Need-difference-requires
 difference-requires c κs = let s = c .before .before .before .before .before .before .before .before in (omega (arith, c .before .before .before .before .departure-now .ensures .0), omega (arith, c .event-word .ensures, s .pre .0 .sane .ranges .departure (firstOf (now (s .args .t)) (s .args .c) (s .args .trip) + s .args .off) (event-time _ _ _ _ (s .pre .0 .sane) (s .pre .1 .1 .0))))
 
--- src/lib.rt:198:1
 returns-3 : tie.Need-returns-3
 returns-3 c = let s = c .before .before .before .before .before .before .before .before .before in λ T Q g. board-planned T Q (hitOf (s .args .adj)) (s .args .trip) (s .args .off) (s .args .after) (now (s .args .t)) (s .args .c) _ _ (g .timetable) (c .before .before .before .before .trip .ensures .0) (c .before .before .before .before .before .departure-now .ensures .1 T Q g) _ _ (c .before .before .before .if1 .left) (c .before .before .if2 .left) (c .before .event-word .ensures) (c .difference .ensures)
 

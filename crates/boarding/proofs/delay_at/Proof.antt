@@ -12,31 +12,24 @@ use Rattle.boarding.proofs.event_word.Reads as event-word-reads
 use Rattle.delays.proofs.stop_delay.Reads as stop-delay-reads
 use Rattle.realtime.proofs.no_delay.Reads as no-delay-reads
 
--- src/lib.rt:126:9
 event-word-requires : tie.Need-event-word-requires
 event-word-requires c κs = search needs
 
--- src/lib.rt:128:19
 enum-known-adj : tie.Need-enum-known-adj
 enum-known-adj c = search needs
 
--- src/lib.rt:128:25
 stop-delay-requires : tie.Need-stop-delay-requires
 stop-delay-requires c κs = let s = c .before .before .before .before .before .before .before in (s .pre .0 .delayRows, (s .pre .1 .0 .below _ (c .before .adj .given .1), s .pre .0 .stopRows))
 
--- src/lib.rt:129:27
 enum-told : tie.Need-enum-told
 enum-told c = search needs
 
--- src/lib.rt:129:27
 no-delay-requires : tie.Need-no-delay-requires
 no-delay-requires c κs = search needs
 
--- src/lib.rt:114:1
 returns : tie.Need-returns
 returns c = let s = c .before .before .before .before .before .before .before .before in (rw (c .stop-delay .ensures) (row-bounded (delayTables (now (s .args .rows)) (now (s .args .stop-rows))) (s .pre .0 .delayRows) (s .pre .0 .stopRows) _ _ (s .pre .1 .0 .below _ (c .before .before .adj .given .1))), λ T Q g. delay-at-is T Q _ _ _ _ g _ (hit (c .before .before .adj .given .0 .0)) _ _ _ _ (c .before .before .adj .given .1) (c .before .before .before .before .event-word .ensures) (c .stop-delay .ensures))
 
--- src/lib.rt:114:1
 returns-2 : tie.Need-returns-2
 returns-2 c = let s = c .before .before .before .before .before .before .before in (rw (c .no-delay .ensures) no-delay-bounded, λ T Q g. delay-at-is T Q _ _ _ _ g _ miss _ _ _ _ (c .before .enum-told .given .1) (c .before .before .before .event-word .ensures) (c .no-delay .ensures))
 

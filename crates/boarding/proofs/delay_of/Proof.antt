@@ -8,11 +8,9 @@ use Rattle.boarding.proofs.delay_of.Reads as reads
 use Rattle.boarding.proofs.delay_of.Lts as lts
 use Rattle.delays.proofs.delay_row.Reads as delay-row-reads
 
--- src/lib.rt:102:5
 delay-row-requires : tie.Need-delay-row-requires
 delay-row-requires c κs = search needs
 
--- src/lib.rt:98:1
 returns : tie.Need-returns
 returns c = let s = c .before .before in (known-of (now (s .args .rows)) (s .args .trip) _ (c .delay-row .ensures), λ Q l e. delay-of-is Q (now (s .args .rows)) l (s .args .trip) _ e (c .delay-row .ensures))
 

@@ -12,23 +12,18 @@ use Rattle.boarding.proofs.event_word.Lts as lts
 use Rattle.tables.proofs.time.Reads as time-reads
 use Rattle.tables.proofs.trip.Reads as trip-reads
 
--- src/lib.rt:110:24
 trip-requires : tie.Need-trip-requires
 trip-requires c κs = search needs
 
--- src/lib.rt:110:24
 add-time : tie.Need-add-time
 add-time c = let s = c .before .before in omega (arith, c .trip .ensures .0, s .pre .0 .runs .run (s .args .trip) (s .pre .1 .0 .trip), s .pre .1 .0 .offset, s .pre .0 .counts .times)
 
--- src/lib.rt:110:5
 time-requires : tie.Need-time-requires
 time-requires c κs = let s = c .before .before in (s .pre .0 .counts, (s .pre .0 .slices, (omega (arith, c .trip .ensures .0, s .pre .0 .runs .run (s .args .trip) (s .pre .1 .0 .trip), s .pre .1 .0 .offset), s .pre .1 .1)))
 
--- src/lib.rt:110:5
 cast-result : tie.Need-cast-result
 cast-result c = search needs
 
--- src/lib.rt:106:1
 returns : tie.Need-returns
 returns c = let s = c .before .before .before in c .time .ensures .0 ∙ ap (λ (x : ℕ). timeOf (now (s .args .t)) (x + s .args .off) (s .args .k)) (c .before .trip .ensures .0)
 

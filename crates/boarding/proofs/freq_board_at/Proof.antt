@@ -14,67 +14,51 @@ use Rattle.boarding.proofs.event_word.Reads as event-word-reads
 use Rattle.frequency.proofs.earliest_freq_board.Reads as earliest-freq-board-reads
 use Rattle.tables.proofs.trip.Reads as trip-reads
 
--- src/lib.rt:191:9
 event-word-requires : tie.Need-event-word-requires
 event-word-requires c κs = let s = c .before in (s .pre .0, (record { trip = s .pre .1 .0; offset = s .pre .0 .runs .some (s .args .trip) (s .pre .1 .0) }, omega arith))
 
--- src/lib.rt:192:16
 mul-from : tie.Need-mul-from
 mul-from c = search needs
 
--- src/lib.rt:192:30
 mul-from-2 : tie.Need-mul-from-2
 mul-from-2 c = search needs
 
--- src/lib.rt:192:16
 add-from : tie.Need-add-from
 add-from c = search needs
 
--- src/lib.rt:192:44
 trip-requires : tie.Need-trip-requires
 trip-requires c κs = search needs
 
--- src/lib.rt:192:44
 mul-from-3 : tie.Need-mul-from-3
 mul-from-3 c = search needs
 
--- src/lib.rt:192:16
 add-from-2 : tie.Need-add-from-2
 add-from-2 c = search needs
 
--- src/lib.rt:193:22
 trip-requires-2 : tie.Need-trip-requires-2
 trip-requires-2 c κs = search needs
 
--- src/lib.rt:193:22
 mul-end : tie.Need-mul-end
 mul-end c = search needs
 
--- src/lib.rt:193:15
 add-end : tie.Need-add-end
 add-end c = search needs
 
--- src/lib.rt:194:36
 mul-earliest-freq-board : tie.Need-mul-earliest-freq-board
 mul-earliest-freq-board c = search needs
 
--- src/lib.rt:194:36
 sub-earliest-freq-board : tie.Need-sub-earliest-freq-board
 sub-earliest-freq-board c = search needs
 
--- src/lib.rt:194:36
 part-earliest-freq-board-start : tie.Need-part-earliest-freq-board-start
 part-earliest-freq-board-start c = search needs
 
--- src/lib.rt:194:36
 part-earliest-freq-board-end : tie.Need-part-earliest-freq-board-end
 part-earliest-freq-board-end c = let s = c .before .before .before .before .before .before in let from : ℕ = s .args .c .times * 6 + s .args .c .trips * 8 + c .before .trip .result * 3 in part-fits (now (s .args .t)) (s .args .c) (s .args .trip) from (from + c .trip2 .result * 3) (s .pre .0) (s .pre .1 .0) (omega (arith, c .before .trip .ensures .0)) (omega (arith, c .trip2 .ensures .0))
 
--- src/lib.rt:194:5
 earliest-freq-board-requires : tie.Need-earliest-freq-board-requires
 earliest-freq-board-requires c κs = let s = c .before .before .before .before .before .before .before in let from : ℕ = s .args .c .times * 6 + s .args .c .trips * 8 + c .before .before .trip .result * 3 in part-nominal (now (s .args .t)) (s .args .c) (s .args .trip) from (from + c .before .trip2 .result * 3) (s .pre .0) (s .pre .1 .0) (omega (arith, c .before .before .trip .ensures .0)) (omega (arith, c .before .trip2 .ensures .0)) _ _ _ (omega (arith, c .before .before .before .before .before .event-word .ensures, s .pre .0 .ranges .departure (firstOf (now (s .args .t)) (s .args .c) (s .args .trip) + 0) (event-time _ _ _ _ (s .pre .0) (record { trip = s .pre .1 .0; offset = s .pre .0 .runs .some (s .args .trip) (s .pre .1 .0) })))) (s .pre .1 .1 .0) (s .pre .1 .1 .1)
 
--- src/lib.rt:187:1
 returns : tie.Need-returns
 returns c = let s = c .before .before .before .before .before .before .before .before in let from : ℕ = s .args .c .times * 6 + s .args .c .trips * 8 + c .before .before .before .trip .result * 3 in part-board (now (s .args .t)) (s .args .c) (s .args .trip) from (from + c .before .before .trip2 .result * 3) (s .pre .0) (s .pre .1 .0) (omega (arith, c .before .before .before .trip .ensures .0)) (omega (arith, c .before .before .trip2 .ensures .0)) _ _ _ _ (c .before .before .before .before .before .before .event-word .ensures) (c .earliest-freq-board .ensures)
 

@@ -6,15 +6,12 @@ use Rattle.boarding.proofs.mode_wanted.Reads as reads
 use Rattle.boarding.proofs.mode_wanted.Lts as lts
 use Rattle.door.proofs.either.Reads as either-reads
 
--- src/lib.rt:70:31
 shr-either : tie.Need-shr-either
 shr-either c = search needs
 
--- src/lib.rt:70:5
 either-requires : tie.Need-either-requires
 either-requires c κs = search needs
 
--- src/lib.rt:66:1
 returns : tie.Need-returns
 unfolding modeWanted
 returns c = c .either .ensures

@@ -11,27 +11,21 @@ use Rattle.boarding.proofs.usable.Reads as usable-reads
 use Rattle.door.proofs.both.Reads as both-reads
 use Rattle.tables.proofs.trip.Reads as trip-reads
 
--- src/lib.rt:91:16
 trip-requires : tie.Need-trip-requires
 trip-requires c κs = search needs
 
--- src/lib.rt:91:16
 cast-mode : tie.Need-cast-mode
 cast-mode c = search needs
 
--- src/lib.rt:92:16
 usable-requires : tie.Need-usable-requires
 usable-requires c κs = search needs
 
--- src/lib.rt:92:36
 mode-wanted-requires : tie.Need-mode-wanted-requires
 mode-wanted-requires c κs = let s = c .before .before .before in omega (arith, c .before .trip .ensures .0, s .pre .0 .ranges .mode (s .args .i) (s .pre .1))
 
--- src/lib.rt:92:5
 both-requires : tie.Need-both-requires
 both-requires c κs = search needs
 
--- src/lib.rt:87:1
 returns : tie.Need-returns
 returns c = λ T Q e q. permitted-is T Q _ _ _ _ _ _ _ _ e q (c .before .before .before .trip .ensures .0) (c .before .before .usable .ensures T Q e q) (c .before .mode-wanted .ensures) (c .both .ensures)
 

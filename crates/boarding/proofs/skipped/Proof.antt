@@ -9,15 +9,12 @@ use Rattle.boarding.proofs.skipped.Lts as lts
 use Rattle.boarding.proofs.delay_at.Reads as delay-at-reads
 use Rattle.realtime.proofs.is_skipped.Reads as is-skipped-reads
 
--- src/lib.rt:146:26
 delay-at-requires : tie.Need-delay-at-requires
 delay-at-requires c κs = search needs
 
--- src/lib.rt:146:5
 is-skipped-requires : tie.Need-is-skipped-requires
 is-skipped-requires c κs = search needs
 
--- src/lib.rt:134:1
 returns : tie.Need-returns
 returns c = λ T Q g. c .is-skipped .ensures ∙ ap (λ (d : StopDelay). skippedAt (d .flags)) (c .before .delay-at .ensures .1 T Q g)
 

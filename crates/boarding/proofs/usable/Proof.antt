@@ -7,31 +7,24 @@ use Rattle.boarding.proofs.usable.Lts as lts
 use Rattle.door.proofs.both.Reads as both-reads
 use Rattle.tables.proofs.trip.Reads as trip-reads
 
--- src/lib.rt:79:9
 trip-requires : tie.Need-trip-requires
 trip-requires c κs = search needs
 
--- src/lib.rt:80:9
 trip-requires-2 : tie.Need-trip-requires-2
 trip-requires-2 c κs = search needs
 
--- src/lib.rt:78:9
 both-requires : tie.Need-both-requires
 both-requires c κs = search needs
 
--- src/lib.rt:82:43
 trip-requires-3 : tie.Need-trip-requires-3
 trip-requires-3 c κs = search needs
 
--- src/lib.rt:82:9
 both-requires-2 : tie.Need-both-requires-2
 both-requires-2 c κs = search needs
 
--- src/lib.rt:83:5
 both-requires-3 : tie.Need-both-requires-3
 both-requires-3 c κs = search needs
 
--- src/lib.rt:74:1
 returns : tie.Need-returns
 returns c = λ T Q e q. usable-is T Q _ _ _ _ _ _ _ _ _ _ e q (c .before .before .before .before .before .trip .ensures .0) (c .before .before .before .before .trip2 .ensures .0) (c .before .before .trip3 .ensures .0) (c .before .before .before .both .ensures) (c .before .both2 .ensures) (c .both3 .ensures)
 

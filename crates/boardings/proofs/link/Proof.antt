@@ -9,115 +9,87 @@ use Rattle.boardings.proofs.link.Reads as reads
 use Rattle.boardings.proofs.link.Lts as lts
 use Rattle.pruning.proofs.first_of.Reads as first-of-reads
 
--- src/lib.rt:138:14
 mul-at : tie.Need-mul-at
 mul-at c = search needs
 
--- src/lib.rt:138:30
 mul-at-2 : tie.Need-mul-at-2
 mul-at-2 c = search needs
 
--- src/lib.rt:138:14
 add-at : tie.Need-add-at
 add-at c = search needs
 
--- src/lib.rt:138:14
 add-at-2 : tie.Need-add-at-2
 add-at-2 c = search needs
 
--- src/lib.rt:138:14
 add-at-3 : tie.Need-add-at-3
 add-at-3 c = search needs
 
--- src/lib.rt:138:14
 add-at-4 : tie.Need-add-at-4
 add-at-4 c = search needs
 
--- src/lib.rt:139:16
 add-head : tie.Need-add-head
 add-head c = search needs
 
--- src/lib.rt:140:16
 mul-next : tie.Need-mul-next
 mul-next c = search needs
 
--- src/lib.rt:140:32
 mul-next-2 : tie.Need-mul-next-2
 mul-next-2 c = search needs
 
--- src/lib.rt:140:16
 add-next : tie.Need-add-next
 add-next c = search needs
 
--- src/lib.rt:140:48
 mul-next-3 : tie.Need-mul-next-3
 mul-next-3 c = search needs
 
--- src/lib.rt:140:16
 add-next-2 : tie.Need-add-next-2
 add-next-2 c = search needs
 
--- src/lib.rt:140:16
 add-next-3 : tie.Need-add-next-3
 add-next-3 c = search needs
 
--- src/lib.rt:140:16
 add-next-4 : tie.Need-add-next-4
 add-next-4 c = search needs
 
--- src/lib.rt:141:17
 add-least : tie.Need-add-least
 add-least c = search needs
 
--- src/lib.rt:142:9
 first-of-requires : tie.Need-first-of-requires
 first-of-requires c κs = search needs
 
--- src/lib.rt:143:5
 mul-work : tie.Need-mul-work
 mul-work c = search needs
 
--- src/lib.rt:143:5
 slice-write-work : tie.Need-slice-write-work
 slice-write-work c = search needs
 
--- src/lib.rt:144:5
 mul-work-2 : tie.Need-mul-work-2
 mul-work-2 c = search needs
 
--- src/lib.rt:144:5
 slice-write-work-2 : tie.Need-slice-write-work-2
 slice-write-work-2 c = let s = c .before .before .before .before .before .before .before .before .before .before .before in simp length-set (omega (arith, s .pre .0 .sections .words, s .pre .1 .0, s .pre .1 .1))
 
--- src/lib.rt:145:18
 cast-work : tie.Need-cast-work
 cast-work c = search needs
 
--- src/lib.rt:145:18
 add-work : tie.Need-add-work
 add-work c = search needs
 
--- src/lib.rt:145:5
 mul-work-3 : tie.Need-mul-work-3
 mul-work-3 c = search needs
 
--- src/lib.rt:145:5
 slice-write-work-3 : tie.Need-slice-write-work-3
 slice-write-work-3 c = let s = c .before .before .before .before .before .before .before .before .before .before .before in simp length-set (omega (arith, s .pre .0 .sections .words, s .pre .1 .0, s .pre .1 .1))
 
--- src/lib.rt:146:5
 mul-work-4 : tie.Need-mul-work-4
 mul-work-4 c = search needs
 
--- src/lib.rt:146:5
 slice-write-work-4 : tie.Need-slice-write-work-4
 slice-write-work-4 c = let s = c .before .before .before .before .before .before .before .before .before .before .before in simp length-set (omega (arith, s .pre .0 .sections .words, s .pre .1 .0, s .pre .1 .1))
 
--- src/lib.rt:134:1
 same-length : tie.Need-same-length
 same-length c = search needs
 
--- src/lib.rt:134:1
 returns : tie.Need-returns
 returns c = let s = c .before .before .before .before .before .before .before .before .before .before .before .args in linked-as (s .lay) (s .stamp) (s .line) (s .trip) (s .off) (c .first-of .result) (now (s .work)) (c .first-of .ensures)
 

@@ -9,63 +9,48 @@ use Rattle.boardings.proofs.list.Lts as lts
 use Rattle.boardings.proofs.link.Reads as link-reads
 use Rattle.boardings.proofs.lower.Reads as lower-reads
 
--- src/lib.rt:167:9
 returns : tie.Need-returns
 returns c = let s = c .before .before in listed-no (s .args .lay) (s .args .stamp) (s .args .line) (s .args .trip) (s .args .off) (now (s .args .work)) (s .args .prunes) (not-true _ (c .if1 .taken))
 
--- src/lib.rt:169:14
 mul-at : tie.Need-mul-at
 mul-at c = search needs
 
--- src/lib.rt:169:30
 mul-at-2 : tie.Need-mul-at-2
 mul-at-2 c = search needs
 
--- src/lib.rt:169:14
 add-at : tie.Need-add-at
 add-at c = search needs
 
--- src/lib.rt:169:14
 add-at-2 : tie.Need-add-at-2
 add-at-2 c = search needs
 
--- src/lib.rt:169:14
 add-at-3 : tie.Need-add-at-3
 add-at-3 c = search needs
 
--- src/lib.rt:169:14
 add-at-4 : tie.Need-add-at-4
 add-at-4 c = search needs
 
--- src/lib.rt:170:8
 mul-if2 : tie.Need-mul-if2
 mul-if2 c = search needs
 
--- src/lib.rt:170:8
 slice-read-if2 : tie.Need-slice-read-if2
 slice-read-if2 c = search needs
 
--- src/lib.rt:171:9
 lower-requires : tie.Need-lower-requires
 lower-requires c κs = search needs
 
--- src/lib.rt:172:9
 same-length : tie.Need-same-length
 same-length c = search needs
 
--- src/lib.rt:172:9
 returns-2 : tie.Need-returns-2
 returns-2 c = let s = c .before .before .before .before .before .before .before .before .before .before .before in listed-seen (s .args .lay) (s .args .stamp) (s .args .line) (s .args .trip) (s .args .off) (now (s .args .work)) (s .args .prunes) _ (not-false _ (c .before .before .before .before .before .before .before .before .before .if1 .left)) (c .before .before .before .before .if2 .taken) (c .before .before .lower .ensures)
 
--- src/lib.rt:174:5
 link-requires : tie.Need-link-requires
 link-requires c κs = let s = c .before .before .before .before .before .before .before .before in (s .pre .0, (s .pre .1 .0 (not-false _ (c .before .before .before .before .before .before .if1 .left)), s .pre .1 .1))
 
--- src/lib.rt:162:1
 same-length-2 : tie.Need-same-length-2
 same-length-2 c = search needs
 
--- src/lib.rt:162:1
 returns-3 : tie.Need-returns-3
 returns-3 c = let s = c .before .before .before .before .before .before .before .before .before .before .before in listed-new (s .args .lay) (s .args .stamp) (s .args .line) (s .args .trip) (s .args .off) (now (s .args .work)) (s .args .prunes) _ (not-false _ (c .before .before .before .before .before .before .before .before .before .if1 .left)) (c .before .before .before .before .if2 .left) (c .before .before .link .ensures)
 

@@ -6,59 +6,45 @@ use Rattle.boardings.proofs.lower.Tie as tie
 use Rattle.boardings.proofs.lower.Reads as reads
 use Rattle.boardings.proofs.lower.Lts as lts
 
--- src/lib.rt:154:17
 mul-least : tie.Need-mul-least
 mul-least c = search needs
 
--- src/lib.rt:154:33
 mul-least-2 : tie.Need-mul-least-2
 mul-least-2 c = search needs
 
--- src/lib.rt:154:17
 add-least : tie.Need-add-least
 add-least c = search needs
 
--- src/lib.rt:154:49
 mul-least-3 : tie.Need-mul-least-3
 mul-least-3 c = search needs
 
--- src/lib.rt:154:17
 add-least-2 : tie.Need-add-least-2
 add-least-2 c = search needs
 
--- src/lib.rt:154:17
 add-least-3 : tie.Need-add-least-3
 add-least-3 c = search needs
 
--- src/lib.rt:154:17
 add-least-4 : tie.Need-add-least-4
 add-least-4 c = search needs
 
--- src/lib.rt:155:8
 mul-if1 : tie.Need-mul-if1
 mul-if1 c = search needs
 
--- src/lib.rt:155:8
 slice-read-if1 : tie.Need-slice-read-if1
 slice-read-if1 c = search needs
 
--- src/lib.rt:156:9
 returns : tie.Need-returns
 returns c = let s = c .before .before .before .before .before .args in lowered-no (s .lay) 0 0 (s .trip) (s .off) (now (s .work)) (c .if1 .taken)
 
--- src/lib.rt:158:5
 mul-work : tie.Need-mul-work
 mul-work c = search needs
 
--- src/lib.rt:158:5
 slice-write-work : tie.Need-slice-write-work
 slice-write-work c = search needs
 
--- src/lib.rt:150:1
 same-length : tie.Need-same-length
 same-length c = search needs
 
--- src/lib.rt:150:1
 returns-2 : tie.Need-returns-2
 returns-2 c = let s = c .before .before .before .before .before .args in lowered-yes (s .lay) 0 0 (s .trip) (s .off) (now (s .work)) (c .if1 .left)
 

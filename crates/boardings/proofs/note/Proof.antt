@@ -12,27 +12,21 @@ use Rattle.pruning.proofs.prunable.Reads as prunable-reads
 use Rattle.boardings.proofs.stamp_trip.Reads as stamp-trip-reads
 use Rattle.tables.proofs.field.Reads as field-reads
 
--- src/lib.rt:204:9
 prunable-requires : tie.Need-prunable-requires
 prunable-requires c κs = search needs
 
--- src/lib.rt:205:9
 field-requires : tie.Need-field-requires
 field-requires c κs = search needs
 
--- src/lib.rt:206:5
 list-requires : tie.Need-list-requires
 list-requires c κs = let s = c .before .before .before .before .before .before in (s .pre .0, (λ e. let u = c .before .before .prunable .ensures .0 e in omega (arith, u, c .before .field .ensures .0), s .pre .1 .1 .1))
 
--- src/lib.rt:207:5
 stamp-trip-requires : tie.Need-stamp-trip-requires
 stamp-trip-requires c κs = let s = c .before .before .before .before .before .before .before .before .before .before in (sized-as (s .args .lay) (now (s .args .work)) _ (s .pre .0) (s .pre .1 .0) (s .pre .1 .1 .1) _ _ _ (c .before .before .before .list .ensures) (λ e. let u = c .before .before .before .before .before .before .prunable .ensures .0 e in omega (arith, u, c .before .before .before .before .before .field .ensures .0)), s .pre .1 .1 .1)
 
--- src/lib.rt:191:1
 same-length : tie.Need-same-length
 same-length c = search needs
 
--- src/lib.rt:191:1
 returns : tie.Need-returns
 returns c = let s = c .before .before .before .before .before .before .before .before .before .before .before .before .before in noted-as (s .args .lay) (s .args .stamp) (now (s .args .work)) (s .pre .0) (s .pre .1 .0) _ (s .args .trip) (s .args .off) (s .pre .1 .1 .1) (now (s .args .built)) (hitOf (s .args .adj)) (s .args .dep) _ (λ e. let u = c .before .before .before .before .before .before .before .before .before .prunable .ensures .0 e in omega (arith, u, c .before .before .before .before .before .before .before .before .field .ensures .0)) (c .before .before .before .before .before .before .before .before .field .ensures .0) (c .before .before .before .before .before .before .before .before .before .prunable .ensures .1) _ _ (c .before .before .before .before .before .before .list .ensures) (c .before .before .stamp-trip .ensures)
 

@@ -8,67 +8,51 @@ use Rattle.boardings.proofs.stamp_trip.Tie as tie
 use Rattle.boardings.proofs.stamp_trip.Reads as reads
 use Rattle.boardings.proofs.stamp_trip.Lts as lts
 
--- src/lib.rt:182:14
 mul-at : tie.Need-mul-at
 mul-at c = search needs
 
--- src/lib.rt:182:30
 mul-at-2 : tie.Need-mul-at-2
 mul-at-2 c = search needs
 
--- src/lib.rt:182:14
 add-at : tie.Need-add-at
 add-at c = search needs
 
--- src/lib.rt:182:14
 add-at-2 : tie.Need-add-at-2
 add-at-2 c = search needs
 
--- src/lib.rt:182:14
 add-at-3 : tie.Need-add-at-3
 add-at-3 c = search needs
 
--- src/lib.rt:182:14
 add-at-4 : tie.Need-add-at-4
 add-at-4 c = search needs
 
--- src/lib.rt:183:18
 add-offset : tie.Need-add-offset
 add-offset c = search needs
 
--- src/lib.rt:184:21
 add-departure : tie.Need-add-departure
 add-departure c = search needs
 
--- src/lib.rt:185:5
 mul-work : tie.Need-mul-work
 mul-work c = search needs
 
--- src/lib.rt:185:5
 slice-write-work : tie.Need-slice-write-work
 slice-write-work c = search needs
 
--- src/lib.rt:186:5
 mul-work-2 : tie.Need-mul-work-2
 mul-work-2 c = search needs
 
--- src/lib.rt:186:5
 slice-write-work-2 : tie.Need-slice-write-work-2
 slice-write-work-2 c = let s = c .before .before .before .before .before in simp length-set (omega (arith, s .pre .0 .sections .words, s .pre .1))
 
--- src/lib.rt:187:5
 mul-work-3 : tie.Need-mul-work-3
 mul-work-3 c = search needs
 
--- src/lib.rt:187:5
 slice-write-work-3 : tie.Need-slice-write-work-3
 slice-write-work-3 c = let s = c .before .before .before .before .before in simp length-set (omega (arith, s .pre .0 .sections .words, s .pre .1))
 
--- src/lib.rt:178:1
 same-length : tie.Need-same-length
 same-length c = search needs
 
--- src/lib.rt:178:1
 returns : tie.Need-returns
 returns c = let s = c .before .before .before .before .before .args in stamped-as (s .lay) (s .stamp) (s .trip) (s .off) (s .dep) (now (s .work))
 

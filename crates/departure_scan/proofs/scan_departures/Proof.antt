@@ -28,119 +28,90 @@ abbrev μ-loop : tie.MeasureT-loop
 μ-loop n t rows stop-rows built bytes area net flagged stamp has-freq x after lay list work₀ labels₀ distances₀ queue₀ m g₀ i₀ work labels distances queue g i =
     m - i
 
--- src/lib.rt:171:5
 loop-holds : tie.Need-loop-holds Inv-loop μ-loop
 loop-holds c = let a = c .before .before .before .before .before .before .before .before .before .before .before in let x = a .args in let G = a .pre .0 in (refl, ride-start _ _ _ _ (G .ready) (G .chains) (G .room) (λ T Q y s. from-start T Q (x .flagged) (x .has-freq) (x .stamp - 2) (x .stamp) (x .x) (x .after) (now (x .list)) (length (now (x .list)) / 2) s))
 
--- src/lib.rt:172:18
 mul-at : tie.Need-mul-at Inv-loop μ-loop
 mul-at c = let a = c .before .before .before .before .before .before .before .before .before .before .before .before .before in let K = a .pre .1 .0 in omega (arith, K .few, c .loop-test .taken, c .before .loop .inv .0)
 
--- src/lib.rt:173:20
 mul-trip : tie.Need-mul-trip Inv-loop μ-loop
 mul-trip c = let a = c .before .before .before .before .before .before .before .before .before .before .before .before .before in let K = a .pre .1 .0 in omega (arith, K .few, c .loop-test .taken, c .before .loop .inv .0)
 
--- src/lib.rt:173:20
 shared-slice-read-trip : tie.Need-shared-slice-read-trip Inv-loop μ-loop
 shared-slice-read-trip c = omega (arith, c .before .loop-test .taken, c .before .before .loop .inv .0)
 
--- src/lib.rt:174:24
 add-off : tie.Need-add-off Inv-loop μ-loop
 add-off c = let a = c .before .before .before .before .before .before .before .before .before .before .before .before .before .before in let K = a .pre .1 .0 in omega (arith, K .few, c .before .loop-test .taken, c .before .before .loop .inv .0)
 
--- src/lib.rt:174:19
 mul-off : tie.Need-mul-off Inv-loop μ-loop
 mul-off c = let a = c .before .before .before .before .before .before .before .before .before .before .before .before .before .before in let K = a .pre .1 .0 in omega (arith, K .few, c .before .loop-test .taken, c .before .before .loop .inv .0)
 
--- src/lib.rt:174:19
 shared-slice-read-off : tie.Need-shared-slice-read-off Inv-loop μ-loop
 shared-slice-read-off c = omega (arith, c .before .before .loop-test .taken, c .before .before .before .loop .inv .0)
 
--- src/lib.rt:177:44
 cast-too-late : tie.Need-cast-too-late Inv-loop μ-loop
 cast-too-late c = let a = c .before .before .before .before .before .before .before .before .before .before .before .before .before .before .before .before .before in let x = a .args in let G = a .pre .0 in let p = c .before .before .before .before .before .loop .inv .1 in let K = a .pre .1 .0 in let e = K .known (c .before .before .before .before .before .loop .i) (omega (arith, c .before .before .before .before .loop-test .taken, c .before .before .before .before .before .loop .inv .0)) in omega (arith, e .trip, K .counts .trips)
 
--- src/lib.rt:177:59
 cast-too-late-2 : tie.Need-cast-too-late-2 Inv-loop μ-loop
 cast-too-late-2 c = let a = c .before .before .before .before .before .before .before .before .before .before .before .before .before .before .before .before .before in let x = a .args in let G = a .pre .0 in let p = c .before .before .before .before .before .loop .inv .1 in let K = a .pre .1 .0 in let e = K .known (c .before .before .before .before .before .loop .i) (omega (arith, c .before .before .before .before .loop-test .taken, c .before .before .before .before .before .loop .inv .0)) in omega (arith, e .offset, K .runs .run _ (e .trip), K .counts .times)
 
--- src/lib.rt:177:12
 too-late-requires : tie.Need-too-late-requires Inv-loop μ-loop
 too-late-requires c κs = let a = c .before .before .before .before .before .before .before .before .before .before .before .before .before .before .before .before .before in let x = a .args in let G = a .pre .0 in let p = c .before .before .before .before .before .loop .inv .1 in let K = a .pre .1 .0 in let e = K .known (c .before .before .before .before .before .loop .i) (omega (arith, c .before .before .before .before .loop-test .taken, c .before .before .before .before .before .loop .inv .0)) in (G .laid .netted .ground .sane, record { trip = e .trip; offset = e .offset })
 
--- src/lib.rt:178:13
 same-length : tie.Need-same-length Inv-loop μ-loop
 same-length c = let a = c .before .before .before .before .before .before .before .before .before .before .before .before .before .before .before .before .before .before .before in let x = a .args in let G = a .pre .0 in let p = c .before .before .before .before .before .before .before .loop .inv .1 in p .kept .size
 
--- src/lib.rt:178:13
 same-length-2 : tie.Need-same-length-2 Inv-loop μ-loop
 same-length-2 c = let a = c .before .before .before .before .before .before .before .before .before .before .before .before .before .before .before .before .before .before .before in let x = a .args in let G = a .pre .0 in let p = c .before .before .before .before .before .before .before .loop .inv .1 in p .ready .sized .rows ∙ sym (G .ready .sized .rows)
 
--- src/lib.rt:178:13
 same-length-3 : tie.Need-same-length-3 Inv-loop μ-loop
 same-length-3 c = let a = c .before .before .before .before .before .before .before .before .before .before .before .before .before .before .before .before .before .before .before in let x = a .args in let G = a .pre .0 in let p = c .before .before .before .before .before .before .before .loop .inv .1 in p .ready .sized .metres ∙ sym (G .ready .sized .metres)
 
--- src/lib.rt:178:13
 same-length-4 : tie.Need-same-length-4 Inv-loop μ-loop
 same-length-4 c = let a = c .before .before .before .before .before .before .before .before .before .before .before .before .before .before .before .before .before .before .before in let x = a .args in let G = a .pre .0 in let p = c .before .before .before .before .before .before .before .loop .inv .1 in p .size
 
--- src/lib.rt:178:13
 returns : tie.Need-returns Inv-loop μ-loop
 returns c = let a = c .before .before .before .before .before .before .before .before .before .before .before .before .before .before .before .before .before .before .before in let x = a .args in let G = a .pre .0 in let p = c .before .before .before .before .before .before .before .loop .inv .1 in ride-end _ p (λ T Q y s v. from-late T Q (x .flagged) (x .has-freq) (x .stamp - 2) (x .stamp) (x .x) (x .after) (now (x .list)) (length (now (x .list)) / 2) (c .before .before .before .before .before .before .before .loop .i) s (omega (arith, c .before .before .before .before .before .before .loop-test .taken, c .before .before .before .before .before .before .before .loop .inv .0)) (late-seen v (x .has-freq) _ _ (c .before .too-late .result) true (c .before .too-late .ensures T Q (y .nets .agree .timetable) (y .nets .asks)) (c .if1 .taken)))
 
--- src/lib.rt:180:9
 take-departure-requires : tie.Need-take-departure-requires Inv-loop μ-loop
 take-departure-requires c κs = let a = c .before .before .before .before .before .before .before .before .before .before .before .before .before .before .before .before .before .before .before .before .before .before .before in let x = a .args in let G = a .pre .0 in let p = c .before .before .before .before .before .before .before .before .before .before .before .loop .inv .1 in let K = a .pre .1 .0 in let e = K .known (c .before .before .before .before .before .before .before .before .before .before .before .loop .i) (omega (arith, c .before .before .before .before .before .before .before .before .before .before .loop-test .taken, c .before .before .before .before .before .before .before .before .before .before .before .loop .inv .0)) in (going-on G p, (record { trip = e .trip; offset = e .offset }, a .pre .1 .1))
 
--- src/lib.rt:203:13
 same-length-5 : tie.Need-same-length-5 Inv-loop μ-loop
 same-length-5 c = let a = c .before .before .before .before .before .before .before .before .before .before .before .before .before .before .before .before .before .before .before .before .before .before .before .before .before .before .before .before .before .before .before .before .before in let x = a .args in let G = a .pre .0 in let p = c .before .before .before .before .before .before .before .before .before .before .before .before .before .before .before .before .before .before .before .before .before .loop .inv .1 in let z = c .before .before .before .before .before .before .before .before .before .take-departure .ensures in z .step .kept .size ∙ p .kept .size
 
--- src/lib.rt:203:13
 same-length-6 : tie.Need-same-length-6 Inv-loop μ-loop
 same-length-6 c = let a = c .before .before .before .before .before .before .before .before .before .before .before .before .before .before .before .before .before .before .before .before .before .before .before .before .before .before .before .before .before .before .before .before .before in let x = a .args in let G = a .pre .0 in let p = c .before .before .before .before .before .before .before .before .before .before .before .before .before .before .before .before .before .before .before .before .before .loop .inv .1 in let z = c .before .before .before .before .before .before .before .before .before .take-departure .ensures in z .step .ready .sized .rows ∙ sym (G .ready .sized .rows)
 
--- src/lib.rt:203:13
 same-length-7 : tie.Need-same-length-7 Inv-loop μ-loop
 same-length-7 c = let a = c .before .before .before .before .before .before .before .before .before .before .before .before .before .before .before .before .before .before .before .before .before .before .before .before .before .before .before .before .before .before .before .before .before in let x = a .args in let G = a .pre .0 in let p = c .before .before .before .before .before .before .before .before .before .before .before .before .before .before .before .before .before .before .before .before .before .loop .inv .1 in let z = c .before .before .before .before .before .before .before .before .before .take-departure .ensures in z .step .ready .sized .metres ∙ sym (G .ready .sized .metres)
 
--- src/lib.rt:203:13
 same-length-8 : tie.Need-same-length-8 Inv-loop μ-loop
 same-length-8 c = let a = c .before .before .before .before .before .before .before .before .before .before .before .before .before .before .before .before .before .before .before .before .before .before .before .before .before .before .before .before .before .before .before .before .before in let x = a .args in let G = a .pre .0 in let p = c .before .before .before .before .before .before .before .before .before .before .before .before .before .before .before .before .before .before .before .before .before .loop .inv .1 in let z = c .before .before .before .before .before .before .before .before .before .take-departure .ensures in z .step .size ∙ p .size
 
--- src/lib.rt:203:13
 returns-2 : tie.Need-returns-2 Inv-loop μ-loop
 returns-2 c = let a = c .before .before .before .before .before .before .before .before .before .before .before .before .before .before .before .before .before .before .before .before .before .before .before .before .before .before .before .before .before .before .before .before .before in let x = a .args in let G = a .pre .0 in let p = c .before .before .before .before .before .before .before .before .before .before .before .before .before .before .before .before .before .before .before .before .before .loop .inv .1 in let z = c .before .before .before .before .before .before .before .before .before .take-departure .ensures in ride-over (λ T Q. scanFrom T Q (x .flagged) (x .has-freq) (x .stamp - 2) (x .stamp) (x .x) (x .after) (now (x .list)) (length (now (x .list)) / 2) (c .before .before .before .before .before .before .before .before .before .before .before .before .before .before .before .before .before .before .before .before .before .loop .i + 1)) p z (λ T Q y. rides-kept (G .laid) (p .kept) y) (λ T Q y s v. from-turn T Q (x .flagged) (x .has-freq) (x .stamp - 2) (x .stamp) (x .x) (x .after) (now (x .list)) (length (now (x .list)) / 2) (c .before .before .before .before .before .before .before .before .before .before .before .before .before .before .before .before .before .before .before .before .before .loop .i) s (omega (arith, c .before .before .before .before .before .before .before .before .before .before .before .before .before .before .before .before .before .before .before .before .loop-test .taken, c .before .before .before .before .before .before .before .before .before .before .before .before .before .before .before .before .before .before .before .before .before .loop .inv .0)) (late-seen v (x .has-freq) _ _ (c .before .before .before .before .before .before .before .before .before .before .before .before .before .before .before .too-late .result) false (c .before .before .before .before .before .before .before .before .before .before .before .before .before .before .before .too-late .ensures T Q (y .nets .agree .timetable) (y .nets .asks)) (c .before .before .before .before .before .before .before .before .before .before .before .before .before .before .if1 .left))) (c .if2 .taken) (λ T Q s. departures-later T Q (x .flagged) (x .has-freq) (x .stamp - 2) (x .stamp) (x .x) (x .after) _ s .queue)
 
--- src/lib.rt:205:9
 add-i : tie.Need-add-i Inv-loop μ-loop
 add-i c = let a = c .before .before .before .before .before .before .before .before .before .before .before .before .before .before .before .before .before .before .before .before .before .before .before .before .before .before .before .before .before .before .before .before .before in let K = a .pre .1 .0 in omega (arith, K .few, c .before .before .before .before .before .before .before .before .before .before .before .before .before .before .before .before .before .before .before .before .loop-test .taken, c .before .before .before .before .before .before .before .before .before .before .before .before .before .before .before .before .before .before .before .before .before .loop .inv .0)
 
--- src/lib.rt:171:5
 loop-less : tie.Need-loop-less Inv-loop μ-loop
 loop-less c = omega arith
 
--- src/lib.rt:171:5
 loop-again : tie.Need-loop-again Inv-loop μ-loop
 loop-again c = let a = c .before .before .before .before .before .before .before .before .before .before .before .before .before .before .before .before .before .before .before .before .before .before .before .before .before .before .before .before .before .before .before .before .before in let x = a .args in let G = a .pre .0 in let p = c .before .before .before .before .before .before .before .before .before .before .before .before .before .before .before .before .before .before .before .before .before .loop .inv .1 in let z = c .before .before .before .before .before .before .before .before .before .take-departure .ensures in (c .before .before .before .before .before .before .before .before .before .before .before .before .before .before .before .before .before .before .before .before .before .loop .inv .0, ride-turn _ p z (λ T Q y. rides-kept (G .laid) (p .kept) y) (λ T Q y s v. from-turn T Q (x .flagged) (x .has-freq) (x .stamp - 2) (x .stamp) (x .x) (x .after) (now (x .list)) (length (now (x .list)) / 2) (c .before .before .before .before .before .before .before .before .before .before .before .before .before .before .before .before .before .before .before .before .before .loop .i) s (omega (arith, c .before .before .before .before .before .before .before .before .before .before .before .before .before .before .before .before .before .before .before .before .loop-test .taken, c .before .before .before .before .before .before .before .before .before .before .before .before .before .before .before .before .before .before .before .before .before .loop .inv .0)) (late-seen v (x .has-freq) _ _ (c .before .before .before .before .before .before .before .before .before .before .before .before .before .before .before .too-late .result) false (c .before .before .before .before .before .before .before .before .before .before .before .before .before .before .before .too-late .ensures T Q (y .nets .agree .timetable) (y .nets .asks)) (c .before .before .before .before .before .before .before .before .before .before .before .before .before .before .if1 .left))) (c .if2 .left))
 
--- src/lib.rt:143:1
 same-length-9 : tie.Need-same-length-9 Inv-loop μ-loop
 same-length-9 c = let a = c .before .before .before .before .before .before .before .before .before .before .before .before .before in let x = a .args in let G = a .pre .0 in let p = c .before .loop .inv .1 in p .kept .size
 
--- src/lib.rt:143:1
 same-length-10 : tie.Need-same-length-10 Inv-loop μ-loop
 same-length-10 c = let a = c .before .before .before .before .before .before .before .before .before .before .before .before .before in let x = a .args in let G = a .pre .0 in let p = c .before .loop .inv .1 in p .ready .sized .rows ∙ sym (G .ready .sized .rows)
 
--- src/lib.rt:143:1
 same-length-11 : tie.Need-same-length-11 Inv-loop μ-loop
 same-length-11 c = let a = c .before .before .before .before .before .before .before .before .before .before .before .before .before in let x = a .args in let G = a .pre .0 in let p = c .before .loop .inv .1 in p .ready .sized .metres ∙ sym (G .ready .sized .metres)
 
--- src/lib.rt:143:1
 same-length-12 : tie.Need-same-length-12 Inv-loop μ-loop
 same-length-12 c = let a = c .before .before .before .before .before .before .before .before .before .before .before .before .before in let x = a .args in let G = a .pre .0 in let p = c .before .loop .inv .1 in p .size
 
--- src/lib.rt:143:1
 returns-3 : tie.Need-returns-3 Inv-loop μ-loop
 returns-3 c = let a = c .before .before .before .before .before .before .before .before .before .before .before .before .before in let x = a .args in let G = a .pre .0 in let p = c .before .loop .inv .1 in ride-end _ p (λ T Q y s v. from-end T Q (x .flagged) (x .has-freq) (x .stamp - 2) (x .stamp) (x .x) (x .after) (now (x .list)) (length (now (x .list)) / 2) (c .before .loop .i) s (omega (arith, c .loop-test .left, c .before .loop .inv .0)))
 

@@ -12,55 +12,42 @@ use Rattle.boardings.proofs.note.Reads as note-reads
 use Rattle.listed.proofs.board_listed.Reads as board-listed-reads
 use Rattle.trip_scan.proofs.scan_trip_forward.Reads as scan-trip-forward-reads
 
--- src/lib.rt:65:9
 delay-of-requires : tie.Need-delay-of-requires
 delay-of-requires c κs = search needs
 
--- src/lib.rt:66:9
 board-listed-requires : tie.Need-board-listed-requires
 board-listed-requires c κs = let a = c .before .before .before .before .before .before .before .before .before .before .before .before .before .before in let x = a .args in let G = a .pre .0 in (G .laid .netted .ground, (c .before .delay-of .ensures .0, (a .pre .1 .0, (a .pre .1 .1, chained G))))
 
--- src/lib.rt:82:26
 enum-known-found : tie.Need-enum-known-found
 enum-known-found c = search needs
 
--- src/lib.rt:83:9
 enum-told : tie.Need-enum-told
 enum-told c = search needs
 
--- src/lib.rt:83:9
 same-length : tie.Need-same-length
 same-length c = search needs
 
--- src/lib.rt:83:9
 returns : tie.Need-returns
 returns c = let a = c .before .before .before .before .before .before .before .before .before .before .before .before .before .before .before .before .before in let x = a .args in let G = a .pre .0 in taken-none G (x .flagged) (c .before .before .before .before .delay-of .result) (x .x) (x .after) (x .trip) (x .off) (x .stamp - 2) (c .before .before .board-listed .result) (c .before .before .board-listed .ensures .0) (c .before .before .before .before .delay-of .ensures .1) (c .enum-told .given .1)
 
--- src/lib.rt:85:5
 note-requires : tie.Need-note-requires
 note-requires c κs = let a = c .before .before .before .before .before .before .before .before .before .before .before .before .before .before .before .before .before .before .before in let x = a .args in let G = a .pre .0 in (sized-work (G .ready .sized), (G .chains, (chained G .lines, omega (arith, a .pre .1 .0 .trip, G .laid .netted .trips))))
 
--- src/lib.rt:102:5
 scan-trip-forward-requires : tie.Need-scan-trip-forward-requires
 scan-trip-forward-requires c κs = let a = c .before .before .before .before .before .before .before .before .before .before .before .before .before .before .before .before .before .before .before .before .before .before .before .before .before .before in let x = a .args in let G = a .pre .0 in (noted-netted G (x .flagged) (c .before .before .before .before .before .before .before .before .before .before .before .before .before .delay-of .result) (x .x) (x .after) (x .trip) (x .off) (x .stamp - 2) (c .before .before .before .before .before .before .before .before .before .before .before .board-listed .result) (c .before .before .before .before .before .before .before .before .before .before .before .board-listed .ensures .0) (c .before .before .before .before .before .before .before .before .before .before .before .before .before .delay-of .ensures .1) _ (c .before .before .before .before .before .before .before .before .before .found .given .1) (c .before .before .before .before .before .before .note .ensures), (riding-on G _ _ (c .before .before .before .before .before .before .before .before .before .before .before .before .before .delay-of .ensures .0) (a .pre .1 .0 .trip) (shift-small G (x .flagged) (c .before .before .before .before .before .before .before .before .before .before .before .before .before .delay-of .result) (x .x) (x .after) (x .trip) (x .off) (x .stamp - 2) (c .before .before .before .before .before .before .before .before .before .before .before .board-listed .result) (c .before .before .before .before .before .before .before .before .before .before .before .board-listed .ensures .0) (c .before .before .before .before .before .before .before .before .before .before .before .before .before .delay-of .ensures .1) _ (c .before .before .before .before .before .before .before .before .before .found .given .1) (c .before .before .before .before .before .before .before .before .before .before .before .board-listed .ensures .1) (a .pre .1 .0)), (ready-noted (G .ready) (c .before .before .before .before .before .before .note .ensures), G .room)))
 
--- src/lib.rt:38:1
 same-length-2 : tie.Need-same-length-2
 same-length-2 c = search needs
 
--- src/lib.rt:38:1
 same-length-3 : tie.Need-same-length-3
 same-length-3 c = search needs
 
--- src/lib.rt:38:1
 same-length-4 : tie.Need-same-length-4
 same-length-4 c = search needs
 
--- src/lib.rt:38:1
 same-length-5 : tie.Need-same-length-5
 same-length-5 c = search needs
 
--- src/lib.rt:38:1
 returns-2 : tie.Need-returns-2
 returns-2 c = let a = c .before .before .before .before .before .before .before .before .before .before .before .before .before .before .before .before .before .before .before .before .before .before .before .before .before .before .before .before .before .before .before .before .before .before .before in let x = a .args in let G = a .pre .0 in taken-board G (x .flagged) (c .before .before .before .before .before .before .before .before .before .before .before .before .before .before .before .before .before .before .before .before .before .before .delay-of .result) (x .x) (x .after) (x .trip) (x .off) (x .stamp - 2) (c .before .before .before .before .before .before .before .before .before .before .before .before .before .before .before .before .before .before .before .before .board-listed .result) (c .before .before .before .before .before .before .before .before .before .before .before .before .before .before .before .before .before .before .before .before .board-listed .ensures .0) (c .before .before .before .before .before .before .before .before .before .before .before .before .before .before .before .before .before .before .before .before .before .before .delay-of .ensures .1) _ (c .before .before .before .before .before .before .before .before .before .before .before .before .before .before .before .before .before .before .found .given .1) (c .before .before .before .before .before .before .before .before .before .before .before .before .before .before .before .note .ensures) (c .before .before .before .before .before .before .before .before .scan-trip-forward .ensures)
 

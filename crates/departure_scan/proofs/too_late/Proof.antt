@@ -10,31 +10,24 @@ use Rattle.door.proofs.both.Reads as both-reads
 use Rattle.tables.proofs.time.Reads as time-reads
 use Rattle.tables.proofs.trip.Reads as trip-reads
 
--- src/lib.rt:136:9
 trip-requires : tie.Need-trip-requires
 trip-requires c κs = search needs
 
--- src/lib.rt:137:34
 add-time : tie.Need-add-time
 add-time c = let a = c .before .before in let k = a .pre .1 in omega (arith, c .trip .ensures .0, a .pre .0 .runs .run _ (k .trip), k .offset, a .pre .0 .counts .times)
 
--- src/lib.rt:137:15
 time-requires : tie.Need-time-requires
 time-requires c κs = let a = c .before .before in let k = a .pre .1 in (a .pre .0 .counts, (a .pre .0 .slices, (omega (arith, c .trip .ensures .0, a .pre .0 .runs .run _ (k .trip), k .offset), omega arith)))
 
--- src/lib.rt:138:30
 cast-late : tie.Need-cast-late
 cast-late c = search needs
 
--- src/lib.rt:138:16
 add-late : tie.Need-add-late
 add-late c = search needs
 
--- src/lib.rt:139:5
 both-requires : tie.Need-both-requires
 both-requires c κs = search needs
 
--- src/lib.rt:124:1
 returns : tie.Need-returns
 returns c = let a = c .before .before .before .before .before in let x = a .args in λ T Q e q. late-is T Q (now (x .t)) (x .c) (x .terms) (x .has-freq) (x .trip) (x .off) (x .best) _ _ e q (c .before .before .before .trip .ensures .0) (c .before .before .time .ensures .0) (c .both .ensures)
 

@@ -9,15 +9,12 @@ use Rattle.exports.proofs.query_counts.Lts as lts
 use Rattle.exports.proofs.counts.Reads as counts-reads
 use Rattle.exports.proofs.gather.Reads as gather-reads
 
--- src/lib.rt:520:9
 counts-requires : tie.Need-counts-requires
 counts-requires c κs = search needs
 
--- src/lib.rt:521:5
 gather-requires : tie.Need-gather-requires
 gather-requires c κs = search needs
 
--- src/lib.rt:517:1
 returns : tie.Need-returns
 returns c =
     let s = c .before .before .args .s in

@@ -8,15 +8,12 @@ use Rattle.exports.proofs.savoiky_work_size.Lts as lts
 use Rattle.asking.proofs.workspace.Reads as workspace-reads
 use Rattle.exports.proofs.query_counts.Reads as query-counts-reads
 
--- src/lib.rt:510:23
 query-counts-requires : tie.Need-query-counts-requires
 query-counts-requires c κs = search needs
 
--- src/lib.rt:510:5
 workspace-requires : tie.Need-workspace-requires
 workspace-requires c κs = search needs
 
--- src/lib.rt:506:1
 returns : tie.Need-returns
 returns c = (c .workspace .ensures) ∙ ap workspaceAnswer (c .before .query-counts .ensures)
 

@@ -24,47 +24,36 @@ Inv-loop area patterns count target first n k₀ k =
 abbrev μ-loop : tie.MeasureT-loop
 μ-loop area patterns count target first n k₀ k = n - k
 
--- src/lib.rt:108:5
 loop-holds : tie.Need-loop-holds Inv-loop μ-loop
 loop-holds c = λ T Q g et. refl
 
--- src/lib.rt:109:38
 add-field : tie.Need-add-field Inv-loop μ-loop
 add-field c = let s = c .before .before .before .before in omega (arith, s .pre .1)
 
--- src/lib.rt:109:37
 mul-field : tie.Need-mul-field Inv-loop μ-loop
 mul-field c = let s = c .before .before .before .before in omega (arith, s .pre .1)
 
--- src/lib.rt:109:37
 add-field-2 : tie.Need-add-field-2 Inv-loop μ-loop
 add-field-2 c = let s = c .before .before .before .before in omega (arith, s .pre .1)
 
--- src/lib.rt:109:13
 field-requires : tie.Need-field-requires Inv-loop μ-loop
 field-requires c κs = let s = c .before .before .before .before in omega (arith, s .pre .1)
 
--- src/lib.rt:110:13
 holds-target-requires : tie.Need-holds-target-requires Inv-loop μ-loop
 holds-target-requires c κs = let s = c .before .before .before .before .before in s .pre .0
 
--- src/lib.rt:111:13
 returns : tie.Need-returns Inv-loop μ-loop
 returns c = let s = c .before .before .before .before .before .before .before in λ T Q g et. some-yes (λ j. not (holdsTarget T Q (transferAt (now (s .args .area)) (s .args .first + j) .pattern))) (c .before .before .before .before .loop .k) _ (c .before .before .before .before .loop .inv T Q g et) (event-at T Q (now (s .args .area)) (s .args .first) (c .before .before .before .before .loop .k) _ _ _ (c .before .before .field .ensures .0) (c .before .holds-target .ensures T Q g et) (not-true _ (c .if1 .taken))) (c .before .before .before .loop-test .taken)
 
--- src/lib.rt:113:9
 add-k : tie.Need-add-k Inv-loop μ-loop
 add-k c = omega arith
 
--- src/lib.rt:108:5
 loop-less : tie.Need-loop-less Inv-loop μ-loop
 loop-less c = omega arith
 
--- src/lib.rt:108:5
 loop-again : tie.Need-loop-again Inv-loop μ-loop
 loop-again c = let s = c .before .before .before .before .before .before .before in λ T Q g et. some-again (λ j. not (holdsTarget T Q (transferAt (now (s .args .area)) (s .args .first + j) .pattern))) (c .before .before .before .before .loop .k) _ (c .before .before .before .before .loop .inv T Q g et) (event-at T Q (now (s .args .area)) (s .args .first) (c .before .before .before .before .loop .k) _ _ _ (c .before .before .field .ensures .0) (c .before .holds-target .ensures T Q g et) (not-false _ (c .if1 .left))) (c .before .before .before .loop-test .taken)
 
--- src/lib.rt:96:1
 returns-2 : tie.Need-returns-2 Inv-loop μ-loop
 returns-2 c = let s = c .before .before .before .before in λ T Q g et. some-left (λ j. not (holdsTarget T Q (transferAt (now (s .args .area)) (s .args .first + j) .pattern))) (c .before .loop .k) _ (c .before .loop .inv T Q g et) (c .loop-test .left)
 

@@ -21,51 +21,39 @@ Inv-loop runs area patterns count target e n o₀ o =
 abbrev μ-loop : tie.MeasureT-loop
 μ-loop runs area patterns count target e n o₀ o = n - o
 
--- src/lib.rt:132:5
 loop-holds : tie.Need-loop-holds Inv-loop μ-loop
 loop-holds c = λ T Q g et. refl
 
--- src/lib.rt:133:19
 add-at : tie.Need-add-at Inv-loop μ-loop
 add-at c = let s = c .before .before .before .before .before in omega (arith, s .pre .1 .few, s .pre .1 .long)
 
--- src/lib.rt:133:18
 mul-at : tie.Need-mul-at Inv-loop μ-loop
 mul-at c = let s = c .before .before .before .before .before in omega (arith, s .pre .1 .few, s .pre .1 .long)
 
--- src/lib.rt:134:13
 field-requires : tie.Need-field-requires Inv-loop μ-loop
 field-requires c κs = let s = c .before .before .before .before .before in omega (arith, s .pre .1 .few, s .pre .1 .long)
 
--- src/lib.rt:135:37
 add-field : tie.Need-add-field Inv-loop μ-loop
 add-field c = let s = c .before .before .before .before .before .before in omega (arith, s .pre .1 .few, s .pre .1 .long)
 
--- src/lib.rt:135:13
 field-requires-2 : tie.Need-field-requires-2 Inv-loop μ-loop
 field-requires-2 c κs = let s = c .before .before .before .before .before .before in omega (arith, s .pre .1 .few, s .pre .1 .long)
 
--- src/lib.rt:136:12
 event-skips-requires : tie.Need-event-skips-requires Inv-loop μ-loop
 event-skips-requires c κs = let s = c .before .before .before .before .before .before .before in (s .pre .0, omega (arith, c .before .field .ensures .0, c .field2 .ensures .0, s .pre .1 .inside (s .args .e + c .before .before .before .loop .o) (omega (arith, c .before .before .loop-test .taken))))
 
--- src/lib.rt:137:13
 returns : tie.Need-returns Inv-loop μ-loop
 returns c = let s = c .before .before .before .before .before .before .before .before .before in λ T Q g et. some-yes (λ j. eventSkips T Q (now (s .args .runs)) (now (s .args .area)) (s .args .e + j)) (c .before .before .before .before .before .loop .o) _ (c .before .before .before .before .before .loop .inv T Q g et) (run-at T Q (now (s .args .runs)) (now (s .args .area)) (s .args .e + c .before .before .before .before .before .loop .o) _ _ _ _ (c .before .before .before .field .ensures .0) (c .before .before .field2 .ensures .0) (c .before .event-skips .ensures T Q g et) (c .if1 .taken)) (c .before .before .before .before .loop-test .taken)
 
--- src/lib.rt:139:9
 add-o : tie.Need-add-o Inv-loop μ-loop
 add-o c = omega arith
 
--- src/lib.rt:132:5
 loop-less : tie.Need-loop-less Inv-loop μ-loop
 loop-less c = omega arith
 
--- src/lib.rt:132:5
 loop-again : tie.Need-loop-again Inv-loop μ-loop
 loop-again c = let s = c .before .before .before .before .before .before .before .before .before in λ T Q g et. some-again (λ j. eventSkips T Q (now (s .args .runs)) (now (s .args .area)) (s .args .e + j)) (c .before .before .before .before .before .loop .o) _ (c .before .before .before .before .before .loop .inv T Q g et) (run-at T Q (now (s .args .runs)) (now (s .args .area)) (s .args .e + c .before .before .before .before .before .loop .o) _ _ _ _ (c .before .before .before .field .ensures .0) (c .before .before .field2 .ensures .0) (c .before .event-skips .ensures T Q g et) (c .if1 .left)) (c .before .before .before .before .loop-test .taken)
 
--- src/lib.rt:119:1
 returns-2 : tie.Need-returns-2 Inv-loop μ-loop
 returns-2 c = let s = c .before .before .before .before .before in λ T Q g et. some-left (λ j. eventSkips T Q (now (s .args .runs)) (now (s .args .area)) (s .args .e + j)) (c .before .loop .o) _ (c .before .loop .inv T Q g et) (c .loop-test .left)
 

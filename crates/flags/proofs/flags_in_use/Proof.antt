@@ -9,27 +9,21 @@ use Rattle.flags.proofs.skips_edge.Reads as skips-edge-reads
 use Rattle.flags.proofs.skips_transfer.Reads as skips-transfer-reads
 use Rattle.flags.proofs.use_arc_flags.Reads as use-arc-flags-reads
 
--- src/lib.rt:182:9
 use-arc-flags-requires : tie.Need-use-arc-flags-requires
 use-arc-flags-requires c κs = search needs
 
--- src/lib.rt:183:9
 returns : tie.Need-returns
 returns c = λ T Q e g h et eo. put-off T Q (c .before .use-arc-flags .ensures T Q (g .size) eo et) (not-true _ (c .if1 .taken))
 
--- src/lib.rt:185:8
 skips-edge-requires : tie.Need-skips-edge-requires
 skips-edge-requires c κs = search needs
 
--- src/lib.rt:186:9
 returns-2 : tie.Need-returns-2
 returns-2 c = λ T Q e g h et eo. by-edge T Q (c .before .before .before .use-arc-flags .ensures T Q (g .size) eo et) (not-false _ (c .before .before .if1 .left)) (c .before .skips-edge .ensures T Q e g et) (c .if2 .taken)
 
--- src/lib.rt:188:5
 skips-transfer-requires : tie.Need-skips-transfer-requires
 skips-transfer-requires c κs = search needs
 
--- src/lib.rt:169:1
 returns-3 : tie.Need-returns-3
 returns-3 c = λ T Q e g h et eo. by-transfer T Q (c .before .before .before .before .use-arc-flags .ensures T Q (g .size) eo et) (not-false _ (c .before .before .before .if1 .left)) (c .before .before .skips-edge .ensures T Q e g et) (c .before .if2 .left) (c .skips-transfer .ensures T Q e g h et)
 

@@ -11,19 +11,15 @@ use Rattle.flags.proofs.holds_target.Lts as lts
 use Rattle.cell_bitset.proofs.CellBitSet.intersects.Reads as intersects-reads
 use Rattle.flags.proofs.pattern_bytes.Reads as pattern-bytes-reads
 
--- src/lib.rt:55:9
 returns : tie.Need-returns
 returns c = let s = c .before .before in λ T Q g et. holds-past T Q (now (s .args .patterns)) (s .args .count) g (s .args .p) (c .if1 .taken)
 
--- src/lib.rt:57:9
 pattern-bytes-requires : tie.Need-pattern-bytes-requires
 pattern-bytes-requires c κs = search needs
 
--- src/lib.rt:62:5
 intersects-requires : tie.Need-intersects-requires
 intersects-requires c κs = search needs
 
--- src/lib.rt:50:1
 returns-2 : tie.Need-returns-2
 returns-2 c = let s = c .before .before .before .before in λ T Q g et. holds-in T Q (now (s .args .patterns)) (s .args .count) g (s .args .p) _ (s .args .target) _ (c .before .before .if1 .left) (ap (λ (b : List ℕ). record { bytes = b; reserved = 64 }) (c .before .pattern-bytes .ensures)) et (c .intersects .ensures)
 

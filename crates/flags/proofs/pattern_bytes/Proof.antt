@@ -16,39 +16,30 @@ Inv-loop patterns p bytes₀ i₀ bytes i = (i ≤ 64) × (length bytes ≡ 64) 
 abbrev μ-loop : tie.MeasureT-loop
 μ-loop patterns p bytes₀ i₀ bytes i = 64 - i
 
--- src/lib.rt:42:5
 loop-holds : tie.Need-loop-holds Inv-loop μ-loop
 loop-holds c = (omega arith, search needs, λ k l. absurd (omega arith))
 
--- src/lib.rt:43:29
 mul-bytes : tie.Need-mul-bytes Inv-loop μ-loop
 mul-bytes c = omega arith
 
--- src/lib.rt:43:29
 add-bytes : tie.Need-add-bytes Inv-loop μ-loop
 add-bytes c = omega arith
 
--- src/lib.rt:43:20
 shared-slice-read-bytes : tie.Need-shared-slice-read-bytes Inv-loop μ-loop
 shared-slice-read-bytes c = omega arith
 
--- src/lib.rt:43:9
 array-write-bytes : tie.Need-array-write-bytes Inv-loop μ-loop
 array-write-bytes c = omega arith
 
--- src/lib.rt:44:9
 add-i : tie.Need-add-i Inv-loop μ-loop
 add-i c = omega arith
 
--- src/lib.rt:42:5
 loop-less : tie.Need-loop-less Inv-loop μ-loop
 loop-less c = omega arith
 
--- src/lib.rt:42:5
 loop-again : tie.Need-loop-again Inv-loop μ-loop
 loop-again c = let w = c .before .before .loop in let s = c .before .before .before in (omega arith, simp length-set (w .inv .1), fill-again (λ k. getD (now (s .args .patterns)) (s .args .p * 64 + k) 0) (w .i) (w .bytes) _ (w .inv .2) refl (omega (arith, w .inv .1)))
 
--- src/lib.rt:36:1
 returns : tie.Need-returns Inv-loop μ-loop
 returns c = let w = c .before .loop in let s = c .before .before in tab-is (λ k. getD (now (s .args .patterns)) (s .args .p * 64 + k) 0) 64 _ (w .inv .1) (λ k x. w .inv .2 k (omega arith))
 

@@ -23,35 +23,27 @@ Inv-loop t c patterns count target n k₀ k =
 abbrev μ-loop : tie.MeasureT-loop
 μ-loop t c patterns count target n k₀ k = n - k
 
--- src/lib.rt:80:5
 loop-holds : tie.Need-loop-holds Inv-loop μ-loop
 loop-holds c = let s = c .before .before in (refl, λ T Q e g et. skips-first T Q (now (s .args .t)) (s .args .c) _ refl e)
 
--- src/lib.rt:81:13
 edge-requires : tie.Need-edge-requires Inv-loop μ-loop
 edge-requires c κs = let s = c .before .before .before .before in (s .pre .0 .counts, (s .pre .0 .slices, (omega (arith, c .before .loop .inv .0), omega arith)))
 
--- src/lib.rt:82:13
 holds-target-requires : tie.Need-holds-target-requires Inv-loop μ-loop
 holds-target-requires c κs = let s = c .before .before .before .before .before in s .pre .1
 
--- src/lib.rt:83:13
 returns : tie.Need-returns Inv-loop μ-loop
 returns c = let s = c .before .before .before .before .before .before .before in λ T Q e g et. some-yes (skipsAt T Q) (c .before .before .before .before .loop .k) _ (c .before .before .before .before .loop .inv .1 T Q e g et) (skips-at T Q (now (s .args .t)) (s .args .c) (c .before .before .before .before .loop .k) _ _ _ e (c .before .before .edge .ensures .0) (c .before .holds-target .ensures T Q g et) (not-true _ (c .if1 .taken))) (c .before .before .before .loop-test .taken)
 
--- src/lib.rt:85:9
 add-k : tie.Need-add-k Inv-loop μ-loop
 add-k c = omega arith
 
--- src/lib.rt:80:5
 loop-less : tie.Need-loop-less Inv-loop μ-loop
 loop-less c = omega arith
 
--- src/lib.rt:80:5
 loop-again : tie.Need-loop-again Inv-loop μ-loop
 loop-again c = let s = c .before .before .before .before .before .before .before in (c .before .before .before .before .loop .inv .0, λ T Q e g et. some-again (skipsAt T Q) (c .before .before .before .before .loop .k) _ (c .before .before .before .before .loop .inv .1 T Q e g et) (skips-at T Q (now (s .args .t)) (s .args .c) (c .before .before .before .before .loop .k) _ _ _ e (c .before .before .edge .ensures .0) (c .before .holds-target .ensures T Q g et) (not-false _ (c .if1 .left))) (c .before .before .before .loop-test .taken))
 
--- src/lib.rt:74:1
 returns-2 : tie.Need-returns-2 Inv-loop μ-loop
 returns-2 c = λ T Q e g et. some-left (skipsAt T Q) (c .before .loop .k) _ (c .before .loop .inv .1 T Q e g et) (c .loop-test .left)
 

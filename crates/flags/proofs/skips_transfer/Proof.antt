@@ -23,39 +23,30 @@ Inv-loop t c runs area patterns count target n e₀ i₀ e i =
 abbrev μ-loop : tie.MeasureT-loop
 μ-loop t c runs area patterns count target n e₀ i₀ e i = n - i
 
--- src/lib.rt:160:5
 loop-holds : tie.Need-loop-holds Inv-loop μ-loop
 loop-holds c = let s = c .before .before .before .before in (refl, events-none (timetable (now (s .args .t)) (s .args .c)), λ T Q e g h et. transfers-first T Q (now (s .args .t)) (s .args .c) _ refl e)
 
--- src/lib.rt:161:13
 trip-requires : tie.Need-trip-requires Inv-loop μ-loop
 trip-requires c κs = let s = c .before .before .before .before .before .before in (s .pre .0 .counts, (s .pre .0 .slices, ((omega (arith, c .before .loop .inv .0, c .loop-test .taken)), omega arith)))
 
--- src/lib.rt:162:12
 events-skip-requires : tie.Need-events-skip-requires Inv-loop μ-loop
 events-skip-requires c κs = let s = c .before .before .before .before .before .before .before in (s .pre .1 .0, runs-part (timetable (now (s .args .t)) (s .args .c)) (now (s .args .runs)) (now (s .args .area)) (c .before .before .loop .i) (s .args .c .trips) _ (s .pre .1 .1) (events-next (timetable (now (s .args .t)) (s .args .c)) (c .before .before .loop .i) _ _ (c .before .before .loop .inv .1) (c .trip .ensures .0)) (omega (arith, c .before .before .loop .inv .0, c .before .loop-test .taken)))
 
--- src/lib.rt:163:13
 returns : tie.Need-returns Inv-loop μ-loop
 returns c = let s = c .before .before .before .before .before .before .before .before .before in λ T Q e g h et. some-yes (tripSkips T Q) (c .before .before .before .before .loop .i) _ (c .before .before .before .before .loop .inv .2 T Q e g h et) (trip-at T Q (now (s .args .t)) (s .args .c) (now (s .args .runs)) (now (s .args .area)) (c .before .before .before .before .loop .i) _ _ _ _ e h (omega (arith, c .before .before .before .before .loop .inv .0, c .before .before .before .loop-test .taken)) (c .before .before .before .before .loop .inv .1) (c .before .before .trip .ensures .0) (c .before .events-skip .ensures T Q g et) (c .if1 .taken)) (c .before .before .before .loop-test .taken)
 
--- src/lib.rt:165:9
 add-e : tie.Need-add-e Inv-loop μ-loop
 add-e c = let s = c .before .before .before .before .before .before .before .before .before in let r = runs-part (timetable (now (s .args .t)) (s .args .c)) (now (s .args .runs)) (now (s .args .area)) (c .before .before .before .before .loop .i) (s .args .c .trips) _ (s .pre .1 .1) (events-next (timetable (now (s .args .t)) (s .args .c)) (c .before .before .before .before .loop .i) _ _ (c .before .before .before .before .loop .inv .1) (c .before .before .trip .ensures .0)) (omega (arith, c .before .before .before .before .loop .inv .0, c .before .before .before .loop-test .taken)) in omega (arith, r .few)
 
--- src/lib.rt:166:9
 add-i : tie.Need-add-i Inv-loop μ-loop
 add-i c = omega arith
 
--- src/lib.rt:160:5
 loop-less : tie.Need-loop-less Inv-loop μ-loop
 loop-less c = omega arith
 
--- src/lib.rt:160:5
 loop-again : tie.Need-loop-again Inv-loop μ-loop
 loop-again c = let s = c .before .before .before .before .before .before .before .before .before in (c .before .before .before .before .loop .inv .0, events-next (timetable (now (s .args .t)) (s .args .c)) (c .before .before .before .before .loop .i) _ _ (c .before .before .before .before .loop .inv .1) (c .before .before .trip .ensures .0), λ T Q e g h et. some-again (tripSkips T Q) (c .before .before .before .before .loop .i) _ (c .before .before .before .before .loop .inv .2 T Q e g h et) (trip-at T Q (now (s .args .t)) (s .args .c) (now (s .args .runs)) (now (s .args .area)) (c .before .before .before .before .loop .i) _ _ _ _ e h (omega (arith, c .before .before .before .before .loop .inv .0, c .before .before .before .loop-test .taken)) (c .before .before .before .before .loop .inv .1) (c .before .before .trip .ensures .0) (c .before .events-skip .ensures T Q g et) (c .if1 .left)) (c .before .before .before .loop-test .taken))
 
--- src/lib.rt:145:1
 returns-2 : tie.Need-returns-2 Inv-loop μ-loop
 returns-2 c = λ T Q e g h et. some-left (tripSkips T Q) (c .before .loop .i) _ (c .before .loop .inv .2 T Q e g h et) (c .loop-test .left)
 

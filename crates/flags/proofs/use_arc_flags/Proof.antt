@@ -7,19 +7,15 @@ use Rattle.flags.proofs.use_arc_flags.Lts as lts
 use Rattle.cell_bitset.proofs.CellBitSet.is_empty.Reads as is-empty-reads
 use Rattle.door.proofs.both.Reads as both-reads
 
--- src/lib.rt:69:28
 is-empty-requires : tie.Need-is-empty-requires
 is-empty-requires c κs = search needs
 
--- src/lib.rt:69:9
 both-requires : tie.Need-both-requires
 both-requires c κs = search needs
 
--- src/lib.rt:70:5
 both-requires-2 : tie.Need-both-requires-2
 both-requires-2 c κs = search needs
 
--- src/lib.rt:66:1
 returns : tie.Need-returns
 returns c = let s = c .before .before .before in λ T Q ec eo et. flags-is T Q (s .args .count) (s .args .target) (s .args .off) _ _ _ ec eo et (c .before .before .is-empty .ensures) (c .before .both .ensures) (c .both2 .ensures)
 

@@ -13,43 +13,33 @@ use Rattle.pruning.proofs.pruned.Reads as pruned-reads
 use Rattle.tables.proofs.time.Reads as time-reads
 use Rattle.tables.proofs.trip.Reads as trip-reads
 
--- src/lib.rt:83:9
 permitted-requires : tie.Need-permitted-requires
 permitted-requires c κs = search needs
 
--- src/lib.rt:84:9
 returns : tie.Need-returns
 returns c = let s = c .before .before .before .before .before .before .before in λ T Q b g q a k. bars-unpermitted T Q (hitOf (s .args .adj)) (s .args .trip) (s .args .off) b _ (c .before .permitted .ensures T Q (g .timetable) q) (c .if1 .taken)
 
--- src/lib.rt:86:8
 pruned-requires : tie.Need-pruned-requires
 pruned-requires c κs = let s = c .before .before .before .before .before .before .before in let d = s .pre .1 .1 .1 in (d .sized, (d .chains, (d .lines, omega (arith, d .trips, s .pre .1 .1 .0 .trip))))
 
--- src/lib.rt:87:9
 returns-2 : tie.Need-returns-2
 returns-2 c = let s = c .before .before .before .before .before .before .before .before .before in λ T Q b g q a k. bars-pruned T Q (hitOf (s .args .adj)) (s .args .trip) (s .args .off) b _ (c .before .before .before .permitted .ensures T Q (g .timetable) q) (c .before .before .if1 .left) _ (c .before .pruned .ensures T Q (s .args .c) b a k) (c .if2 .taken)
 
--- src/lib.rt:89:27
 trip-requires : tie.Need-trip-requires
 trip-requires c κs = search needs
 
--- src/lib.rt:89:27
 add-time : tie.Need-add-time
 add-time c = let s = c .before .before .before .before .before .before .before .before .before .before in let g = s .pre .0 .sane in let e = s .pre .1 .1 .0 in let k = g .runs .run (s .args .trip) (e .trip) in omega (arith, c .trip .ensures .0, k, e .offset, g .counts .times)
 
--- src/lib.rt:89:8
 time-requires : tie.Need-time-requires
 time-requires c κs = let s = c .before .before .before .before .before .before .before .before .before .before in let g = s .pre .0 .sane in let e = s .pre .1 .1 .0 in let k = g .runs .run (s .args .trip) (e .trip) in (g .counts, (g .slices, (omega (arith, c .trip .ensures .0, k, e .offset), omega arith)))
 
--- src/lib.rt:90:9
 returns-3 : tie.Need-returns-3
 returns-3 c = let s = c .before .before .before .before .before .before .before .before .before .before .before .before in λ T Q b g q a k. bars-pickup T Q (hitOf (s .args .adj)) (s .args .trip) (s .args .off) b _ (c .before .before .before .before .before .before .permitted .ensures T Q (g .timetable) q) (c .before .before .before .before .before .if1 .left) _ (c .before .before .before .before .pruned .ensures T Q (s .args .c) b a k) (c .before .before .before .if2 .left) (now (s .args .t)) (s .args .c) _ _ (g .timetable) (c .before .before .trip .ensures .0) (c .before .time .ensures .0) (c .if3 .taken)
 
--- src/lib.rt:92:5
 skipped-requires : tie.Need-skipped-requires
 skipped-requires c κs = search needs
 
--- src/lib.rt:66:1
 returns-4 : tie.Need-returns-4
 returns-4 c = let s = c .before .before .before .before .before .before .before .before .before .before .before .before .before in λ T Q b g q a k. bars-skipped T Q (hitOf (s .args .adj)) (s .args .trip) (s .args .off) b _ (c .before .before .before .before .before .before .before .permitted .ensures T Q (g .timetable) q) (c .before .before .before .before .before .before .if1 .left) _ (c .before .before .before .before .before .pruned .ensures T Q (s .args .c) b a k) (c .before .before .before .before .if2 .left) (now (s .args .t)) (s .args .c) _ _ (g .timetable) (c .before .before .before .trip .ensures .0) (c .before .before .time .ensures .0) (c .before .if3 .left) _ (c .skipped .ensures T Q g)
 

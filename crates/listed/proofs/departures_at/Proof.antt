@@ -15,23 +15,18 @@ use Rattle.asking.proofs.stop_runs.Reads as stop-runs-reads
 use Rattle.departures.proofs.departures_of.Reads as departures-of-reads
 use Rattle.departures.proofs.stop_run.Reads as stop-run-reads
 
--- src/lib.rt:34:34
 stop-runs-requires : tie.Need-stop-runs-requires
 stop-runs-requires c κs = search needs
 
--- src/lib.rt:34:9
 stop-run-requires : tie.Need-stop-run-requires
 stop-run-requires c κs = let s = c .before .before in omega (arith, s .pre .1 .1 .0 .size, s .pre .1 .1 .1, ap length (c .stop-runs .ensures))
 
--- src/lib.rt:35:31
 departure-rows-requires : tie.Need-departure-rows-requires
 departure-rows-requires c κs = search needs
 
--- src/lib.rt:35:5
 departures-of-requires : tie.Need-departures-of-requires
 departures-of-requires c κs = let s = c .before .before .before .before in run-fits (stopRuns (now (s .args .built)) (s .args .n)) (departureRows (now (s .args .built)) (s .args .n)) _ _ (s .args .x) _ (c .before .before .stop-runs .ensures) (c .before .stop-run .ensures .0) (c .departure-rows .ensures) _ (s .pre .1 .1 .0 .run (s .args .x) (s .pre .1 .1 .1)) (rows-size (now (s .args .built)) (s .args .n) (s .pre .1 .0))
 
--- src/lib.rt:30:1
 returns : tie.Need-returns
 returns c = let s = c .before .before .before .before .before in run-names (stopRuns (now (s .args .built)) (s .args .n)) (departureRows (now (s .args .built)) (s .args .n)) _ _ (s .args .x) _ (c .before .before .before .stop-runs .ensures) (c .before .before .stop-run .ensures .0) (c .before .departure-rows .ensures) _ (c .departures-of .ensures)
 

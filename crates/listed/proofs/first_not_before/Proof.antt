@@ -21,47 +21,36 @@ Inv-loop t c list m lo₀ hi₀ lo hi = Halved (λ i. leb m (rowDeparture (timet
 abbrev μ-loop : tie.MeasureT-loop
 μ-loop t c list m lo₀ hi₀ lo hi = hi - lo
 
--- src/lib.rt:45:5
 loop-holds : tie.Need-loop-holds Inv-loop μ-loop
 loop-holds c = halved-start _ _
 
--- src/lib.rt:46:25
 sub-mid : tie.Need-sub-mid Inv-loop μ-loop
 sub-mid c = omega arith
 
--- src/lib.rt:46:19
 add-mid : tie.Need-add-mid Inv-loop μ-loop
 add-mid c = omega arith
 
--- src/lib.rt:47:40
 departure-row-requires : tie.Need-departure-row-requires Inv-loop μ-loop
 departure-row-requires c κs = omega (arith, c .before .loop .inv .inside)
 
--- src/lib.rt:47:12
 row-departure-requires : tie.Need-row-departure-requires Inv-loop μ-loop
 row-departure-requires c κs = let s = c .before .before .before .before .before in let k = s .pre .known in (k .counts, (k .slices, (k .runs, rw (c .departure-row .ensures) (k .known _ (omega (arith, c .before .before .loop .inv .inside))))))
 
--- src/lib.rt:48:18
 add-lo : tie.Need-add-lo Inv-loop μ-loop
 add-lo c = omega arith
 
--- src/lib.rt:45:5
 loop-less : tie.Need-loop-less Inv-loop μ-loop
 loop-less c = omega arith
 
--- src/lib.rt:45:5
 loop-again : tie.Need-loop-again Inv-loop μ-loop
 loop-again c = let s = c .before .before .before .before .before .before .before in halved-up _ _ _ _ _ (keys-stay _ (s .args .m) _ (departures-rising _ _ _ _ (s .pre))) (c .before .before .before .before .loop .inv) (lt-leb _ _ (rw (c .before .row-departure .ensures, c .before .before .departure-row .ensures) at (c .if1 .taken))) (omega arith)
 
--- src/lib.rt:45:5
 loop-less-2 : tie.Need-loop-less-2 Inv-loop μ-loop
 loop-less-2 c = omega arith
 
--- src/lib.rt:45:5
 loop-again-2 : tie.Need-loop-again-2 Inv-loop μ-loop
 loop-again-2 c = let s = c .before .before .before .before .before .before .before in halved-down _ _ _ _ _ (keys-stay _ (s .args .m) _ (departures-rising _ _ _ _ (s .pre))) (c .before .before .before .before .loop .inv) (le-leb _ _ (rw (c .before .row-departure .ensures, c .before .before .departure-row .ensures) at (c .if1 .left))) (omega arith) (omega arith)
 
--- src/lib.rt:39:1
 returns : tie.Need-returns Inv-loop μ-loop
 returns c = halved-end _ _ _ _ (c .before .loop .inv) (omega arith)
 

@@ -7,19 +7,15 @@ use Rattle.listed.proofs.not_before.Lts as lts
 use Rattle.departures.proofs.departures_of.Reads as departures-of-reads
 use Rattle.listed.proofs.first_not_before.Reads as first-not-before-reads
 
--- src/lib.rt:61:9
 first-not-before-requires : tie.Need-first-not-before-requires
 first-not-before-requires c κs = search needs
 
--- src/lib.rt:62:43
 sub-departures-of : tie.Need-sub-departures-of
 sub-departures-of c = search needs
 
--- src/lib.rt:62:5
 departures-of-requires : tie.Need-departures-of-requires
 departures-of-requires c κs = search needs
 
--- src/lib.rt:57:1
 returns : tie.Need-returns
 returns c = let s = c .before .before .before .before in (handed-ordered _ _ _ _ (s .args .m) _ (s .pre) (c .before .first-not-before .ensures) _ (c .departures-of .ensures), handed-rows _ _ _ _ (s .args .m) _ (s .pre) (c .before .first-not-before .ensures) _ (c .departures-of .ensures))
 

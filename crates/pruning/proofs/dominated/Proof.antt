@@ -9,39 +9,30 @@ use Rattle.pruning.proofs.first_of.Reads as first-of-reads
 use Rattle.pruning.proofs.some_before.Reads as some-before-reads
 use Rattle.tables.proofs.field.Reads as field-reads
 
--- src/lib.rt:93:33
 mul-field : tie.Need-mul-field
 mul-field c = search needs
 
--- src/lib.rt:93:33
 add-field : tie.Need-add-field
 add-field c = search needs
 
--- src/lib.rt:93:33
 add-field-2 : tie.Need-add-field-2
 add-field-2 c = search needs
 
--- src/lib.rt:93:33
 add-field-3 : tie.Need-add-field-3
 add-field-3 c = search needs
 
--- src/lib.rt:93:9
 field-requires : tie.Need-field-requires
 field-requires c κs = search needs
 
--- src/lib.rt:94:17
 first-of-requires : tie.Need-first-of-requires
 first-of-requires c κs = search needs
 
--- src/lib.rt:94:17
 cast-first : tie.Need-cast-first
 cast-first c = search needs
 
--- src/lib.rt:95:5
 some-before-requires : tie.Need-some-before-requires
 some-before-requires c κs = let s = c .before .before .before .before .before in (s .pre .0, rw (c .first-of .ensures) (record { at = λ x z. s .pre .1 .0 .inside (s .args .line) x (s .pre .1 .1 .0) z }))
 
--- src/lib.rt:89:1
 returns : tie.Need-returns
 returns c = let s = c .before .before .before .before .before .before in λ T Q k built b ag bk el. dominated-is T Q (s .args .lay) k built (now (s .args .work)) (s .args .stamp) (s .args .line) (s .args .trip) (s .args .off) _ _ _ b ag bk el (s .pre .1 .1 .0) (s .pre .1 .1 .1) (c .before .before .field .ensures .0) (c .before .first-of .ensures) (c .some-before .ensures)
 

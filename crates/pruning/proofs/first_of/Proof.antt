@@ -6,55 +6,42 @@ use Rattle.pruning.proofs.first_of.Tie as tie
 use Rattle.pruning.proofs.first_of.Reads as reads
 use Rattle.pruning.proofs.first_of.Lts as lts
 
--- src/lib.rt:50:14
 mul-at : tie.Need-mul-at
 mul-at c = search needs
 
--- src/lib.rt:50:30
 mul-at-2 : tie.Need-mul-at-2
 mul-at-2 c = search needs
 
--- src/lib.rt:50:14
 add-at : tie.Need-add-at
 add-at c = search needs
 
--- src/lib.rt:50:14
 add-at-2 : tie.Need-add-at-2
 add-at-2 c = search needs
 
--- src/lib.rt:50:14
 add-at-3 : tie.Need-add-at-3
 add-at-3 c = search needs
 
--- src/lib.rt:50:14
 add-at-4 : tie.Need-add-at-4
 add-at-4 c = search needs
 
--- src/lib.rt:51:8
 mul-if1 : tie.Need-mul-if1
 mul-if1 c = search needs
 
--- src/lib.rt:51:8
 shared-slice-read-if1 : tie.Need-shared-slice-read-if1
 shared-slice-read-if1 c = search needs
 
--- src/lib.rt:52:9
 returns : tie.Need-returns
 returns c = let s = c .before .before .before .before .before .args in first-no (s .lay) (s .stamp) (now (s .work)) (s .line) (c .if1 .taken)
 
--- src/lib.rt:54:10
 add-result : tie.Need-add-result
 add-result c = search needs
 
--- src/lib.rt:54:5
 mul-result : tie.Need-mul-result
 mul-result c = search needs
 
--- src/lib.rt:54:5
 shared-slice-read-result : tie.Need-shared-slice-read-result
 shared-slice-read-result c = search needs
 
--- src/lib.rt:46:1
 returns-2 : tie.Need-returns-2
 returns-2 c = let s = c .before .before .before .before .before .before .before .args in first-yes (s .lay) (s .stamp) (now (s .work)) (s .line) (c .before .before .if1 .left)
 

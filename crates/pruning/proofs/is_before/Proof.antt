@@ -10,63 +10,48 @@ use Rattle.pruning.proofs.is_before.Lts as lts
 use Rattle.door.proofs.both.Reads as both-reads
 use Rattle.tables.proofs.field.Reads as field-reads
 
--- src/lib.rt:62:37
 mul-field : tie.Need-mul-field
 mul-field c = search needs
 
--- src/lib.rt:62:37
 add-field : tie.Need-add-field
 add-field c = search needs
 
--- src/lib.rt:62:37
 add-field-2 : tie.Need-add-field-2
 add-field-2 c = search needs
 
--- src/lib.rt:62:37
 add-field-3 : tie.Need-add-field-3
 add-field-3 c = search needs
 
--- src/lib.rt:62:9
 field-requires : tie.Need-field-requires
 field-requires c κs = search needs
 
--- src/lib.rt:63:37
 mul-field-2 : tie.Need-mul-field-2
 mul-field-2 c = search needs
 
--- src/lib.rt:63:53
 mul-field-3 : tie.Need-mul-field-3
 mul-field-3 c = search needs
 
--- src/lib.rt:63:37
 add-field-4 : tie.Need-add-field-4
 add-field-4 c = search needs
 
--- src/lib.rt:63:69
 mul-field-4 : tie.Need-mul-field-4
 mul-field-4 c = search needs
 
--- src/lib.rt:63:37
 add-field-5 : tie.Need-add-field-5
 add-field-5 c = search needs
 
--- src/lib.rt:63:37
 add-field-6 : tie.Need-add-field-6
 add-field-6 c = search needs
 
--- src/lib.rt:63:37
 add-field-7 : tie.Need-add-field-7
 add-field-7 c = search needs
 
--- src/lib.rt:63:9
 field-requires-2 : tie.Need-field-requires-2
 field-requires-2 c κs = search needs
 
--- src/lib.rt:64:5
 both-requires : tie.Need-both-requires
 both-requires c κs = search needs
 
--- src/lib.rt:58:1
 returns : tie.Need-returns
 returns c = let s = c .before .before .before .before .before .before .before .before .before .args in c .both .ensures ∙ ap₂ (λ (a b : ℕ). ltb a (s .p) && leb b (s .off)) (c .before .before .before .before .before .field .ensures .0) (c .before .field2 .ensures .0)
 

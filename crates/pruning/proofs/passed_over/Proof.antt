@@ -8,79 +8,60 @@ use Rattle.pruning.proofs.passed_over.Lts as lts
 use Rattle.door.proofs.both.Reads as both-reads
 use Rattle.door.proofs.either.Reads as either-reads
 
--- src/lib.rt:123:14
 mul-at : tie.Need-mul-at
 mul-at c = search needs
 
--- src/lib.rt:123:30
 mul-at-2 : tie.Need-mul-at-2
 mul-at-2 c = search needs
 
--- src/lib.rt:123:14
 add-at : tie.Need-add-at
 add-at c = search needs
 
--- src/lib.rt:123:14
 add-at-2 : tie.Need-add-at-2
 add-at-2 c = search needs
 
--- src/lib.rt:123:14
 add-at-3 : tie.Need-add-at-3
 add-at-3 c = search needs
 
--- src/lib.rt:123:14
 add-at-4 : tie.Need-add-at-4
 add-at-4 c = search needs
 
--- src/lib.rt:124:8
 mul-if1 : tie.Need-mul-if1
 mul-if1 c = search needs
 
--- src/lib.rt:124:8
 shared-slice-read-if1 : tie.Need-shared-slice-read-if1
 shared-slice-read-if1 c = search needs
 
--- src/lib.rt:125:9
 returns : tie.Need-returns
 returns c = let s = c .before .before .before .before .before .before in λ T Q b bk. passed-no T Q (s .args .lay) (s .args .stamp) (now (s .args .work)) b bk (s .args .trip) (s .args .off) (s .args .dep) (s .pre .1) (c .if1 .taken)
 
--- src/lib.rt:127:18
 add-o : tie.Need-add-o
 add-o c = search needs
 
--- src/lib.rt:127:13
 mul-o : tie.Need-mul-o
 mul-o c = search needs
 
--- src/lib.rt:127:13
 shared-slice-read-o : tie.Need-shared-slice-read-o
 shared-slice-read-o c = search needs
 
--- src/lib.rt:128:23
 mul-d : tie.Need-mul-d
 mul-d c = search needs
 
--- src/lib.rt:128:18
 add-d : tie.Need-add-d
 add-d c = search needs
 
--- src/lib.rt:128:13
 mul-d-2 : tie.Need-mul-d-2
 mul-d-2 c = search needs
 
--- src/lib.rt:128:13
 shared-slice-read-d : tie.Need-shared-slice-read-d
 shared-slice-read-d c = search needs
 
--- src/lib.rt:129:9
 both-requires : tie.Need-both-requires
 both-requires c κs = search needs
 
--- src/lib.rt:130:6
 either-requires : tie.Need-either-requires
 either-requires c κs = search needs
 
--- src/lib.rt:119:1
 returns-2 : tie.Need-returns-2
 returns-2 c = let s = c .before .before .before .before .before .before .before .before .before .before .before .before in λ T Q b bk. passed-yes T Q (s .args .lay) (s .args .stamp) (now (s .args .work)) b bk (s .args .trip) (s .args .off) (s .args .dep) (s .pre .1) _ _ (c .before .before .before .before .before .before .if1 .left) (c .before .both .ensures) (c .either .ensures)
 

@@ -12,47 +12,36 @@ use Rattle.pruning.proofs.undelayed.Reads as undelayed-reads
 use Rattle.door.proofs.both.Reads as both-reads
 use Rattle.tables.proofs.field.Reads as field-reads
 
--- src/lib.rt:37:9
 field-requires : tie.Need-field-requires
 field-requires c κs = search needs
 
--- src/lib.rt:39:9
 returns : tie.Need-returns
 returns c = let s = c .before .before .before .before .before in (λ e. absurd (never e), λ T Q k ag. prunable-past T Q (s .args .lay) k (now (s .args .built)) (now (s .args .work)) (hitOf (s .args .adj)) (s .args .trip) _ ag (s .pre .1 .1) (c .before .before .field .ensures .0) (c .if1 .taken))
 
--- src/lib.rt:41:14
 mul-at : tie.Need-mul-at
 mul-at c = search needs
 
--- src/lib.rt:41:30
 mul-at-2 : tie.Need-mul-at-2
 mul-at-2 c = search needs
 
--- src/lib.rt:41:14
 add-at : tie.Need-add-at
 add-at c = search needs
 
--- src/lib.rt:41:14
 add-at-2 : tie.Need-add-at-2
 add-at-2 c = search needs
 
--- src/lib.rt:41:14
 add-at-3 : tie.Need-add-at-3
 add-at-3 c = search needs
 
--- src/lib.rt:42:16
 undelayed-requires : tie.Need-undelayed-requires
 undelayed-requires c κs = search needs
 
--- src/lib.rt:42:32
 field-requires-2 : tie.Need-field-requires-2
 field-requires-2 c κs = search needs
 
--- src/lib.rt:42:5
 both-requires : tie.Need-both-requires
 both-requires c κs = search needs
 
--- src/lib.rt:33:1
 returns-2 : tie.Need-returns-2
 returns-2 c = let s = c .before .before .before .before .before .before .before .before .before .before in (λ e. omega (arith, c .before .before .before .before .before .before .before .field .ensures .0, c .before .before .before .before .before .if1 .left), λ T Q k ag. prunable-known T Q (s .args .lay) k (now (s .args .built)) (now (s .args .work)) (hitOf (s .args .adj)) (s .args .trip) (c .before .before .before .before .before .before .before .field .result) ag (s .pre .1 .1) (c .before .before .before .before .before .before .before .field .ensures .0) (c .before .before .before .before .before .if1 .left) _ _ _ (c .both .ensures) (c .before .before .undelayed .ensures) (c .before .field2 .ensures .0))
 

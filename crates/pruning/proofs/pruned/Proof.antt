@@ -14,23 +14,18 @@ use Rattle.pruning.proofs.dominated.Reads as dominated-reads
 use Rattle.pruning.proofs.prunable.Reads as prunable-reads
 use Rattle.tables.proofs.field.Reads as field-reads
 
--- src/lib.rt:111:9
 prunable-requires : tie.Need-prunable-requires
 prunable-requires c κs = search needs
 
--- src/lib.rt:112:9
 returns : tie.Need-returns
 returns c = let s = c .before .before .before .before in λ T Q k b ag bk. pruned-no T Q (hitOf (s .args .adj)) (s .args .trip) (s .args .off) b (sym (c .before .prunable .ensures .1 T Q k ag) ∙ not-true _ (c .if1 .taken))
 
--- src/lib.rt:114:9
 field-requires : tie.Need-field-requires
 field-requires c κs = search needs
 
--- src/lib.rt:115:5
 dominated-requires : tie.Need-dominated-requires
 dominated-requires c κs = let s = c .before .before .before .before .before in let u = c .before .before .prunable .ensures .0 (not-false _ (c .before .if1 .left)) in (s .pre .0, (s .pre .1 .0, (omega (arith, u, c .field .ensures .0), s .pre .1 .1 .1)))
 
--- src/lib.rt:99:1
 returns-2 : tie.Need-returns-2
 returns-2 c = let s = c .before .before .before .before .before .before in λ T Q k b ag bk. pruned-yes T Q (hitOf (s .args .adj)) (s .args .trip) (s .args .off) b _ (sym (c .before .before .before .prunable .ensures .1 T Q k ag) ∙ not-false _ (c .before .before .if1 .left)) (c .dominated .ensures T Q k (now (s .args .built)) b ag bk (line-is T (s .args .lay) k (now (s .args .built)) (now (s .args .work)) (s .args .trip) _ ag (s .pre .1 .1 .1) (c .before .field .ensures .0)))
 

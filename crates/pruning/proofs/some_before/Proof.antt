@@ -17,75 +17,57 @@ Inv-loop lay first p off work links h₀ k₀ h k = (k ≤ lay .trips) × Walkin
 abbrev μ-loop : tie.MeasureT-loop
 μ-loop lay first p off work links h₀ k₀ h k = lay .trips - k
 
--- src/lib.rt:72:17
 mul-links : tie.Need-mul-links Inv-loop μ-loop
 mul-links c = search needs
 
--- src/lib.rt:72:33
 mul-links-2 : tie.Need-mul-links-2 Inv-loop μ-loop
 mul-links-2 c = search needs
 
--- src/lib.rt:72:17
 add-links : tie.Need-add-links Inv-loop μ-loop
 add-links c = search needs
 
--- src/lib.rt:72:49
 mul-links-3 : tie.Need-mul-links-3 Inv-loop μ-loop
 mul-links-3 c = search needs
 
--- src/lib.rt:72:17
 add-links-2 : tie.Need-add-links-2 Inv-loop μ-loop
 add-links-2 c = search needs
 
--- src/lib.rt:72:17
 add-links-3 : tie.Need-add-links-3 Inv-loop μ-loop
 add-links-3 c = search needs
 
--- src/lib.rt:75:5
 loop-holds : tie.Need-loop-holds Inv-loop μ-loop
 loop-holds c = let s = c .before .before .before .before in (omega arith, walking-start (s .args .lay) (now (s .args .work)) (s .args .p) (s .args .off) (s .args .first) (s .pre .1))
 
--- src/lib.rt:77:13
 returns : tie.Need-returns Inv-loop μ-loop
 returns c = let s = c .before .before .before .before .before .before .before .before in let v = c .before .before .before .loop in walking-none (s .args .lay) (now (s .args .work)) (s .args .p) (s .args .off) (s .args .first) (v .k) (v .h) (v .inv .1) (c .if2 .taken)
 
--- src/lib.rt:79:24
 sub-is-before : tie.Need-sub-is-before Inv-loop μ-loop
 sub-is-before c = omega (arith, c .if2 .left)
 
--- src/lib.rt:79:12
 is-before-requires : tie.Need-is-before-requires Inv-loop μ-loop
 is-before-requires c κs = let s = c .before .before .before .before .before .before .before .before in let v = c .before .before .before .loop in (s .pre .0, walking-below (s .args .lay) (now (s .args .work)) (s .args .p) (s .args .off) (s .args .first) (v .k) (v .h) (v .inv .1) (c .before .if1 .taken) (c .if2 .left))
 
--- src/lib.rt:80:13
 returns-2 : tie.Need-returns-2 Inv-loop μ-loop
 returns-2 c = let s = c .before .before .before .before .before .before .before .before .before .before in let v = c .before .before .before .before .before .loop in walking-yes (s .args .lay) (now (s .args .work)) (s .args .p) (s .args .off) (s .args .first) (v .k) (v .h) (v .inv .1) (c .before .before .before .if1 .taken) (c .before .before .if2 .left) (sym (c .before .is-before .ensures) ∙ c .if3 .taken)
 
--- src/lib.rt:82:42
 sub-field : tie.Need-sub-field Inv-loop μ-loop
 sub-field c = omega (arith, c .before .before .if2 .left)
 
--- src/lib.rt:82:33
 add-field : tie.Need-add-field Inv-loop μ-loop
 add-field c = let s = c .before .before .before .before .before .before .before .before .before .before in let v = c .before .before .before .before .before .loop in let u = walking-below (s .args .lay) (now (s .args .work)) (s .args .p) (s .args .off) (s .args .first) (v .k) (v .h) (v .inv .1) (c .before .before .before .if1 .taken) (c .before .before .if2 .left) in omega (arith, u, s .pre .0 .sections .stops, s .pre .0 .sections .trips, s .pre .0 .sections .lines)
 
--- src/lib.rt:82:9
 field-requires : tie.Need-field-requires Inv-loop μ-loop
 field-requires c κs = let s = c .before .before .before .before .before .before .before .before .before .before in let v = c .before .before .before .before .before .loop in let u = walking-below (s .args .lay) (now (s .args .work)) (s .args .p) (s .args .off) (s .args .first) (v .k) (v .h) (v .inv .1) (c .before .before .before .if1 .taken) (c .before .before .if2 .left) in omega (arith, u, s .pre .0 .sections .words)
 
--- src/lib.rt:83:9
 add-k : tie.Need-add-k Inv-loop μ-loop
 add-k c = let s = c .before .before .before .before .before .before .before .before .before .before .before in omega (arith, s .pre .0 .sections .trips, c .before .before .before .before .if1 .taken)
 
--- src/lib.rt:75:5
 loop-less : tie.Need-loop-less Inv-loop μ-loop
 loop-less c = omega (arith, c .before .before .before .before .if1 .taken)
 
--- src/lib.rt:75:5
 loop-again : tie.Need-loop-again Inv-loop μ-loop
 loop-again c = let s = c .before .before .before .before .before .before .before .before .before .before .before in let v = c .before .before .before .before .before .before .loop in (omega (arith, c .before .before .before .before .if1 .taken), walking-next (s .args .lay) (now (s .args .work)) (s .args .p) (s .args .off) (s .args .first) (v .k) (v .h) (v .inv .1) (c .before .before .before .before .if1 .taken) (c .before .before .before .if2 .left) _ (sym (c .before .before .is-before .ensures) ∙ c .before .if3 .left) (c .field .ensures .0))
 
--- src/lib.rt:68:1
 returns-3 : tie.Need-returns-3 Inv-loop μ-loop
 returns-3 c = let s = c .before .before .before .before .before .before .before in let v = c .before .before .loop in walking-end (s .args .lay) (now (s .args .work)) (s .args .p) (s .args .off) (s .args .first) (v .k) (v .h) (v .inv .1) (c .if1 .left)
 

@@ -10,17 +10,14 @@ use Rattle.query_door.proofs.departure_at.Lts as lts
 use Rattle.asking.proofs.row_departure.Reads as row-departure-reads
 use Rattle.departures.proofs.departure_row.Reads as departure-row-reads
 
--- src/lib.rt:442:25
 departure-row-requires : tie.Need-departure-row-requires
 departure-row-requires c κs = search needs
 
--- src/lib.rt:442:5
 row-departure-requires : tie.Need-row-departure-requires
 row-departure-requires c κs =
     let K = c .before .before .before .pre .0 in
     (K .counts, (K .slices, (K .runs, rw (c .departure-row .ensures) (K .known (c .before .before .before .args .k) (c .before .before .before .pre .1)))))
 
--- src/lib.rt:438:1
 returns : tie.Need-returns
 returns c =
     let a = c .before .before .before .before .args in

@@ -35,43 +35,34 @@ returns : tie.Need-returns Inv-loop μ-loop
 unfolding partOrder
 returns c = every-left _ 1 _ refl (omega arith)
 
--- src/lib.rt:459:9
 departure-at-requires : tie.Need-departure-at-requires Inv-loop μ-loop
 departure-at-requires c κs = (c .before .before .before .pre, omega arith)
 
--- src/lib.rt:461:5
 loop-holds : tie.Need-loop-holds Inv-loop μ-loop
 unfolding partOrder
 loop-holds c = (omega arith, c .departure-at .ensures, refl)
 
--- src/lib.rt:462:13
 departure-at-requires-2 : tie.Need-departure-at-requires-2 Inv-loop μ-loop
 departure-at-requires-2 c κs = (c .before .before .before .before .before .before .pre, omega arith)
 
--- src/lib.rt:463:13
 in-order-requires : tie.Need-in-order-requires Inv-loop μ-loop
 in-order-requires c κs = search needs
 
--- src/lib.rt:464:13
 returns-2 : tie.Need-returns-2 Inv-loop μ-loop
 returns-2 c = every-no _ _ _ (c .before .before .before .before .loop .inv .2) (tested _ _ _ (c .before .before .before .before .loop .inv .1) (c .before .before .departure-at2 .ensures) (sym (c .before .in-order .ensures) ∙ not-true _ (c .if2 .taken))) (omega arith)
 
--- src/lib.rt:467:9
 add-k : tie.Need-add-k Inv-loop μ-loop
 add-k c = omega arith
 
--- src/lib.rt:461:5
 loop-less : tie.Need-loop-less Inv-loop μ-loop
 loop-less c = omega arith
 
--- src/lib.rt:461:5
 loop-again : tie.Need-loop-again Inv-loop μ-loop
 loop-again c =
     let k = c .before .before .before .before .loop .k in
     let e : k + 1 - 1 ≡ k = omega arith in
     (omega arith, rw e (c .before .before .departure-at2 .ensures), every-again _ _ _ (c .before .before .before .before .loop .inv .2) (tested _ _ _ (c .before .before .before .before .loop .inv .1) (c .before .before .departure-at2 .ensures) (sym (c .before .in-order .ensures) ∙ not-false _ (c .if2 .left))) (omega arith))
 
--- src/lib.rt:452:1
 returns-3 : tie.Need-returns-3 Inv-loop μ-loop
 returns-3 c = every-left _ _ _ (c .before .loop .inv .2) (omega arith)
 

@@ -14,51 +14,39 @@ use Rattle.totals.proofs.best_target.Reads as best-target-reads
 use Rattle.totals.proofs.candidates.Reads as candidates-reads
 use Rattle.walk.proofs.tbr_max_rounds.Reads as tbr-max-rounds-reads
 
--- src/lib.rt:140:9
 egress-rows-requires : tie.Need-egress-rows-requires
 egress-rows-requires c κs = search needs
 
--- src/lib.rt:141:9
 best-target-requires : tie.Need-best-target-requires
 best-target-requires c κs = (c .before .before .before .before .before .before .pre .0 .earliest, egress-in (c .before .before .before .before .before .before .pre .0) (c .egress-rows .ensures))
 
--- src/lib.rt:143:9
 zero-words-requires : tie.Need-zero-words-requires
 zero-words-requires c κs = search needs
 
--- src/lib.rt:144:9
 same-length : tie.Need-same-length
 same-length c = search needs
 
--- src/lib.rt:144:9
 returns : tie.Need-returns
 returns c = λ T Q a g. no-way T Q a g (targetOf (c .before .before .before .before .before .before .best-target .result)) _ (now (c .before .before .before .before .before .before .before .before .before .before .before .before .before .args .candidates)) _ (c .before .before .before .before .before .before .before .egress-rows .ensures) (c .before .before .before .before .before .before .best-target .ensures T Q a (g .reached)) (c .before .before .before .before .if1 .taken) (c .before .before .before .before .before .before .before .before .before .before .before .before .before .pre .1) (c .before .before .zero-words .ensures)
 
--- src/lib.rt:151:39
 shared-slice-read-tbr-max-rounds : tie.Need-shared-slice-read-tbr-max-rounds
 shared-slice-read-tbr-max-rounds c = search needs
 
--- src/lib.rt:151:45
 shared-slice-read-tbr-max-rounds-2 : tie.Need-shared-slice-read-tbr-max-rounds-2
 shared-slice-read-tbr-max-rounds-2 c = search needs
 
--- src/lib.rt:151:9
 tbr-max-rounds-requires : tie.Need-tbr-max-rounds-requires
 tbr-max-rounds-requires c κs = search needs
 
--- src/lib.rt:152:9
 candidates-requires : tie.Need-candidates-requires
 candidates-requires c κs = (c .before .before .before .before .before .before .before .before .before .before .before .before .before .pre .0 .labels-ok, (egress-in (c .before .before .before .before .before .before .before .before .before .before .before .before .before .pre .0) (c .before .before .before .before .before .before .before .egress-rows .ensures), (rounds-below _ _ _ (c .before .tbr-max-rounds .ensures), c .before .before .before .before .before .before .before .before .before .before .before .before .before .pre .1)))
 
--- src/lib.rt:166:21
 cast-t17 : tie.Need-cast-t17
 cast-t17 c = search needs
 
--- src/lib.rt:128:1
 same-length-2 : tie.Need-same-length-2
 same-length-2 c = search needs
 
--- src/lib.rt:128:1
 returns-2 : tie.Need-returns-2
 returns-2 c = λ T Q a g. some-way T Q a g (targetOf (c .before .before .before .before .before .before .before .before .before .best-target .result)) _ _ (c .before .before .before .before .tbr-max-rounds .result) (c .before .before .candidates2 .result) (c .before .before .before .before .before .before .before .before .before .before .egress-rows .ensures) (c .before .before .before .before .before .before .before .before .before .best-target .ensures T Q a (g .reached)) (c .before .before .before .before .before .before .before .if1 .left) (c .before .before .before .before .tbr-max-rounds .ensures ∙ sym (g .rounds)) (search needs) (c .before .before .candidates2 .ensures .1 .1) (c .before .before .candidates2 .ensures .0) (c .before .before .candidates2 .ensures .1 .0 T Q a (g .labelled) (g .egress ∙ sym (ap egressRows (c .before .before .before .before .before .before .before .before .before .before .egress-rows .ensures))) (g .slack))
 

@@ -8,15 +8,12 @@ use Rattle.resolving.proofs.line_at.Reads as reads
 use Rattle.resolving.proofs.line_at.Lts as lts
 use Rattle.tables.proofs.field.Reads as field-reads
 
--- src/lib.rt:363:9
 returns : tie.Need-returns
 returns c = let s = c .before .before .before in ((omega arith, λ l. absurd (omega arith)), λ T n work e h. line-past T (s .args .c) n (now (s .args .built)) work e h (s .args .trip) (c .if1 .taken))
 
--- src/lib.rt:365:5
 field-requires : tie.Need-field-requires
 field-requires c κs = search needs
 
--- src/lib.rt:358:1
 returns-2 : tie.Need-returns-2
 returns-2 c = let s = c .before .before .before .before in ((c .field .ensures .1, λ l. c .before .if1 .left), λ T n work e h. line-known T (s .args .c) n (now (s .args .built)) work e h (s .args .trip) _ (c .before .if1 .left) (c .field .ensures .0))
 

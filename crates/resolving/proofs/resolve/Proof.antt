@@ -12,23 +12,18 @@ use Rattle.resolving.proofs.line_at.Reads as line-at-reads
 use Rattle.resolving.proofs.resolve_alone.Reads as resolve-alone-reads
 use Rattle.resolving.proofs.resolve_line.Reads as resolve-line-reads
 
--- src/lib.rt:455:9
 line-at-requires : tie.Need-line-at-requires
 line-at-requires c κs = search needs
 
--- src/lib.rt:457:9
 resolve-alone-requires : tie.Need-resolve-alone-requires
 resolve-alone-requires c κs = search needs
 
--- src/lib.rt:457:9
 returns : tie.Need-returns
 returns c = let s = c .before .before .before .before .before .before .before .before .before in λ T Q e g q h m. resolve-outside T Q e (s .args .after) (s .args .best) (s .args .n) (c .before .before .before .line-at .result) (s .args .target) (s .args .off) _ (h .lines) (c .before .before .before .line-at .ensures .1 T (s .args .n) (now (s .args .work)) (ap (λ (X : Timetable). X .trips) (g .timetable)) h) (c .before .if1 .taken) m (c .resolve-alone .ensures T Q g q)
 
--- src/lib.rt:459:5
 resolve-line-requires : tie.Need-resolve-line-requires
 resolve-line-requires c κs = let s = c .before .before .before .before .before .before .before .before in (s .pre .0, (s .pre .1 .0, (s .pre .1 .1, (c .if1 .left, c .before .before .line-at .ensures .0 .1 (omega (arith, c .if1 .left, s .pre .1 .1 .few))))))
 
--- src/lib.rt:438:1
 returns-2 : tie.Need-returns-2
 returns-2 c = let s = c .before .before .before .before .before .before .before .before .before in λ T Q e g q h m. c .resolve-line .ensures T Q e g q h m (c .before .before .before .line-at .ensures .1 T (s .args .n) (now (s .args .work)) (ap (λ (X : Timetable). X .trips) (g .timetable)) h)
 

@@ -8,35 +8,27 @@ use Rattle.resolving.proofs.resolve_alone.Reads as reads
 use Rattle.resolving.proofs.resolve_alone.Lts as lts
 use Rattle.resolving.proofs.try_trip.Reads as try-trip-reads
 
--- src/lib.rt:396:9
 returns : tie.Need-returns
 returns c = let s = c .before .before .before .before .before in λ T Q g q. alone-none T Q (s .args .is-fifo) (s .args .off) (s .args .after) (s .args .best) (s .args .target) (s .args .w .«line_scan») (q .lineScan) (c .if1 .taken)
 
--- src/lib.rt:399:9
 try-trip-requires : tie.Need-try-trip-requires
 try-trip-requires c κs = search needs
 
--- src/lib.rt:402:13
 enum-told : tie.Need-enum-told
 enum-told c = search needs
 
--- src/lib.rt:402:13
 returns-2 : tie.Need-returns-2
 returns-2 c = let s = c .before .before .before .before .before .before .before .before in λ T Q g q. alone-tried T Q (s .args .is-fifo) (s .args .off) (s .args .after) (s .args .best) (s .args .target) (s .args .w .«line_scan») (q .lineScan) Next (c .before .before .before .if1 .left) (sym (c .enum-told .given .1) ∙ c .before .before .try-trip .ensures T Q g q)
 
--- src/lib.rt:405:13
 enum-told-2 : tie.Need-enum-told-2
 enum-told-2 c = search needs
 
--- src/lib.rt:405:13
 returns-3 : tie.Need-returns-3
 returns-3 c = let s = c .before .before .before .before .before .before .before .before in λ T Q g q. alone-tried T Q (s .args .is-fifo) (s .args .off) (s .args .after) (s .args .best) (s .args .target) (s .args .w .«line_scan») (q .lineScan) Stop (c .before .before .before .if1 .left) (sym (c .enum-told2 .given .1) ∙ c .before .before .try-trip .ensures T Q g q)
 
--- src/lib.rt:407:21
 enum-known-step : tie.Need-enum-known-step
 enum-known-step c = search needs
 
--- src/lib.rt:408:13
 returns-4 : tie.Need-returns-4
 returns-4 c = let s = c .before .before .before .before .before .before .before .before .before in λ T Q g q. alone-tried T Q (s .args .is-fifo) (s .args .off) (s .args .after) (s .args .best) (s .args .target) (s .args .w .«line_scan») (q .lineScan) (Take (c .before .step .given .0 .0)) (c .before .before .before .before .if1 .left) (sym (c .before .step .given .1) ∙ c .before .before .before .try-trip .ensures T Q g q)
 

@@ -22,59 +22,45 @@ Inv-loop t c rows stop-rows built w is-fifo from k off after best j₀ j =
 abbrev μ-loop : tie.MeasureT-loop
 μ-loop t c rows stop-rows built w is-fifo from k off after best j₀ j = k - j
 
--- src/lib.rt:331:5
 loop-holds : tie.Need-loop-holds Inv-loop μ-loop
 loop-holds c = let s = c .before .before .before .before in (omega arith, λ T Q trip p g q l. left-first T Q (s .args .is-fifo) (s .args .off) (s .args .after) (s .args .best) trip (s .args .k) p)
 
--- src/lib.rt:332:41
 add-field : tie.Need-add-field Inv-loop μ-loop
 add-field c = omega arith
 
--- src/lib.rt:332:13
 field-requires : tie.Need-field-requires Inv-loop μ-loop
 field-requires c κs = omega arith
 
--- src/lib.rt:333:13
 try-trip-requires : tie.Need-try-trip-requires Inv-loop μ-loop
 try-trip-requires c κs = let s = c .before .before .before .before .before .before .before in (s .pre .0, s .pre .1 .0)
 
--- src/lib.rt:347:17
 enum-told : tie.Need-enum-told Inv-loop μ-loop
 enum-told c = search needs
 
--- src/lib.rt:347:17
 add-j : tie.Need-add-j Inv-loop μ-loop
 add-j c = omega arith
 
--- src/lib.rt:331:5
 loop-less : tie.Need-loop-less Inv-loop μ-loop
 loop-less c = omega arith
 
--- src/lib.rt:331:5
 loop-again : tie.Need-loop-again Inv-loop μ-loop
 loop-again c = let s = c .before .before .before .before .before .before .before .before .before .before in (omega arith, λ T Q trip p g q l. c .before .before .before .before .before .loop .inv .1 T Q trip p g q l ∙ left-step T Q (s .args .is-fifo) (s .args .off) (s .args .after) (s .args .best) trip (s .args .k) p (c .before .before .before .before .before .loop .j) _ _ (c .before .before .before .before .loop-test .taken) (l .place (c .before .before .before .before .before .loop .j) (c .before .before .before .before .loop-test .taken) ∙ sym (c .before .before .before .field .ensures .0)) (sym (c .enum-told .given .1) ∙ c .before .before .try-trip .ensures T Q g q))
 
--- src/lib.rt:351:17
 enum-told-2 : tie.Need-enum-told-2 Inv-loop μ-loop
 enum-told-2 c = search needs
 
--- src/lib.rt:351:17
 returns : tie.Need-returns Inv-loop μ-loop
 returns c = let s = c .before .before .before .before .before .before .before .before .before .before in λ T Q trip p g q l. sym (c .before .before .before .before .before .loop .inv .1 T Q trip p g q l ∙ left-step T Q (s .args .is-fifo) (s .args .off) (s .args .after) (s .args .best) trip (s .args .k) p (c .before .before .before .before .before .loop .j) _ _ (c .before .before .before .before .loop-test .taken) (l .place (c .before .before .before .before .before .loop .j) (c .before .before .before .before .loop-test .taken) ∙ sym (c .before .before .before .field .ensures .0)) (sym (c .enum-told2 .given .1) ∙ c .before .before .try-trip .ensures T Q g q))
 
--- src/lib.rt:353:25
 enum-known-step : tie.Need-enum-known-step Inv-loop μ-loop
 enum-known-step c = search needs
 
--- src/lib.rt:354:39
 cast-t19 : tie.Need-cast-t19 Inv-loop μ-loop
 cast-t19 c = omega (arith, c .before .before .before .before .field .ensures .1)
 
--- src/lib.rt:354:17
 returns-2 : tie.Need-returns-2 Inv-loop μ-loop
 returns-2 c = let s = c .before .before .before .before .before .before .before .before .before .before .before in λ T Q trip p g q l. sym (c .before .before .before .before .before .before .loop .inv .1 T Q trip p g q l ∙ left-step T Q (s .args .is-fifo) (s .args .off) (s .args .after) (s .args .best) trip (s .args .k) p (c .before .before .before .before .before .before .loop .j) _ _ (c .before .before .before .before .before .loop-test .taken) (l .place (c .before .before .before .before .before .before .loop .j) (c .before .before .before .before .before .loop-test .taken) ∙ sym (c .before .before .before .before .field .ensures .0)) (sym (c .before .step .given .1) ∙ c .before .before .before .try-trip .ensures T Q g q))
 
--- src/lib.rt:313:1
 returns-3 : tie.Need-returns-3 Inv-loop μ-loop
 returns-3 c = let s = c .before .before .before .before .before .before in λ T Q trip p g q l. left-end T Q (s .args .is-fifo) (s .args .off) (s .args .after) (s .args .best) trip (s .args .k) p (c .before .loop .j) (c .loop-test .left) ∙ sym (c .before .loop .inv .1 T Q trip p g q l)
 

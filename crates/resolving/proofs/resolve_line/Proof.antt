@@ -21,87 +21,66 @@ use Rattle.resolving.proofs.smaller.Reads as smaller-reads
 use Rattle.resolving.proofs.stands.Reads as stands-reads
 use Rattle.tables.proofs.field.Reads as field-reads
 
--- src/lib.rt:426:39
 add-field : tie.Need-add-field
 add-field c = search needs
 
--- src/lib.rt:426:19
 field-requires : tie.Need-field-requires
 field-requires c κs = search needs
 
--- src/lib.rt:427:59
 mul-field : tie.Need-mul-field
 mul-field c = search needs
 
--- src/lib.rt:427:50
 add-field-2 : tie.Need-add-field-2
 add-field-2 c = search needs
 
--- src/lib.rt:427:29
 field-requires-2 : tie.Need-field-requires-2
 field-requires-2 c κs = search needs
 
--- src/lib.rt:427:17
 add-first : tie.Need-add-first
 add-first c = search needs
 
--- src/lib.rt:428:47
 mul-field-2 : tie.Need-mul-field-2
 mul-field-2 c = search needs
 
--- src/lib.rt:428:38
 add-field-3 : tie.Need-add-field-3
 add-field-3 c = search needs
 
--- src/lib.rt:428:38
 add-field-4 : tie.Need-add-field-4
 add-field-4 c = search needs
 
--- src/lib.rt:428:9
 field-requires-3 : tie.Need-field-requires-3
 field-requires-3 c κs = search needs
 
--- src/lib.rt:429:33
 add-field-5 : tie.Need-add-field-5
 add-field-5 c = let s = c .before .before .before .before .before .before .before .before .before .before .before .before .before in let h = s .pre .1 .1 .0 in let u = s .pre .1 .1 .1 .0 in let v = s .pre .1 .1 .1 .1 in omega (arith, h .near .2, h .positions)
 
--- src/lib.rt:429:9
 field-requires-4 : tie.Need-field-requires-4
 field-requires-4 c κs = let s = c .before .before .before .before .before .before .before .before .before .before .before .before .before in let h = s .pre .1 .1 .0 in let u = s .pre .1 .1 .1 .0 in let v = s .pre .1 .1 .1 .1 in omega (arith, h .positions)
 
--- src/lib.rt:430:9
 stands-requires : tie.Need-stands-requires
 stands-requires c κs = let s = c .before .before .before .before .before .before .before .before .before .before .before .before .before .before in let h = s .pre .1 .1 .0 in let u = s .pre .1 .1 .1 .0 in let v = s .pre .1 .1 .1 .1 in omega (arith, h .entries (s .args .line) u, c .before .before .before .before .before .field2 .ensures .0, c .before .before .field3 .ensures .0)
 
--- src/lib.rt:431:9
 resolve-alone-requires : tie.Need-resolve-alone-requires
 resolve-alone-requires c κs = let s = c .before .before .before .before .before .before .before .before .before .before .before .before .before .before .before .before in (s .pre .0, s .pre .1 .0)
 
--- src/lib.rt:431:9
 returns : tie.Need-returns
 returns c = let s = c .before .before .before .before .before .before .before .before .before .before .before .before .before .before .before .before .before in let h = s .pre .1 .1 .0 in let u = s .pre .1 .1 .1 .0 in let v = s .pre .1 .1 .1 .1 in let eb : c .before .before .stands .result ≡ (ltb (c .before .before .before .field4 .result) (runCount (s .args .n) (now (s .args .built)) (s .args .line)) && eqb (getD (now (s .args .built)) (s .args .n .entries + runFirst (s .args .n) (now (s .args .built)) (s .args .line) + c .before .before .before .field4 .result) 0) (s .args .target)) = c .before .before .stands .ensures ∙ ap₂ (λ (x y : ℕ). ltb (c .before .before .before .field4 .result) x && eqb (getD (now (s .args .built)) (s .args .n .entries + y + c .before .before .before .field4 .result) 0) (s .args .target)) (c .before .before .before .before .before .field3 .ensures .0) (c .before .before .before .before .before .before .before .before .field2 .ensures .0) in λ T Q e g q hl m el. resolve-absent T Q e (s .args .after) (s .args .best) (s .args .c) (s .args .n) (now (s .args .built)) (now (s .args .work)) (s .args .line) (s .args .target) (s .args .off) (c .before .before .before .field4 .result) (s .args .w .«line_scan») (eqb (c .before .before .before .before .before .before .before .before .before .before .field .result) 1) (c .before .before .stands .result) hl el u v (q .lineScan) (c .before .before .before .field4 .ensures .0) (ap (λ (x : ℕ). eqb x 1) (c .before .before .before .before .before .before .before .before .before .before .field .ensures .0)) eb m (not-true _ (c .before .if1 .taken)) _ (c .resolve-alone .ensures T Q g q)
 
--- src/lib.rt:433:21
 sub-smaller : tie.Need-sub-smaller
 sub-smaller c = let lo : c .before .before .field4 .result < c .before .before .before .before .field3 .result = stands-below (c .before .before .field4 .result) (c .before .before .before .before .field3 .result) _ _ (c .before .stands .ensures) (not-false _ (c .if1 .left)) in omega arith
 
--- src/lib.rt:433:32
 cast-smaller : tie.Need-cast-smaller
 cast-smaller c = search needs
 
--- src/lib.rt:433:9
 smaller-requires : tie.Need-smaller-requires
 smaller-requires c κs = search needs
 
--- src/lib.rt:434:58
 add-resolve-in : tie.Need-add-resolve-in
 add-resolve-in c = let s = c .before .before .before .before .before .before .before .before .before .before .before .before .before .before .before .before .before .before in let h = s .pre .1 .1 .0 in let u = s .pre .1 .1 .1 .0 in let v = s .pre .1 .1 .1 .1 in let lo : c .before .before .before .before .field4 .result < c .before .before .before .before .before .before .field3 .result = stands-below (c .before .before .before .before .field4 .result) (c .before .before .before .before .before .before .field3 .result) _ _ (c .before .before .before .stands .ensures) (not-false _ (c .before .before .if1 .left)) in omega (arith, h .entries (s .args .line) u, c .before .before .before .before .before .before .before .before .before .field2 .ensures .0, c .before .before .before .before .before .before .field3 .ensures .0)
 
--- src/lib.rt:434:5
 resolve-in-requires : tie.Need-resolve-in-requires
 resolve-in-requires c κs = let s = c .before .before .before .before .before .before .before .before .before .before .before .before .before .before .before .before .before .before in let h = s .pre .1 .1 .0 in let u = s .pre .1 .1 .1 .0 in let v = s .pre .1 .1 .1 .1 in let lo : c .before .before .before .before .field4 .result < c .before .before .before .before .before .before .field3 .result = stands-below (c .before .before .before .before .field4 .result) (c .before .before .before .before .before .before .field3 .result) _ _ (c .before .before .before .stands .ensures) (not-false _ (c .before .before .if1 .left)) in (s .pre .0, (s .pre .1 .0, omega (arith, h .entries (s .args .line) u, c .before .before .before .before .before .before .before .before .before .field2 .ensures .0, c .before .before .before .before .before .before .field3 .ensures .0, c .smaller .ensures, min-le-left (c .before .before .before .before .before .before .field3 .result - c .before .before .before .before .field4 .result) (s .args .w .«line_scan»))))
 
--- src/lib.rt:408:1
 returns-2 : tie.Need-returns-2
 returns-2 c = let s = c .before .before .before .before .before .before .before .before .before .before .before .before .before .before .before .before .before .before .before in let h = s .pre .1 .1 .0 in let u = s .pre .1 .1 .1 .0 in let v = s .pre .1 .1 .1 .1 in let eb : c .before .before .before .before .stands .result ≡ (ltb (c .before .before .before .before .before .field4 .result) (runCount (s .args .n) (now (s .args .built)) (s .args .line)) && eqb (getD (now (s .args .built)) (s .args .n .entries + runFirst (s .args .n) (now (s .args .built)) (s .args .line) + c .before .before .before .before .before .field4 .result) 0) (s .args .target)) = c .before .before .before .before .stands .ensures ∙ ap₂ (λ (x y : ℕ). ltb (c .before .before .before .before .before .field4 .result) x && eqb (getD (now (s .args .built)) (s .args .n .entries + y + c .before .before .before .before .before .field4 .result) 0) (s .args .target)) (c .before .before .before .before .before .before .before .field3 .ensures .0) (c .before .before .before .before .before .before .before .before .before .before .field2 .ensures .0) in let ek : c .before .smaller .result ≡ min (runCount (s .args .n) (now (s .args .built)) (s .args .line) - c .before .before .before .before .before .field4 .result) (s .args .w .«line_scan») = c .before .smaller .ensures ∙ ap (λ (x : ℕ). min (x - c .before .before .before .before .before .field4 .result) (s .args .w .«line_scan»)) (c .before .before .before .before .before .before .before .field3 .ensures .0) in λ T Q e g q hl m el. resolve-stands T Q e (s .args .after) (s .args .best) (s .args .c) (s .args .n) (now (s .args .built)) (now (s .args .work)) (s .args .line) (s .args .target) (s .args .off) (c .before .before .before .before .before .field4 .result) (s .args .w .«line_scan») (eqb (c .before .before .before .before .before .before .before .before .before .before .before .before .field .result) 1) (c .before .before .before .before .stands .result) hl el u v (q .lineScan) (c .before .before .before .before .before .field4 .ensures .0) (ap (λ (x : ℕ). eqb x 1) (c .before .before .before .before .before .before .before .before .before .before .before .before .field .ensures .0)) eb m (not-false _ (c .before .before .before .if1 .left)) _ (c .resolve-in .ensures T Q (T .line (s .args .line) .trip) (c .before .before .before .before .before .field4 .result) g q (stands-listed T Q e (s .args .after) (s .args .best) (s .args .c) (s .args .n) (now (s .args .built)) (now (s .args .work)) (s .args .line) (s .args .target) (s .args .off) (c .before .before .before .before .before .field4 .result) (s .args .w .«line_scan») (eqb (c .before .before .before .before .before .before .before .before .before .before .before .before .field .result) 1) (c .before .before .before .before .stands .result) hl el u v (q .lineScan) (c .before .before .before .before .before .field4 .ensures .0) (ap (λ (x : ℕ). eqb x 1) (c .before .before .before .before .before .before .before .before .before .before .before .before .field .ensures .0)) eb _ _ ek (ap (λ (x : ℕ). s .args .n .entries + x + c .before .before .before .before .before .field4 .result) (c .before .before .before .before .before .before .before .before .before .before .field2 .ensures .0))) ∙ ap (λ (k : ℕ). resolveIn T Q (eqb (c .before .before .before .before .before .before .before .before .before .before .before .before .field .result) 1) (s .args .off) (s .args .after) (s .args .best) (T .line (s .args .line) .trip) k (c .before .before .before .before .before .field4 .result)) ek)
 

@@ -12,19 +12,15 @@ use Rattle.resolving.proofs.stands.Reads as reads
 use Rattle.resolving.proofs.stands.Lts as lts
 use Rattle.tables.proofs.field.Reads as field-reads
 
--- src/lib.rt:374:9
 returns : tie.Need-returns
 returns c = let s = c .before .before in sym (ap (λ (b : Bool). b && eqb (getD (now (s .args .built)) (s .args .first + s .args .p) 0) (s .args .target)) (le-ltb (s .args .p) (s .args .count) (c .if1 .taken)))
 
--- src/lib.rt:376:26
 add-field : tie.Need-add-field
 add-field c = search needs
 
--- src/lib.rt:376:5
 field-requires : tie.Need-field-requires
 field-requires c κs = search needs
 
--- src/lib.rt:369:1
 returns-2 : tie.Need-returns-2
 returns-2 c = let s = c .before .before .before in ap (λ (x : ℕ). eqb x (s .args .target)) (c .field .ensures .0) ∙ sym (ap (λ (b : Bool). b && eqb (getD (now (s .args .built)) (s .args .first + s .args .p) 0) (s .args .target)) (lt-ltb (s .args .p) (s .args .count) (c .before .if1 .left)))
 

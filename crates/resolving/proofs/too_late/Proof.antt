@@ -9,35 +9,27 @@ use Rattle.boarding.proofs.event_word.Reads as event-word-reads
 use Rattle.door.proofs.both.Reads as both-reads
 use Rattle.tables.proofs.trip.Reads as trip-reads
 
--- src/lib.rt:234:15
 event-word-requires : tie.Need-event-word-requires
 event-word-requires c κs = search needs
 
--- src/lib.rt:234:15
 cast-dep : tie.Need-cast-dep
 cast-dep c = search needs
 
--- src/lib.rt:235:30
 cast-late : tie.Need-cast-late
 cast-late c = search needs
 
--- src/lib.rt:235:16
 add-late : tie.Need-add-late
 add-late c = search needs
 
--- src/lib.rt:237:9
 both-requires : tie.Need-both-requires
 both-requires c κs = search needs
 
--- src/lib.rt:238:9
 trip-requires : tie.Need-trip-requires
 trip-requires c κs = search needs
 
--- src/lib.rt:236:5
 both-requires-2 : tie.Need-both-requires-2
 both-requires-2 c κs = search needs
 
--- src/lib.rt:230:1
 returns : tie.Need-returns
 returns c = let s = c .before .before .before .before .before .before in λ T Q e q. late-is T Q (now (s .args .t)) (s .args .c) (s .args .w) (s .args .is-fifo) (s .args .trip) (s .args .off) (s .args .best) _ _ _ _ e q (c .before .before .before .before .event-word .ensures) (c .before .trip .ensures .0) (c .before .before .both .ensures) (c .both2 .ensures)
 

@@ -5,27 +5,21 @@ use Rattle.resolving.proofs.weigh.Tie as tie
 use Rattle.resolving.proofs.weigh.Reads as reads
 use Rattle.resolving.proofs.weigh.Lts as lts
 
--- src/lib.rt:267:26
 enum-known-b : tie.Need-enum-known-b
 enum-known-b c = search needs
 
--- src/lib.rt:268:9
 enum-told : tie.Need-enum-told
 enum-told c = search needs
 
--- src/lib.rt:268:9
 returns : tie.Need-returns
 returns c = search needs
 
--- src/lib.rt:271:9
 returns-2 : tie.Need-returns-2
 returns-2 c = weigh-take _ _ _ _ (c .before .before .before .b .given .1) (c .if1 .taken)
 
--- src/lib.rt:274:9
 returns-3 : tie.Need-returns-3
 returns-3 c = weigh-stop _ _ _ _ (c .before .before .before .before .b .given .1) (c .before .if1 .left) (c .if2 .taken)
 
--- src/lib.rt:264:1
 returns-4 : tie.Need-returns-4
 returns-4 c = weigh-next _ _ _ _ (c .before .before .before .before .b .given .1) (c .before .if1 .left) (c .if2 .left)
 

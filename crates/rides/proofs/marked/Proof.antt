@@ -8,43 +8,33 @@ use Rattle.rides.proofs.marked.Reads as reads
 use Rattle.rides.proofs.marked.Lts as lts
 use Rattle.tables.proofs.field.Reads as field-reads
 
--- src/lib.rt:216:24
 mul-at : tie.Need-mul-at
 mul-at c = search needs
 
--- src/lib.rt:216:14
 add-at : tie.Need-add-at
 add-at c = search needs
 
--- src/lib.rt:216:14
 add-at-2 : tie.Need-add-at-2
 add-at-2 c = search needs
 
--- src/lib.rt:216:50
 mul-at-2 : tie.Need-mul-at-2
 mul-at-2 c = search needs
 
--- src/lib.rt:216:14
 add-at-3 : tie.Need-add-at-3
 add-at-3 c = search needs
 
--- src/lib.rt:216:64
 mul-at-3 : tie.Need-mul-at-3
 mul-at-3 c = search needs
 
--- src/lib.rt:216:14
 add-at-4 : tie.Need-add-at-4
 add-at-4 c = search needs
 
--- src/lib.rt:216:14
 add-at-5 : tie.Need-add-at-5
 add-at-5 c = search needs
 
--- src/lib.rt:217:5
 field-requires : tie.Need-field-requires
 field-requires c κs = search needs
 
--- src/lib.rt:211:1
 returns : tie.Need-returns
 returns c = ap (λ (k : ℕ). eqb k 1) (c .field .ensures .0)
 

@@ -7,75 +7,57 @@ use Rattle.rides.proofs.ride_phase.Lts as lts
 use Rattle.segments.proofs.ride_segments.Reads as ride-segments-reads
 use Rattle.rides.proofs.scan_stops.Reads as scan-stops-reads
 
--- src/lib.rt:528:9
 scan-stops-requires : tie.Need-scan-stops-requires
 scan-stops-requires c κs = let a = c .before .before .before .before .before .before .before .before .before .before .before .before .before .before .before .before in let x = a .args in let L = a .pre .0 in let O = a .pre .1 in (going-first L O _, (O .waiting, O .small))
 
--- src/lib.rt:528:9
 same-length : tie.Need-same-length
 same-length c = search needs
 
--- src/lib.rt:528:9
 same-length-2 : tie.Need-same-length-2
 same-length-2 c = search needs
 
--- src/lib.rt:528:9
 same-length-3 : tie.Need-same-length-3
 same-length-3 c = search needs
 
--- src/lib.rt:528:9
 same-length-4 : tie.Need-same-length-4
 same-length-4 c = search needs
 
--- src/lib.rt:528:9
 returns : tie.Need-returns
 returns c = let a = c .before .before .before .before .before .before .before .before .before .before .before .before .before .before .before .before .before .before .before .before .before .before .before .before .before in let x = a .args in let L = a .pre .0 in let O = a .pre .1 in phase-is-ride L O (x .flagged) (phase-plain L O (x .flagged) (c .before .before .before .before .before .before .before .before .before .before .before .before .before .if1 .taken) (c .before .before .before .before .before .before .before .before .scan-stops .ensures))
 
--- src/lib.rt:549:9
 ride-segments-requires : tie.Need-ride-segments-requires
 ride-segments-requires c κs = let a = c .before .before .before .before .before .before .before .before .before .before .before .before .before .before .before .before in let x = a .args in let L = a .pre .0 in let O = a .pre .1 in (going-first L O _, O .segments)
 
--- src/lib.rt:570:9
 same-length-5 : tie.Need-same-length-5
 same-length-5 c = search needs
 
--- src/lib.rt:570:9
 same-length-6 : tie.Need-same-length-6
 same-length-6 c = search needs
 
--- src/lib.rt:570:9
 same-length-7 : tie.Need-same-length-7
 same-length-7 c = search needs
 
--- src/lib.rt:570:9
 same-length-8 : tie.Need-same-length-8
 same-length-8 c = search needs
 
--- src/lib.rt:570:9
 returns-2 : tie.Need-returns-2
 returns-2 c = let a = c .before .before .before .before .before .before .before .before .before .before .before .before .before .before .before .before .before .before .before .before .before .before .before .before .before .before in let x = a .args in let L = a .pre .0 in let O = a .pre .1 in phase-is-ride L O (x .flagged) (phase-over L O (x .flagged) (c .before .before .before .before .before .before .before .before .before .before .before .before .before .before .if1 .left) (c .before .before .before .before .before .before .before .before .before .ride-segments .ensures) (c .if2 .taken))
 
--- src/lib.rt:572:5
 scan-stops-requires-2 : tie.Need-scan-stops-requires-2
 scan-stops-requires-2 c κs = let a = c .before .before .before .before .before .before .before .before .before .before .before .before .before .before .before .before .before .before .before .before .before .before .before .before .before .before .before .before .before .before in let x = a .args in let L = a .pre .0 in let O = a .pre .1 in (going-then L O (x .flagged) (c .before .before .before .before .before .before .before .before .before .before .before .before .before .before .before .before .before .before .if1 .left) (c .before .before .before .before .before .before .before .before .before .before .before .before .before .ride-segments .ensures) (c .before .before .before .before .if2 .left), (waiting-then L O (x .flagged) (c .before .before .before .before .before .before .before .before .before .before .before .before .before .before .before .before .before .before .if1 .left) (c .before .before .before .before .before .before .before .before .before .before .before .before .before .ride-segments .ensures) (c .before .before .before .before .if2 .left), O .small))
 
--- src/lib.rt:496:1
 same-length-9 : tie.Need-same-length-9
 same-length-9 c = search needs
 
--- src/lib.rt:496:1
 same-length-10 : tie.Need-same-length-10
 same-length-10 c = search needs
 
--- src/lib.rt:496:1
 same-length-11 : tie.Need-same-length-11
 same-length-11 c = search needs
 
--- src/lib.rt:496:1
 same-length-12 : tie.Need-same-length-12
 same-length-12 c = search needs
 
--- src/lib.rt:496:1
 returns-3 : tie.Need-returns-3
 returns-3 c = let a = c .before .before .before .before .before .before .before .before .before .before .before .before .before .before .before .before .before .before .before .before .before .before .before .before .before .before .before .before .before .before .before .before .before .before .before .before .before .before .before in let x = a .args in let L = a .pre .0 in let O = a .pre .1 in phase-is-ride L O (x .flagged) (phase-then L O (x .flagged) (c .before .before .before .before .before .before .before .before .before .before .before .before .before .before .before .before .before .before .before .before .before .before .before .before .before .before .before .if1 .left) (c .before .before .before .before .before .before .before .before .before .before .before .before .before .before .before .before .before .before .before .before .before .before .ride-segments .ensures) (c .before .before .before .before .before .before .before .before .before .before .before .before .before .if2 .left) (c .before .before .before .before .before .before .before .before .scan-stops2 .ensures))
 

@@ -4,11 +4,9 @@ use Rattle.round.proofs.change_before.Tie as tie
 use Rattle.round.proofs.change_before.Reads as reads
 use Rattle.round.proofs.change_before.Lts as lts
 
--- src/lib.rt:21:1
 returns : tie.Need-returns
 returns c = let x = c .before .args in λ Q e. change-first Q (x .r) (c .if1 .taken)
 
--- src/lib.rt:21:1
 returns-2 : tie.Need-returns-2
 returns-2 c = let x = c .before .args in λ Q e. change-later Q (x .r) (x .change) (c .if1 .left) e
 

@@ -6,15 +6,12 @@ use Rattle.rounds.proofs.ends.Reads as reads
 use Rattle.rounds.proofs.ends.Lts as lts
 use Rattle.rounds.proofs.idle.Reads as idle-reads
 
--- src/lib.rt:155:9
 returns : tie.Need-returns
 returns c = search needs
 
--- src/lib.rt:157:5
 idle-requires : tie.Need-idle-requires
 idle-requires c κs = search needs
 
--- src/lib.rt:151:1
 returns-2 : tie.Need-returns-2
 returns-2 c = let x = c .before .before .args in or-rest (x .h .full) _ _ (c .before .if1 .left) (c .idle .ensures)
 

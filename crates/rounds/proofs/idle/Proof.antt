@@ -4,15 +4,12 @@ use Rattle.rounds.proofs.idle.Tie as tie
 use Rattle.rounds.proofs.idle.Reads as reads
 use Rattle.rounds.proofs.idle.Lts as lts
 
--- src/lib.rt:142:9
 returns : tie.Need-returns
 returns c = let x = c .before .before .args in idle-not (x .flagged) (x .h .count) (x .h .queued) (c .if1 .taken)
 
--- src/lib.rt:145:9
 returns-2 : tie.Need-returns-2
 returns-2 c = let x = c .before .before .before .args in idle-plain (x .flagged) (x .h .count) (x .h .queued) (c .before .if1 .left) (c .if2 .taken)
 
--- src/lib.rt:138:1
 returns-3 : tie.Need-returns-3
 returns-3 c = let x = c .before .before .before .before .args in idle-flagged (x .flagged) (x .h .count) (x .h .queued) (c .before .before .if1 .left) (c .before .if2 .left)
 

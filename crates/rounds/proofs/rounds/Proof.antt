@@ -28,99 +28,75 @@ abbrev μ-loop : tie.MeasureT-loop
 μ-loop n t built transfers patterns distances q net flagged lay work₀ labels₀ metres₀ queue-a₀ queue-b₀ rows stop-rows change limit g₀ even₀ r₀ work labels metres queue-a queue-b g even r =
     limit - r
 
--- src/lib.rt:182:9
 delay-rows-requires : tie.Need-delay-rows-requires Inv-loop μ-loop
 delay-rows-requires c κs = let S = c .before .before .before .before .before .before .before .before .before .before .before .pre in (S .admitted .limits, omega (arith, S .admitted .sized .queryIs))
 
--- src/lib.rt:183:9
 stop-rows-requires : tie.Need-stop-rows-requires Inv-loop μ-loop
 stop-rows-requires c κs = let S = c .before .before .before .before .before .before .before .before .before .before .before .before .pre in (S .admitted .limits, omega (arith, S .admitted .sized .queryIs))
 
--- src/lib.rt:184:18
 shared-slice-read-change : tie.Need-shared-slice-read-change Inv-loop μ-loop
 shared-slice-read-change c = let S = c .before .before .before .before .before .before .before .before .before .before .before .before .before .before .pre in omega (arith, S .admitted .sized .queryIs)
 
--- src/lib.rt:185:38
 shared-slice-read-tbr-max-rounds : tie.Need-shared-slice-read-tbr-max-rounds Inv-loop μ-loop
 shared-slice-read-tbr-max-rounds c = let S = c .before .before .before .before .before .before .before .before .before .before .before .before .before .before .before .pre in omega (arith, S .admitted .sized .queryIs)
 
--- src/lib.rt:185:44
 shared-slice-read-tbr-max-rounds-2 : tie.Need-shared-slice-read-tbr-max-rounds-2 Inv-loop μ-loop
 shared-slice-read-tbr-max-rounds-2 c = let S = c .before .before .before .before .before .before .before .before .before .before .before .before .before .before .before .before .pre in omega (arith, S .admitted .sized .queryIs)
 
--- src/lib.rt:185:9
 tbr-max-rounds-requires : tie.Need-tbr-max-rounds-requires Inv-loop μ-loop
 tbr-max-rounds-requires c κs = search needs
 
--- src/lib.rt:189:5
 loop-holds : tie.Need-loop-holds Inv-loop μ-loop
 loop-holds c = let S = c .before .before .before .before .before .before .before .before .before .before .before .before .before .before .before .before .before .pre in loop-start S (c .before .before .before .before .before .before .before .before .before .before .before .before .before .before .before .before .before .args .flagged) _ _ _ _ _ (c .before .before .before .before .before .delay-rows .ensures) (c .before .before .before .before .stop-rows .ensures) (c .tbr-max-rounds .ensures) refl refl
 
--- src/lib.rt:190:12
 ends-requires : tie.Need-ends-requires Inv-loop μ-loop
 ends-requires c κs = search needs
 
--- src/lib.rt:191:13
 same-length : tie.Need-same-length Inv-loop μ-loop
 same-length c = let S = c .before .before .before .before .before .before .before .before .before .before .before .before .before .before .before .before .before .before .before .before .before .pre in let p = c .before .before .before .loop .inv in p .between .sized .sections .words ∙ sym (S .begun .sized .sections .words)
 
--- src/lib.rt:191:13
 same-length-2 : tie.Need-same-length-2 Inv-loop μ-loop
 same-length-2 c = let S = c .before .before .before .before .before .before .before .before .before .before .before .before .before .before .before .before .before .before .before .before .before .pre in let p = c .before .before .before .loop .inv in p .between .sized .rows ∙ sym (S .begun .sized .rows)
 
--- src/lib.rt:191:13
 same-length-3 : tie.Need-same-length-3 Inv-loop μ-loop
 same-length-3 c = let S = c .before .before .before .before .before .before .before .before .before .before .before .before .before .before .before .before .before .before .before .before .before .pre in let p = c .before .before .before .loop .inv in p .between .sized .metres ∙ sym (S .begun .sized .metres)
 
--- src/lib.rt:191:13
 same-length-4 : tie.Need-same-length-4 Inv-loop μ-loop
 same-length-4 c = let S = c .before .before .before .before .before .before .before .before .before .before .before .before .before .before .before .before .before .before .before .before .before .pre in let p = c .before .before .before .loop .inv in p .first
 
--- src/lib.rt:191:13
 same-length-5 : tie.Need-same-length-5 Inv-loop μ-loop
 same-length-5 c = let S = c .before .before .before .before .before .before .before .before .before .before .before .before .before .before .before .before .before .before .before .before .before .pre in let p = c .before .before .before .loop .inv in p .second ∙ S .halves
 
--- src/lib.rt:191:13
 returns : tie.Need-returns Inv-loop μ-loop
 returns c = let S = c .before .before .before .before .before .before .before .before .before .before .before .before .before .before .before .before .before .before .before .before .before .pre in let p = c .before .before .before .loop .inv in ended-early (let x = c .before .before .before .before .before .before .before .before .before .before .before .before .before .before .before .before .before .before .before .before .before .args in lent (x .n) (now (x .t)) (now (x .built)) (now (x .transfers)) (now (x .patterns)) (now (x .distances)) (now (x .q))) _ _ (fed-of S) p (sym (c .before .ends .ensures) ∙ c .if1 .taken)
 
--- src/lib.rt:193:9
 turn-requires : tie.Need-turn-requires Inv-loop μ-loop
 turn-requires c κs = let S = c .before .before .before .before .before .before .before .before .before .before .before .before .before .before .before .before .before .before .before .before .before .before .before .before .before .before .pre in let p = c .before .before .before .before .before .before .before .before .loop .inv in let l = c .before .before .before .before .before .before .before .before .before .tbr-max-rounds .ensures in let m = rounds-most (getD (now (c .before .before .before .before .before .before .before .before .before .before .before .before .before .before .before .before .before .before .before .before .before .before .before .before .before .before .args .q)) 2 0) (getD (now (c .before .before .before .before .before .before .before .before .before .before .before .before .before .before .before .before .before .before .before .before .before .before .before .before .before .before .args .q)) 3 0) in loop-open _ _ (fed-of S) p (sym (c .before .before .before .before .before .before .ends .ensures) ∙ c .before .before .before .before .before .if1 .left) (c .before .before .before .before .before .before .before .loop-test .taken) (omega (arith, l, m))
 
--- src/lib.rt:197:9
 add-r : tie.Need-add-r Inv-loop μ-loop
 add-r c = let l = c .before .before .before .before .before .before .before .before .before .before .before .before .before .before .before .before .before .before .before .before .tbr-max-rounds .ensures in let m = rounds-most (getD (now (c .before .before .before .before .before .before .before .before .before .before .before .before .before .before .before .before .before .before .before .before .before .before .before .before .before .before .before .before .before .before .before .before .before .before .before .before .before .args .q)) 2 0) (getD (now (c .before .before .before .before .before .before .before .before .before .before .before .before .before .before .before .before .before .before .before .before .before .before .before .before .before .before .before .before .before .before .before .before .before .before .before .before .before .args .q)) 3 0) in omega (arith, l, m, c .before .before .before .before .before .before .before .before .before .before .before .before .before .before .before .before .before .before .loop-test .taken)
 
--- src/lib.rt:189:5
 loop-less : tie.Need-loop-less Inv-loop μ-loop
 loop-less c = omega arith
 
--- src/lib.rt:189:5
 loop-again : tie.Need-loop-again Inv-loop μ-loop
 loop-again c = let S = c .before .before .before .before .before .before .before .before .before .before .before .before .before .before .before .before .before .before .before .before .before .before .before .before .before .before .before .before .before .before .before .before .before .before .before .before .before .pre in let p = c .before .before .before .before .before .before .before .before .before .before .before .before .before .before .before .before .before .before .before .loop .inv in loop-turn _ _ (fed-of S) p (sym (c .before .before .before .before .before .before .before .before .before .before .before .before .before .before .before .before .before .ends .ensures) ∙ c .before .before .before .before .before .before .before .before .before .before .before .before .before .before .before .before .if1 .left) _ _ (c .before .before .before .before .before .before .before .before .before .before .before .before .before .before .before .before .before .before .loop-test .taken) (c .before .before .before .queue-a .given) (c .before .queue-b .given) (c .before .before .before .before .before .before .before .before .before .before .turn .ensures)
 
--- src/lib.rt:161:1
 same-length-6 : tie.Need-same-length-6 Inv-loop μ-loop
 same-length-6 c = let S = c .before .before .before .before .before .before .before .before .before .before .before .before .before .before .before .before .before .before .before .pre in let p = c .before .loop .inv in p .between .sized .sections .words ∙ sym (S .begun .sized .sections .words)
 
--- src/lib.rt:161:1
 same-length-7 : tie.Need-same-length-7 Inv-loop μ-loop
 same-length-7 c = let S = c .before .before .before .before .before .before .before .before .before .before .before .before .before .before .before .before .before .before .before .pre in let p = c .before .loop .inv in p .between .sized .rows ∙ sym (S .begun .sized .rows)
 
--- src/lib.rt:161:1
 same-length-8 : tie.Need-same-length-8 Inv-loop μ-loop
 same-length-8 c = let S = c .before .before .before .before .before .before .before .before .before .before .before .before .before .before .before .before .before .before .before .pre in let p = c .before .loop .inv in p .between .sized .metres ∙ sym (S .begun .sized .metres)
 
--- src/lib.rt:161:1
 same-length-9 : tie.Need-same-length-9 Inv-loop μ-loop
 same-length-9 c = let S = c .before .before .before .before .before .before .before .before .before .before .before .before .before .before .before .before .before .before .before .pre in let p = c .before .loop .inv in p .first
 
--- src/lib.rt:161:1
 same-length-10 : tie.Need-same-length-10 Inv-loop μ-loop
 same-length-10 c = let S = c .before .before .before .before .before .before .before .before .before .before .before .before .before .before .before .before .before .before .before .pre in let p = c .before .loop .inv in p .second ∙ S .halves
 
--- src/lib.rt:161:1
 returns-2 : tie.Need-returns-2 Inv-loop μ-loop
 returns-2 c = let S = c .before .before .before .before .before .before .before .before .before .before .before .before .before .before .before .before .before .before .before .pre in let p = c .before .loop .inv in ended-last (let x = c .before .before .before .before .before .before .before .before .before .before .before .before .before .before .before .before .before .before .before .args in lent (x .n) (now (x .t)) (now (x .built)) (now (x .transfers)) (now (x .patterns)) (now (x .distances)) (now (x .q))) _ _ (fed-of S) p (c .loop-test .left)
 

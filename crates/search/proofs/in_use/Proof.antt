@@ -15,23 +15,18 @@ use Rattle.asking.proofs.transfer_runs.Reads as transfer-runs-reads
 use Rattle.flags.proofs.flags_in_use.Reads as flags-in-use-reads
 use Rattle.flags.proofs.use_arc_flags.Reads as use-arc-flags-reads
 
--- src/lib.rt:50:9
 use-arc-flags-requires : tie.Need-use-arc-flags-requires
 use-arc-flags-requires c κs = search needs
 
--- src/lib.rt:50:9
 returns : tie.Need-returns
 returns c = λ d q en eo. let x = (lent (c .before .before .before .before .before .before .args .n) (now (c .before .before .before .before .before .before .args .t)) (now (c .before .before .before .before .before .before .args .built)) (now (c .before .before .before .before .before .before .args .transfers)) (now (c .before .before .before .before .before .before .args .patterns)) d q) in mode-rust x (c .before .if1 .taken) (c .use-arc-flags .ensures (tablesOf x) (queryOf x) refl eo (ap (λ (m : Net). m .target) en))
 
--- src/lib.rt:52:9
 transfer-runs-requires : tie.Need-transfer-runs-requires
 transfer-runs-requires c κs = search needs
 
--- src/lib.rt:53:5
 flags-in-use-requires : tie.Need-flags-in-use-requires
 flags-in-use-requires c κs = (c .before .before .before .before .before .before .pre .sane, (c .before .before .before .before .before .before .pre .patterns-ok, runs-in (c .before .before .before .before .before .before .pre) (c .transfer-runs .ensures)))
 
--- src/lib.rt:36:1
 returns-2 : tie.Need-returns-2
 returns-2 c = λ d q en eo. let x = (lent (c .before .before .before .before .before .before .before .args .n) (now (c .before .before .before .before .before .before .before .args .t)) (now (c .before .before .before .before .before .before .before .args .built)) (now (c .before .before .before .before .before .before .before .args .transfers)) (now (c .before .before .before .before .before .before .before .args .patterns)) d q) in mode-promise x (c .before .before .if1 .left) (c .flags-in-use .ensures (tablesOf x) (queryOf x) refl (record { size = refl; pattern = λ p h. refl }) (subst (λ (l : List ℕ). Transferring (tablesOf x) (x .n .timetable) l (x .transfers)) (sym (c .before .transfer-runs .ensures)) (transferring (x .n) (x .t) (x .built) (x .transfers) (x .patterns) d q (c .before .before .before .before .before .before .before .pre))) (ap (λ (m : Net). m .target) en) eo)
 

@@ -16,51 +16,39 @@ use Rattle.search.proofs.in_use.Reads as in-use-reads
 use Rattle.rounds.proofs.rounds.Reads as rounds-reads
 use Rattle.tables.proofs.field.Reads as field-reads
 
--- src/lib.rt:84:9
 lay-of-requires : tie.Need-lay-of-requires
 lay-of-requires c κs = c .before .before .before .before .before .before .before .before .before .before .before .pre .admitted .limits
 
--- src/lib.rt:85:9
 net-of-requires : tie.Need-net-of-requires
 net-of-requires c κs = askable (c .before .before .before .before .before .before .before .before .before .before .before .before .pre .admitted)
 
--- src/lib.rt:86:15
 field-requires : tie.Need-field-requires
 field-requires c κs = omega (arith, c .before .before .before .before .before .before .before .before .before .before .before .before .before .pre .admitted .sized .queryIs)
 
--- src/lib.rt:87:9
 in-use-requires : tie.Need-in-use-requires
 in-use-requires c κs = flagging (c .before .before .before .before .before .before .before .before .before .before .before .before .before .before .pre .admitted)
 
--- src/lib.rt:88:9
 begin-requires : tie.Need-begin-requires
 begin-requires c κs = let A = c .before .before .before .before .before .before .before .before .before .before .before .before .before .before .before .before .before .before .pre .admitted in (askable A, (c .before .before .before .before .before .before .lay-of .ensures, sized-at A (c .before .before .before .before .before .before .lay-of .ensures)))
 
--- src/lib.rt:89:5
 rounds-requires : tie.Need-rounds-requires
 rounds-requires c κs = let A = c .before .before .before .before .before .before .before .before .before .before .before .before .before .before .before .before .before .before .before .before .before .before .before .before .before .before .before .before .before .before .pre .admitted in started A (c .before .before .before .before .before .before .before .before .before .before .before .before .before .before .before .before .before .net-of .ensures _ _ A (lends A)) (c .before .before .before .before .before .before .before .before .before .before .before .before .before .before .before .before .before .before .lay-of .ensures) (c .before .before .before .before .before .before .before .before .before .before .before .begin .ensures _ _ A (lends A)) (search needs)
 
--- src/lib.rt:66:1
 same-length : tie.Need-same-length
 same-length c = search needs
 
--- src/lib.rt:66:1
 same-length-2 : tie.Need-same-length-2
 same-length-2 c = search needs
 
--- src/lib.rt:66:1
 same-length-3 : tie.Need-same-length-3
 same-length-3 c = search needs
 
--- src/lib.rt:66:1
 same-length-4 : tie.Need-same-length-4
 same-length-4 c = search needs
 
--- src/lib.rt:66:1
 same-length-5 : tie.Need-same-length-5
 same-length-5 c = search needs
 
--- src/lib.rt:66:1
 returns : tie.Need-returns
 returns c = let A = c .before .before .before .before .before .before .before .before .before .before .before .before .before .before .before .before .before .before .before .before .before .before .before .before .before .before .before .before .before .before .before .before .before .before .before .before .before .before .before .before .before .pre .admitted in ended (c .before .before .before .before .before .before .before .before .before .before .rounds .ensures) (c .before .before .before .before .before .before .before .before .before .before .before .before .before .before .before .before .before .before .before .before .before .before .before .before .before .before .in-use .ensures (now (c .before .before .before .before .before .before .before .before .before .before .before .before .before .before .before .before .before .before .before .before .before .before .before .before .before .before .before .before .before .before .before .before .before .before .before .before .before .before .before .before .before .args .distances)) (now (c .before .before .before .before .before .before .before .before .before .before .before .before .before .before .before .before .before .before .before .before .before .before .before .before .before .before .before .before .before .before .before .before .before .before .before .before .before .before .before .before .before .args .q)) (c .before .before .before .before .before .before .before .before .before .before .before .before .before .before .before .before .before .before .before .before .before .before .before .before .before .before .before .before .net-of .ensures _ _ A (lends A)) (ap (λ (v : ℕ). eqb v 1) (sym (c .before .before .before .before .before .before .before .before .before .before .before .before .before .before .before .before .before .before .before .before .before .before .before .before .before .before .before .field .ensures .0)))) (c .before .before .before .before .before .before .before .before .before .before .before .before .before .before .before .before .before .before .before .before .before .before .before .before .before .before .before .before .before .lay-of .ensures)
 

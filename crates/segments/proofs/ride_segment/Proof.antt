@@ -12,47 +12,36 @@ use Rattle.boarding.proofs.permitted.Reads as permitted-reads
 use Rattle.segments.proofs.ride_of.Reads as ride-of-reads
 use Rattle.trip_scan.proofs.scan_trip_forward.Reads as scan-trip-forward-reads
 
--- src/lib.rt:411:9
 ride-of-requires : tie.Need-ride-of-requires
 ride-of-requires c κs = let a = c .before .before .before .before .before .before .before .before .before .before .before in omega (arith, a .pre .1 .room)
 
--- src/lib.rt:414:42
 cast-permitted : tie.Need-cast-permitted
 cast-permitted c = search needs
 
--- src/lib.rt:414:9
 permitted-requires : tie.Need-permitted-requires
 permitted-requires c κs = let a = c .before .before .before .before .before .before .before .before .before .before .before .before .before .before .before in let x = a .args in let G = a .pre .0 in (G .laid .netted .ground .sane, segment-trip G (x .flagged) (x .stamp - 2) (x .k) (now (x .from)) (a .pre .1) (c .before .before .before .ride-of .result) (c .before .before .before .ride-of .ensures))
 
--- src/lib.rt:415:9
 returns : tie.Need-returns
 returns c = let a = c .before .before .before .before .before .before .before .before .before .before .before .before .before .before .before .before .before in let x = a .args in let G = a .pre .0 in segment-barred G (x .flagged) (x .stamp - 2) (x .k) (now (x .from)) (a .pre .1) (c .before .before .before .before .before .ride-of .result) (c .before .before .before .before .before .ride-of .ensures) (c .before .permitted .result) (c .before .permitted .ensures) (c .if1 .taken)
 
--- src/lib.rt:417:9
 delay-of-requires : tie.Need-delay-of-requires
 delay-of-requires c κs = let a = c .before .before .before .before .before .before .before .before .before .before .before .before .before .before .before .before .before in let x = a .args in let G = a .pre .0 in G .laid .netted .ground .delayRows
 
--- src/lib.rt:418:5
 scan-trip-forward-requires : tie.Need-scan-trip-forward-requires
 scan-trip-forward-requires c κs = let a = c .before .before .before .before .before .before .before .before .before .before .before .before .before .before .before .before .before .before .before .before .before .before in let x = a .args in let G = a .pre .0 in (G .laid .netted, (segment-riding G (x .flagged) (x .stamp - 2) (x .k) (now (x .from)) (a .pre .1) (c .before .before .before .before .before .before .before .before .before .before .ride-of .result) (c .before .before .before .before .before .before .before .before .before .before .ride-of .ensures) (c .before .before .before .before .delay-of .result) (c .before .before .before .before .delay-of .ensures .0), (segment-ready G (x .flagged) (x .stamp - 2) (x .k) (now (x .from)) (a .pre .1) (c .before .before .before .before .before .before .before .before .before .before .ride-of .result) (c .before .before .before .before .before .before .before .before .before .before .ride-of .ensures), G .room)))
 
--- src/lib.rt:388:1
 same-length : tie.Need-same-length
 same-length c = search needs
 
--- src/lib.rt:388:1
 same-length-2 : tie.Need-same-length-2
 same-length-2 c = search needs
 
--- src/lib.rt:388:1
 same-length-3 : tie.Need-same-length-3
 same-length-3 c = search needs
 
--- src/lib.rt:388:1
 same-length-4 : tie.Need-same-length-4
 same-length-4 c = search needs
 
--- src/lib.rt:388:1
 returns-2 : tie.Need-returns-2
 returns-2 c = let a = c .before .before .before .before .before .before .before .before .before .before .before .before .before .before .before .before .before .before .before .before .before .before .before .before .before .before .before .before .before .before .before in let x = a .args in let G = a .pre .0 in segment-ridden G (x .flagged) (x .stamp - 2) (x .k) (now (x .from)) (a .pre .1) (c .before .before .before .before .before .before .before .before .before .before .before .before .before .before .before .before .before .before .before .ride-of .result) (c .before .before .before .before .before .before .before .before .before .before .before .before .before .before .before .before .before .before .before .ride-of .ensures) (c .before .before .before .before .before .before .before .before .before .before .before .before .before .before .before .permitted .result) (c .before .before .before .before .before .before .before .before .before .before .before .before .before .before .before .permitted .ensures) (c .before .before .before .before .before .before .before .before .before .before .before .before .before .before .if1 .left) (c .before .before .before .before .before .before .before .before .before .before .before .before .before .delay-of .result) (c .before .before .before .before .before .before .before .before .before .before .before .before .before .delay-of .ensures .1) (c .before .before .before .before .before .before .before .before .scan-trip-forward .ensures)
 

@@ -24,63 +24,48 @@ abbrev μ-loop : tie.MeasureT-loop
 μ-loop n t rows stop-rows built bytes area net flagged stamp m lay from work₀ labels₀ distances₀ queue₀ g₀ k₀ work labels distances queue g k =
     m - k
 
--- src/lib.rt:454:5
 loop-holds : tie.Need-loop-holds Inv-loop μ-loop
 loop-holds c = let a = c .before .before .before .before .before .before .before .before .before .before .before in let x = a .args in let G = a .pre .0 in ride-start _ _ _ _ (G .ready) (G .chains) (G .room) (λ T Q y s. segments-start T Q (x .flagged) (x .stamp - 2) (x .stamp) (now (x .from)) (x .m) s)
 
--- src/lib.rt:455:9
 ride-segment-requires : tie.Need-ride-segment-requires Inv-loop μ-loop
 ride-segment-requires c κs = let a = c .before .before .before .before .before .before .before .before .before .before .before .before .before .before .before .before .before in let x = a .args in let G = a .pre .0 in let p = c .before .before .before .before .before .loop .inv in (going-on G p, segments-fewer _ (a .pre .1) (omega (arith, c .before .before .before .before .loop-test .taken)))
 
--- src/lib.rt:476:13
 same-length : tie.Need-same-length Inv-loop μ-loop
 same-length c = let a = c .before .before .before .before .before .before .before .before .before .before .before .before .before .before .before .before .before .before .before .before .before .before .before .before .before .before .before in let x = a .args in let G = a .pre .0 in let p = c .before .before .before .before .before .before .before .before .before .before .before .before .before .before .before .loop .inv in let z = c .before .before .before .before .before .before .before .before .before .ride-segment .ensures in z .step .kept .size ∙ p .kept .size
 
--- src/lib.rt:476:13
 same-length-2 : tie.Need-same-length-2 Inv-loop μ-loop
 same-length-2 c = let a = c .before .before .before .before .before .before .before .before .before .before .before .before .before .before .before .before .before .before .before .before .before .before .before .before .before .before .before in let x = a .args in let G = a .pre .0 in let p = c .before .before .before .before .before .before .before .before .before .before .before .before .before .before .before .loop .inv in let z = c .before .before .before .before .before .before .before .before .before .ride-segment .ensures in z .step .ready .sized .rows ∙ sym (G .ready .sized .rows)
 
--- src/lib.rt:476:13
 same-length-3 : tie.Need-same-length-3 Inv-loop μ-loop
 same-length-3 c = let a = c .before .before .before .before .before .before .before .before .before .before .before .before .before .before .before .before .before .before .before .before .before .before .before .before .before .before .before in let x = a .args in let G = a .pre .0 in let p = c .before .before .before .before .before .before .before .before .before .before .before .before .before .before .before .loop .inv in let z = c .before .before .before .before .before .before .before .before .before .ride-segment .ensures in z .step .ready .sized .metres ∙ sym (G .ready .sized .metres)
 
--- src/lib.rt:476:13
 same-length-4 : tie.Need-same-length-4 Inv-loop μ-loop
 same-length-4 c = let a = c .before .before .before .before .before .before .before .before .before .before .before .before .before .before .before .before .before .before .before .before .before .before .before .before .before .before .before in let x = a .args in let G = a .pre .0 in let p = c .before .before .before .before .before .before .before .before .before .before .before .before .before .before .before .loop .inv in let z = c .before .before .before .before .before .before .before .before .before .ride-segment .ensures in z .step .size ∙ p .size
 
--- src/lib.rt:476:13
 returns : tie.Need-returns Inv-loop μ-loop
 returns c = let a = c .before .before .before .before .before .before .before .before .before .before .before .before .before .before .before .before .before .before .before .before .before .before .before .before .before .before .before in let x = a .args in let G = a .pre .0 in let p = c .before .before .before .before .before .before .before .before .before .before .before .before .before .before .before .loop .inv in let z = c .before .before .before .before .before .before .before .before .before .ride-segment .ensures in ride-over (λ T Q. segmentsFrom T Q (x .flagged) (x .stamp - 2) (x .stamp) (now (x .from)) (x .m) (c .before .before .before .before .before .before .before .before .before .before .before .before .before .before .before .loop .k + 1)) p z (λ T Q y. rides-kept (G .laid) (p .kept) y) (λ T Q y s e. segments-turn T Q (x .flagged) (x .stamp - 2) (x .stamp) (now (x .from)) (x .m) (c .before .before .before .before .before .before .before .before .before .before .before .before .before .before .before .loop .k) s (c .before .before .before .before .before .before .before .before .before .before .before .before .before .before .loop-test .taken)) (c .if1 .taken) (λ T Q s. segments-later T Q (x .flagged) (x .stamp - 2) (x .stamp) _ s .queue)
 
--- src/lib.rt:478:9
 add-k : tie.Need-add-k Inv-loop μ-loop
 add-k c = let a = c .before .before .before .before .before .before .before .before .before .before .before .before .before .before .before .before .before .before .before .before .before .before .before .before .before .before .before in omega (arith, a .fits .m .fits, c .before .before .before .before .before .before .before .before .before .before .before .before .before .before .loop-test .taken)
 
--- src/lib.rt:454:5
 loop-less : tie.Need-loop-less Inv-loop μ-loop
 loop-less c = omega arith
 
--- src/lib.rt:454:5
 loop-again : tie.Need-loop-again Inv-loop μ-loop
 loop-again c = let a = c .before .before .before .before .before .before .before .before .before .before .before .before .before .before .before .before .before .before .before .before .before .before .before .before .before .before .before in let x = a .args in let G = a .pre .0 in let p = c .before .before .before .before .before .before .before .before .before .before .before .before .before .before .before .loop .inv in let z = c .before .before .before .before .before .before .before .before .before .ride-segment .ensures in ride-turn _ p z (λ T Q y. rides-kept (G .laid) (p .kept) y) (λ T Q y s e. segments-turn T Q (x .flagged) (x .stamp - 2) (x .stamp) (now (x .from)) (x .m) (c .before .before .before .before .before .before .before .before .before .before .before .before .before .before .before .loop .k) s (c .before .before .before .before .before .before .before .before .before .before .before .before .before .before .loop-test .taken)) (c .if1 .left)
 
--- src/lib.rt:429:1
 same-length-5 : tie.Need-same-length-5 Inv-loop μ-loop
 same-length-5 c = let a = c .before .before .before .before .before .before .before .before .before .before .before .before .before in let x = a .args in let G = a .pre .0 in let p = c .before .loop .inv in p .kept .size
 
--- src/lib.rt:429:1
 same-length-6 : tie.Need-same-length-6 Inv-loop μ-loop
 same-length-6 c = let a = c .before .before .before .before .before .before .before .before .before .before .before .before .before in let x = a .args in let G = a .pre .0 in let p = c .before .loop .inv in p .ready .sized .rows ∙ sym (G .ready .sized .rows)
 
--- src/lib.rt:429:1
 same-length-7 : tie.Need-same-length-7 Inv-loop μ-loop
 same-length-7 c = let a = c .before .before .before .before .before .before .before .before .before .before .before .before .before in let x = a .args in let G = a .pre .0 in let p = c .before .loop .inv in p .ready .sized .metres ∙ sym (G .ready .sized .metres)
 
--- src/lib.rt:429:1
 same-length-8 : tie.Need-same-length-8 Inv-loop μ-loop
 same-length-8 c = let a = c .before .before .before .before .before .before .before .before .before .before .before .before .before in let x = a .args in let G = a .pre .0 in let p = c .before .loop .inv in p .size
 
--- src/lib.rt:429:1
 returns-2 : tie.Need-returns-2 Inv-loop μ-loop
 returns-2 c = let a = c .before .before .before .before .before .before .before .before .before .before .before .before .before in let x = a .args in let G = a .pre .0 in let p = c .before .loop .inv in ride-end _ p (λ T Q y s e. segments-end T Q (x .flagged) (x .stamp - 2) (x .stamp) (now (x .from)) (x .m) (c .before .loop .k) s (c .loop-test .left))
 

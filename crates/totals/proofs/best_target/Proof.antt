@@ -23,55 +23,42 @@ Inv-loop work stops egress n total₀ stop₀ i₀ total stop i =
 abbrev μ-loop : tie.MeasureT-loop
 μ-loop work stops egress n total₀ stop₀ i₀ total stop i = n - i
 
--- src/lib.rt:59:5
 loop-holds : tie.Need-loop-holds Inv-loop μ-loop
 loop-holds c = let s = c .before .before in (refl, λ T Q a g. best-first T Q a (now (s .args .egress)) _ (never, never) refl)
 
--- src/lib.rt:60:30
 mul-word : tie.Need-mul-word Inv-loop μ-loop
 mul-word c = omega (arith, c .before .loop .inv .0)
 
--- src/lib.rt:60:13
 word-requires : tie.Need-word-requires Inv-loop μ-loop
 word-requires c κs = omega (arith, c .before .loop .inv .0)
 
--- src/lib.rt:61:33
 mul-word-2 : tie.Need-mul-word-2 Inv-loop μ-loop
 mul-word-2 c = omega (arith, c .before .before .loop .inv .0)
 
--- src/lib.rt:61:33
 add-word : tie.Need-add-word Inv-loop μ-loop
 add-word c = omega (arith, c .before .before .loop .inv .0)
 
--- src/lib.rt:61:13
 word-requires-2 : tie.Need-word-requires-2 Inv-loop μ-loop
 word-requires-2 c κs = omega (arith, c .before .before .loop .inv .0)
 
--- src/lib.rt:62:28
 cast-word : tie.Need-cast-word Inv-loop μ-loop
 cast-word c = search needs
 
--- src/lib.rt:62:13
 word-requires-3 : tie.Need-word-requires-3 Inv-loop μ-loop
 word-requires-3 c κs = let s = c .before .before .before .before .before .before in omega (arith, c .before .word .ensures, c .before .before .before .loop .inv .0, s .pre .0 .long, s .pre .1 .stop (c .before .before .before .loop .i) (omega (arith, c .before .before .before .loop .inv .0)))
 
--- src/lib.rt:63:13
 with-stop-requires : tie.Need-with-stop-requires Inv-loop μ-loop
 with-stop-requires c κs = let s = c .before .before .before .before .before .before .before in (rw (c .word3 .ensures) (s .pre .0 .small (c .before .before .word .result) (omega (arith, c .before .before .word .ensures, s .pre .1 .stop (c .before .before .before .before .loop .i) (omega (arith, c .before .before .before .before .loop .inv .0))))), omega (arith, c .before .word2 .ensures, s .pre .1 .walk (c .before .before .before .before .loop .i) (omega (arith, c .before .before .before .before .loop .inv .0))))
 
--- src/lib.rt:74:9
 add-i : tie.Need-add-i Inv-loop μ-loop
 add-i c = omega arith
 
--- src/lib.rt:59:5
 loop-less : tie.Need-loop-less Inv-loop μ-loop
 loop-less c = omega arith
 
--- src/lib.rt:59:5
 loop-again : tie.Need-loop-again Inv-loop μ-loop
 loop-again c = let s = c .before .before .before .before .before .before .before .before in let w = c .before .before .before .before .before .loop in (w .inv .0, λ T Q a g. w .inv .1 T Q a g ∙ best-step T Q a (now (s .args .egress)) _ (w .i) _ (w .total, w .stop) _ (c .before .before .before .before .loop-test .taken) (c .before .word3 .ensures ∙ ap (λ (x : ℕ). getD (now (s .args .work)) x 0) (c .before .before .before .word .ensures) ∙ sym (g .at _ (s .pre .1 .stop (w .i) (omega (arith, w .inv .0))))) (c .with-stop .ensures ∙ ap₂ (λ (x y : ℕ). withStop (w .total, w .stop) (c .before .word3 .result) x y) (c .before .before .before .word .ensures) (c .before .before .word2 .ensures)))
 
--- src/lib.rt:51:1
 returns : tie.Need-returns Inv-loop μ-loop
 returns c = let s = c .before .before .before .before in let w = c .before .loop in λ T Q a g. best-end T Q a (now (s .args .egress)) _ (w .i) (w .total, w .stop) (c .loop-test .left) ∙ sym (w .inv .1 T Q a g)
 

@@ -5,11 +5,9 @@ use Rattle.totals.proofs.better.Tie as tie
 use Rattle.totals.proofs.better.Reads as reads
 use Rattle.totals.proofs.better.Lts as lts
 
--- src/lib.rt:24:9
 returns : tie.Need-returns
 returns c = let s = c .before .before in better-less (targetOf (s .args .best)) (s .args .total) (s .args .stop) (c .if1 .taken)
 
--- src/lib.rt:20:1
 returns-2 : tie.Need-returns-2
 returns-2 c = let s = c .before .before in better-not (targetOf (s .args .best)) (s .args .total) (s .args .stop) (c .if1 .left)
 

@@ -8,47 +8,36 @@ use Rattle.totals.proofs.put_candidate.Tie as tie
 use Rattle.totals.proofs.put_candidate.Reads as reads
 use Rattle.totals.proofs.put_candidate.Lts as lts
 
--- src/lib.rt:192:14
 mul-at : tie.Need-mul-at
 mul-at c = search needs
 
--- src/lib.rt:193:5
 mul-out : tie.Need-mul-out
 mul-out c = search needs
 
--- src/lib.rt:193:5
 slice-write-out : tie.Need-slice-write-out
 slice-write-out c = search needs
 
--- src/lib.rt:194:9
 add-out : tie.Need-add-out
 add-out c = search needs
 
--- src/lib.rt:194:5
 mul-out-2 : tie.Need-mul-out-2
 mul-out-2 c = search needs
 
--- src/lib.rt:194:5
 slice-write-out-2 : tie.Need-slice-write-out-2
 slice-write-out-2 c = simp length-set (omega arith)
 
--- src/lib.rt:195:9
 add-out-2 : tie.Need-add-out-2
 add-out-2 c = search needs
 
--- src/lib.rt:195:5
 mul-out-3 : tie.Need-mul-out-3
 mul-out-3 c = search needs
 
--- src/lib.rt:195:5
 slice-write-out-3 : tie.Need-slice-write-out-3
 slice-write-out-3 c = simp length-set (omega arith)
 
--- src/lib.rt:188:1
 same-length : tie.Need-same-length
 same-length c = search needs
 
--- src/lib.rt:188:1
 returns : tie.Need-returns
 returns c = let s = c in put-is (now (s .args .out)) (s .args .m) (s .args .b .total) (s .args .b .stop) (s .args .row) (s .pre)
 

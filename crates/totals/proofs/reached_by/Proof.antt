@@ -8,47 +8,36 @@ use Rattle.totals.proofs.reached_by.Tie as tie
 use Rattle.totals.proofs.reached_by.Reads as reads
 use Rattle.totals.proofs.reached_by.Lts as lts
 
--- src/lib.rt:90:25
 enum-told : tie.Need-enum-told
 enum-told c = search needs
 
--- src/lib.rt:92:13
 enum-known-x : tie.Need-enum-known-x
 enum-known-x c = search needs
 
--- src/lib.rt:96:14
 add-result : tie.Need-add-result
 add-result c = let s = c .before .before .before in omega (arith, s .pre, ap reachedBy (c .before .x .given .1))
 
--- src/lib.rt:98:13
 enum-known-x-2 : tie.Need-enum-known-x-2
 enum-known-x-2 c = search needs
 
--- src/lib.rt:105:14
 add-result-2 : tie.Need-add-result-2
 add-result-2 c = let s = c .before .before .before in omega (arith, s .pre, ap reachedBy (c .before .x2 .given .1))
 
--- src/lib.rt:107:13
 enum-known-x-3 : tie.Need-enum-known-x-3
 enum-known-x-3 c = search needs
 
--- src/lib.rt:113:14
 add-result-3 : tie.Need-add-result-3
 add-result-3 c = let s = c .before .before .before in omega (arith, s .pre, ap reachedBy (c .before .x3 .given .1))
 
--- src/lib.rt:85:1
 returns : tie.Need-returns
 returns c = search needs
 
--- src/lib.rt:85:1
 returns-2 : tie.Need-returns-2
 returns-2 c = add-one _ ∙ sym (ap reachedBy (c .before .x .given .1))
 
--- src/lib.rt:85:1
 returns-3 : tie.Need-returns-3
 returns-3 c = add-one _ ∙ sym (ap reachedBy (c .before .x2 .given .1))
 
--- src/lib.rt:85:1
 returns-4 : tie.Need-returns-4
 returns-4 c = add-one _ ∙ sym (ap reachedBy (c .before .x3 .given .1))
 

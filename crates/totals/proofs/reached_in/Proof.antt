@@ -12,19 +12,15 @@ use Rattle.label_table.proofs.load_label.Reads as load-label-reads
 use Rattle.label_table.proofs.record_of.Reads as record-of-reads
 use Rattle.totals.proofs.reached_by.Reads as reached-by-reads
 
--- src/lib.rt:133:53
 record-of-requires : tie.Need-record-of-requires
 record-of-requires c κs = search needs
 
--- src/lib.rt:133:16
 load-label-requires : tie.Need-load-label-requires
 load-label-requires c κs = search needs
 
--- src/lib.rt:133:5
 reached-by-requires : tie.Need-reached-by-requires
 reached-by-requires c κs = let s = c .before .before .before .before in omega (arith, ap reachedBy (c .load-label .ensures ∙ ap (loaded (now (s .args .labels)) (now (s .args .distances))) (c .before .record-of .ensures)), s .pre .0 .small (s .args .stop) (s .args .row) (s .pre .1 .0) (s .pre .1 .1))
 
--- src/lib.rt:129:1
 returns : tie.Need-returns
 returns c = let s = c .before .before .before .before .before in c .reached-by .ensures ∙ ap reachedBy (c .before .load-label .ensures ∙ ap (loaded (now (s .args .labels)) (now (s .args .distances))) (c .before .before .record-of .ensures))
 

@@ -7,23 +7,18 @@ use Rattle.totals.proofs.with_reach.Reads as reads
 use Rattle.totals.proofs.with_reach.Lts as lts
 use Rattle.totals.proofs.better.Reads as better-reads
 
--- src/lib.rt:123:9
 returns : tie.Need-returns
 returns c = let s = c .before in reach-none (targetOf (s .args .best)) (s .args .x) (s .args .stop) (s .args .walk) (c .if1 .taken)
 
--- src/lib.rt:125:18
 sub-better : tie.Need-sub-better
 sub-better c = search needs
 
--- src/lib.rt:125:18
 add-better : tie.Need-add-better
 add-better c = search needs
 
--- src/lib.rt:125:5
 better-requires : tie.Need-better-requires
 better-requires c κs = search needs
 
--- src/lib.rt:118:1
 returns-2 : tie.Need-returns-2
 returns-2 c = let s = c .before .before in reach-some (targetOf (s .args .best)) _ (s .args .x) (s .args .stop) (s .args .walk) (c .before .if1 .left) (c .better .ensures)
 

@@ -12,19 +12,15 @@ use Rattle.totals.proofs.with_stop.Reads as reads
 use Rattle.totals.proofs.with_stop.Lts as lts
 use Rattle.totals.proofs.better.Reads as better-reads
 
--- src/lib.rt:38:9
 returns : tie.Need-returns
 returns c = let s = c .before in stop-never (targetOf (s .args .best)) (s .args .v) (s .args .stop) (s .args .walk) (c .if1 .taken)
 
--- src/lib.rt:40:18
 add-better : tie.Need-add-better
 add-better c = let s = c .before in ⊎-elim (λ (h : s .args .v ≡ never). absurd (c .if1 .left h)) (λ (h : s .args .v < 134217728). omega (arith, s .pre .1)) (s .pre .0)
 
--- src/lib.rt:40:5
 better-requires : tie.Need-better-requires
 better-requires c κs = search needs
 
--- src/lib.rt:33:1
 returns-2 : tie.Need-returns-2
 returns-2 c = let s = c .before .before in stop-reached (targetOf (s .args .best)) _ (s .args .v) (s .args .stop) (s .args .walk) (c .before .if1 .left) (c .better .ensures)
 

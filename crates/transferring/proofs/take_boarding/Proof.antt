@@ -11,51 +11,39 @@ use Rattle.scratch.proofs.transfer.Reads as transfer-reads
 use Rattle.tables.proofs.time.Reads as time-reads
 use Rattle.tables.proofs.trip.Reads as trip-reads
 
--- src/lib.rt:138:9
 trip-requires : tie.Need-trip-requires
 trip-requires c κs = search needs
 
--- src/lib.rt:139:32
 add-time : tie.Need-add-time
 add-time c = let a = c .before .before .before .before .before .before in let x = a .args in let g = a .pre .0 .sane in let k = g .runs .run (x .trip) (a .pre .1 .0 .trip-in) in omega (arith, c .trip .ensures .0, k, a .pre .1 .0 .offset-in, g .counts .times)
 
--- src/lib.rt:139:9
 time-requires : tie.Need-time-requires
 time-requires c κs = let a = c .before .before .before .before .before .before in let x = a .args in let g = a .pre .0 .sane in let k = g .runs .run (x .trip) (a .pre .1 .0 .trip-in) in (g .counts, (g .slices, (omega (arith, c .trip .ensures .0, k, a .pre .1 .0 .offset-in), omega arith)))
 
--- src/lib.rt:140:17
 trip-requires-2 : tie.Need-trip-requires-2
 trip-requires-2 c κs = search needs
 
--- src/lib.rt:143:17
 cast-t22 : tie.Need-cast-t22
 cast-t22 c = let a = c .before .before .before .before .before .before .before .before in let x = a .args in let g = a .pre .0 .sane in let k = g .runs .run (x .trip) (a .pre .1 .0 .trip-in) in omega (arith, k, a .pre .1 .0 .offset-in, g .counts .times)
 
--- src/lib.rt:144:15
 cast-t23 : tie.Need-cast-t23
 cast-t23 c = search needs
 
--- src/lib.rt:148:5
 transfer-requires : tie.Need-transfer-requires
 transfer-requires c κs = let a = c .before .before .before .before .before .before .before .before .before .before .before .before in let x = a .args in let g = a .pre .0 .sane in let k = g .runs .run (x .trip) (a .pre .1 .0 .trip-in) in let n = g .numbers .stop (c .before .before .before .before .before .before .trip .result + x .off) (omega (arith, c .before .before .before .before .before .before .trip .ensures .0, k, a .pre .1 .0 .offset-in)) in (a .pre .1 .1 .0, ((omega (arith, a .pre .1 .0 .trip-in, a .pre .0 .trips), omega (arith, c .before .before .before .before .before .time .ensures .0, n, a .pre .0 .stops)), (a .pre .1 .0 .early, (a .pre .1 .1 .1 .none, a .pre .1 .1 .1 .room))))
 
--- src/lib.rt:118:1
 same-length : tie.Need-same-length
 same-length c = search needs
 
--- src/lib.rt:118:1
 same-length-2 : tie.Need-same-length-2
 same-length-2 c = search needs
 
--- src/lib.rt:118:1
 same-length-3 : tie.Need-same-length-3
 same-length-3 c = search needs
 
--- src/lib.rt:118:1
 same-length-4 : tie.Need-same-length-4
 same-length-4 c = search needs
 
--- src/lib.rt:118:1
 returns : tie.Need-returns
 returns c = let a = c .before .before .before .before .before .before .before .before .before .before .before .before .before .before .before .before .before .before .before .before .before in let x = a .args in boarding-is (now (x .t)) (x .c) (x .from) (x .off) (x .time) (x .trip) (x .b) _ _ _ (c .before .before .before .before .before .before .before .before .transfer .ensures) (c .before .before .before .before .before .before .before .before .before .before .before .before .before .before .before .trip .ensures .0) (c .before .before .before .before .before .before .before .before .before .before .before .before .before .before .time .ensures .0) (c .before .before .before .before .before .before .before .before .before .before .before .before .before .trip2 .ensures .0)
 

@@ -16,99 +16,75 @@ use Rattle.flags.proofs.holds_target.Reads as holds-target-reads
 use Rattle.tables.proofs.field.Reads as field-reads
 use Rattle.transferring.proofs.take_boarding.Reads as take-boarding-reads
 
--- src/lib.rt:192:14
 mul-at : tie.Need-mul-at
 mul-at c = search needs
 
--- src/lib.rt:193:82
 add-field : tie.Need-add-field
 add-field c = search needs
 
--- src/lib.rt:193:62
 field-requires : tie.Need-field-requires
 field-requires c κs = search needs
 
--- src/lib.rt:193:9
 holds-target-requires : tie.Need-holds-target-requires
 holds-target-requires c κs = search needs
 
--- src/lib.rt:194:9
 returns : tie.Need-returns
 returns c = let a = c .before .before .before .before .before .before .before .before .before .before .before .before .before in let x = a .args in queue-none _ _ _ (a .pre .1 .1 .0) (a .pre .1 .1 .1 .0) (λ T Q y. take-skip T Q (x .stamp) (x .v) (x .from) (transferAt (now (x .area)) (x .k)) _ _ (c .before .holds-target .ensures T Q (y .patterned) (y .target) ∙ ap (holdsTarget T Q) (c .before .before .field .ensures .0)) (c .if1 .taken))
 
--- src/lib.rt:196:21
 add-time : tie.Need-add-time
 add-time c = search needs
 
--- src/lib.rt:196:16
 mul-time : tie.Need-mul-time
 mul-time c = search needs
 
--- src/lib.rt:196:16
 shared-slice-read-time : tie.Need-shared-slice-read-time
 shared-slice-read-time c = search needs
 
--- src/lib.rt:197:35
 add-field-2 : tie.Need-add-field-2
 add-field-2 c = search needs
 
--- src/lib.rt:197:9
 field-requires-2 : tie.Need-field-requires-2
 field-requires-2 c κs = search needs
 
--- src/lib.rt:207:9
 mul-resolve : tie.Need-mul-resolve
 mul-resolve c = search needs
 
--- src/lib.rt:207:9
 shared-slice-read-resolve : tie.Need-shared-slice-read-resolve
 shared-slice-read-resolve c = search needs
 
--- src/lib.rt:209:9
 add-resolve : tie.Need-add-resolve
 add-resolve c = let a = c .before .before .before .before .before .before .before .before .before .before .before .before .before .before .before .before .before in let x = a .args in let s = a .pre .1 .0 .small 0 (omega arith) in let e : x .k + 0 ≡ x .k = omega arith in omega (arith, rw e at s, a .pre .1 .1 .1 .1)
 
--- src/lib.rt:198:9
 resolve-requires : tie.Need-resolve-requires
 resolve-requires c κs = let a = c .before .before .before .before .before .before .before .before .before .before .before .before .before .before .before .before .before in let x = a .args in let s = a .pre .1 .0 .small 0 (omega arith) in let e : x .k + 0 ≡ x .k = omega arith in (a .pre .0 .ground, (omega (arith, rw e at s, a .pre .1 .1 .1 .1), a .pre .0 .held))
 
--- src/lib.rt:212:24
 enum-known-found : tie.Need-enum-known-found
 enum-known-found c = search needs
 
--- src/lib.rt:213:9
 enum-told : tie.Need-enum-told
 enum-told c = search needs
 
--- src/lib.rt:213:9
 same-length : tie.Need-same-length
 same-length c = search needs
 
--- src/lib.rt:213:9
 returns-2 : tie.Need-returns-2
 returns-2 c = let a = c .before .before .before .before .before .before .before .before .before .before .before .before .before .before .before .before .before .before .before .before in let x = a .args in queue-none _ _ _ (a .pre .1 .1 .0) (a .pre .1 .1 .1 .0) (λ T Q y. take-none T Q (x .stamp) (x .v) (x .from) (transferAt (now (x .area)) (x .k)) _ _ _ (c .before .before .before .before .before .before .before .before .holds-target .ensures T Q (y .patterned) (y .target) ∙ ap (holdsTarget T Q) (c .before .before .before .before .before .before .before .before .before .field .ensures .0)) (c .before .before .before .before .before .before .before .if1 .left) (c .enum-told .given .1) (c .before .before .resolve .ensures T Q _ (y .agree) (y .asks) (y .lines) (record { trip = refl; place = sym (c .before .before .before .before .before .field2 .ensures .0) })))
 
--- src/lib.rt:215:5
 take-boarding-requires : tie.Need-take-boarding-requires
 take-boarding-requires c κs = let a = c .before .before .before .before .before .before .before .before .before .before .before .before .before .before .before .before .before .before .before .before .before .before .before .before .before in let x = a .args in let n = a .pre .0 in (record { sane = n .ground .sane; stops = n .stops; trips = n .trips }, (boards-in (n .T) (n .Q) (n .door) (now (x .t)) (x .c) (n .nets .agree .timetable) (transferAt (now (x .area)) (x .k)) _ _ _ _ _ _ (c .before .before .before .before .before .found .given .1) (c .before .before .before .before .before .before .before .resolve .ensures (n .T) (n .Q) (transferAt (now (x .area)) (x .k)) (n .nets .agree) (n .nets .asks) (n .nets .lines) (record { trip = refl; place = sym (c .before .before .before .before .before .before .before .before .before .before .field2 .ensures .0) })) (c .before .before .before .before .before .before .before .before .before .before .field2 .ensures .0), (a .pre .1 .1 .0, a .pre .1 .1 .1 .0)))
 
--- src/lib.rt:169:1
 same-length-2 : tie.Need-same-length-2
 same-length-2 c = search needs
 
--- src/lib.rt:169:1
 same-length-3 : tie.Need-same-length-3
 same-length-3 c = search needs
 
--- src/lib.rt:169:1
 same-length-4 : tie.Need-same-length-4
 same-length-4 c = search needs
 
--- src/lib.rt:169:1
 same-length-5 : tie.Need-same-length-5
 same-length-5 c = search needs
 
--- src/lib.rt:169:1
 returns-3 : tie.Need-returns-3
 returns-3 c = let a = c .before .before .before .before .before .before .before .before .before .before .before .before .before .before .before .before .before .before .before .before .before .before .before .before .before .before .before .before .before .before .before .before .before .before in let x = a .args in queue-as _ (c .before .before .before .before .before .before .before .before .take-boarding .ensures) (λ T Q y. (y .egress, y .agree .timetable)) (λ T Q y. take-some T Q (x .stamp) (x .v) (x .from) (transferAt (now (x .area)) (x .k)) _ _ _ _ _ _ (c .before .before .before .before .before .before .before .before .before .before .before .before .before .before .before .before .before .before .before .before .before .before .holds-target .ensures T Q (y .patterned) (y .target) ∙ ap (holdsTarget T Q) (c .before .before .before .before .before .before .before .before .before .before .before .before .before .before .before .before .before .before .before .before .before .before .before .field .ensures .0)) (c .before .before .before .before .before .before .before .before .before .before .before .before .before .before .before .before .before .before .before .before .before .if1 .left) (c .before .before .before .before .before .before .before .before .before .before .before .before .before .before .found .given .1) (c .before .before .before .before .before .before .before .before .before .before .before .before .before .before .before .before .resolve .ensures T Q (transferAt (now (x .area)) (x .k)) (y .agree) (y .asks) (y .lines) (record { trip = refl; place = sym (c .before .before .before .before .before .before .before .before .before .before .before .before .before .before .before .before .before .before .before .field2 .ensures .0) })) (c .before .before .before .before .before .before .before .before .before .before .before .before .before .before .before .before .before .before .before .field2 .ensures .0))
 

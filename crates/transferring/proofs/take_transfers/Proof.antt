@@ -24,67 +24,51 @@ abbrev μ-loop : tie.MeasureT-loop
 μ-loop t c rows stop-rows built bytes area net lay stamp v from first n work₀ labels₀ distances₀ queue₀ x₀ j₀ work labels distances queue x j =
     n - j
 
--- src/lib.rt:261:5
 loop-holds : tie.Need-loop-holds Inv-loop μ-loop
 loop-holds c = let a = c .before .before .before .before .before .before .before .before .before .before in let x = a .args in queuing-start _ _ _ _ (a .pre .1 .1 .0) (a .pre .1 .1 .1 .0) (λ T Q y z. from-start T Q (x .stamp) (x .v) (x .from) (now (x .area)) (x .first) (x .n) z)
 
--- src/lib.rt:262:17
 add-k : tie.Need-add-k Inv-loop μ-loop
 add-k c = let a = c .before .before .before .before .before .before .before .before .before .before .before .before in omega (arith, a .pre .1 .0 .near, c .loop-test .taken)
 
--- src/lib.rt:263:9
 take-transfer-requires : tie.Need-take-transfer-requires Inv-loop μ-loop
 take-transfer-requires c κs = let a = c .before .before .before .before .before .before .before .before .before .before .before .before .before .before .before .before in let x = a .args in let i = c .before .before .before .before .before .loop .inv in (netted-kept (i .same) (a .pre .0), (run-one (a .pre .1 .0) _ (c .before .before .before .before .loop-test .taken), (i .ready, (i .room, a .pre .1 .1 .1 .1))))
 
--- src/lib.rt:284:13
 same-length : tie.Need-same-length Inv-loop μ-loop
 same-length c = (c .before .before .before .before .before .before .before .before .before .take-transfer .ensures .same .size) ∙ (c .before .before .before .before .before .before .before .before .before .before .before .before .before .before .before .loop .inv .same .size)
 
--- src/lib.rt:284:13
 same-length-2 : tie.Need-same-length-2 Inv-loop μ-loop
 same-length-2 c = (c .before .before .before .before .before .before .before .before .before .take-transfer .ensures .ready .sized .rows) ∙ sym (c .before .before .before .before .before .before .before .before .before .before .before .before .before .before .before .before .before .before .before .before .before .before .before .before .before .before .pre .1 .1 .0 .sized .rows)
 
--- src/lib.rt:284:13
 same-length-3 : tie.Need-same-length-3 Inv-loop μ-loop
 same-length-3 c = (c .before .before .before .before .before .before .before .before .before .take-transfer .ensures .ready .sized .metres) ∙ sym (c .before .before .before .before .before .before .before .before .before .before .before .before .before .before .before .before .before .before .before .before .before .before .before .before .before .before .pre .1 .1 .0 .sized .metres)
 
--- src/lib.rt:284:13
 same-length-4 : tie.Need-same-length-4 Inv-loop μ-loop
 same-length-4 c = (c .before .before .before .before .before .before .before .before .before .take-transfer .ensures .size) ∙ (c .before .before .before .before .before .before .before .before .before .before .before .before .before .before .before .loop .inv .size)
 
--- src/lib.rt:284:13
 returns : tie.Need-returns Inv-loop μ-loop
 returns c = let a = c .before .before .before .before .before .before .before .before .before .before .before .before .before .before .before .before .before .before .before .before .before .before .before .before .before .before in let x = a .args in queuing-over (λ T Q. takeFrom T Q (x .stamp) (x .v) (x .from) (now (x .area)) (x .first) (x .n) (c .before .before .before .before .before .before .before .before .before .before .before .before .before .before .before .loop .j + 1)) (c .before .before .before .before .before .before .before .before .before .before .before .before .before .before .before .loop .inv) (c .before .before .before .before .before .before .before .before .before .take-transfer .ensures) (λ T Q y. nets-kept (c .before .before .before .before .before .before .before .before .before .before .before .before .before .before .before .loop .inv .same) (a .pre .0 .past) y) (λ T Q y. from-turn T Q (x .stamp) (x .v) (x .from) (now (x .area)) (x .first) (x .n) _ _ (c .before .before .before .before .before .before .before .before .before .before .before .before .before .before .loop-test .taken)) (c .if1 .taken) (λ T Q z. from-grows T Q (x .stamp) (x .v) (x .from) (now (x .area)) (x .first) (x .n) _ z)
 
--- src/lib.rt:286:9
 add-j : tie.Need-add-j Inv-loop μ-loop
 add-j c = let a = c .before .before .before .before .before .before .before .before .before .before .before .before .before .before .before .before .before .before .before .before .before .before .before .before .before .before in omega (arith, a .pre .1 .0 .near, c .before .before .before .before .before .before .before .before .before .before .before .before .before .before .loop-test .taken)
 
--- src/lib.rt:261:5
 loop-less : tie.Need-loop-less Inv-loop μ-loop
 loop-less c = omega (arith, c .before .before .before .before .before .before .before .before .before .before .before .before .before .before .loop-test .taken)
 
--- src/lib.rt:261:5
 loop-again : tie.Need-loop-again Inv-loop μ-loop
 loop-again c = let a = c .before .before .before .before .before .before .before .before .before .before .before .before .before .before .before .before .before .before .before .before .before .before .before .before .before .before in let x = a .args in queuing-turn _ (c .before .before .before .before .before .before .before .before .before .before .before .before .before .before .before .loop .inv) (c .before .before .before .before .before .before .before .before .before .take-transfer .ensures) (λ T Q y. nets-kept (c .before .before .before .before .before .before .before .before .before .before .before .before .before .before .before .loop .inv .same) (a .pre .0 .past) y) (λ T Q y. from-turn T Q (x .stamp) (x .v) (x .from) (now (x .area)) (x .first) (x .n) _ _ (c .before .before .before .before .before .before .before .before .before .before .before .before .before .before .loop-test .taken)) (c .if1 .left)
 
--- src/lib.rt:235:1
 same-length-5 : tie.Need-same-length-5 Inv-loop μ-loop
 same-length-5 c = c .before .loop .inv .same .size
 
--- src/lib.rt:235:1
 same-length-6 : tie.Need-same-length-6 Inv-loop μ-loop
 same-length-6 c = (c .before .loop .inv .ready .sized .rows) ∙ sym (c .before .before .before .before .before .before .before .before .before .before .before .before .pre .1 .1 .0 .sized .rows)
 
--- src/lib.rt:235:1
 same-length-7 : tie.Need-same-length-7 Inv-loop μ-loop
 same-length-7 c = (c .before .loop .inv .ready .sized .metres) ∙ sym (c .before .before .before .before .before .before .before .before .before .before .before .before .pre .1 .1 .0 .sized .metres)
 
--- src/lib.rt:235:1
 same-length-8 : tie.Need-same-length-8 Inv-loop μ-loop
 same-length-8 c = c .before .loop .inv .size
 
--- src/lib.rt:235:1
 returns-2 : tie.Need-returns-2 Inv-loop μ-loop
 returns-2 c = let a = c .before .before .before .before .before .before .before .before .before .before .before .before in let x = a .args in queuing-end _ (c .before .loop .inv) (λ T Q y. from-end T Q (x .stamp) (x .v) (x .from) (now (x .area)) (x .first) (x .n) _ _ (c .loop-test .left))
 

@@ -15,55 +15,42 @@ use Rattle.trip_scan.proofs.scan_trip_forward.Lts as lts
 use Rattle.alighting.proofs.alightings.Reads as alightings-reads
 use Rattle.transferring.proofs.transferring.Reads as transferring-reads
 
--- src/lib.rt:429:13
 cast-p : tie.Need-cast-p
 cast-p c = search needs
 
--- src/lib.rt:429:13
 add-p : tie.Need-add-p
 add-p c = search needs
 
--- src/lib.rt:430:9
 alightings-requires : tie.Need-alightings-requires
 alightings-requires c κs = search needs
 
--- src/lib.rt:445:9
 same-length : tie.Need-same-length
 same-length c = search needs
 
--- src/lib.rt:445:9
 same-length-2 : tie.Need-same-length-2
 same-length-2 c = search needs
 
--- src/lib.rt:445:9
 same-length-3 : tie.Need-same-length-3
 same-length-3 c = search needs
 
--- src/lib.rt:445:9
 returns : tie.Need-returns
 returns c = let a = c .before .before .before .before .before .before .before .before .before .before .before .before .before .before .before .before .before .before .before .before .before .before in let x = a .args in let r = x .ride in queue-as _ (queue-step (now (x .queue)) (c .before .before .before .before .before .before .before .alightings .ensures) (a .pre .1 .1 .1 .none) (a .pre .1 .1 .1 .room)) (λ T Q y. record { agree = y .agree; egress = y .egress }) (λ T Q y. scan-plain T Q (r .stamp) (hitOf (x .adj)) (r .shift) (r .trip) (r .stop) (r .offset) (x .flagged) _ (c .if1 .taken))
 
--- src/lib.rt:447:5
 transferring-requires : tie.Need-transferring-requires
 transferring-requires c κs = let a = c .before .before .before .before .before .before .before .before .before .before .before .before .before .before .before .before .before .before .before .before .before .before .before .before .before .before in let x = a .args in let r = x .ride in let s = c .before .before .before .before .before .before .before .before .before .before .before .alightings .ensures in (netted-kept (s .same) (a .pre .0), (a .pre .1 .0, (s .ready, record { none = s .full ∙ a .pre .1 .1 .1 .none; room = omega (arith, s .queued, a .pre .1 .1 .1 .room) })))
 
--- src/lib.rt:407:1
 same-length-4 : tie.Need-same-length-4
 same-length-4 c = search needs
 
--- src/lib.rt:407:1
 same-length-5 : tie.Need-same-length-5
 same-length-5 c = search needs
 
--- src/lib.rt:407:1
 same-length-6 : tie.Need-same-length-6
 same-length-6 c = search needs
 
--- src/lib.rt:407:1
 same-length-7 : tie.Need-same-length-7
 same-length-7 c = search needs
 
--- src/lib.rt:407:1
 returns-2 : tie.Need-returns-2
 returns-2 c = let a = c .before .before .before .before .before .before .before .before .before .before .before .before .before .before .before .before .before .before .before .before .before .before .before .before .before .before .before .before .before .before .before .before .before .before .before in let x = a .args in let r = x .ride in let s = c .before .before .before .before .before .before .before .before .before .before .before .before .before .before .before .before .before .before .before .before .alightings .ensures in queue-as _ (queue-then (Nets (now (x .t)) (x .c) (now (x .rows)) (now (x .stop-rows)) (now (x .built)) (now (x .bytes)) (now (x .area)) (x .net) (x .lay) (now (x .work))) (queue-step (now (x .queue)) (c .before .before .before .before .before .before .before .before .before .before .before .before .before .before .before .before .before .before .before .before .alightings .ensures) (a .pre .1 .1 .1 .none) (a .pre .1 .1 .1 .room)) (s .full ∙ a .pre .1 .1 .1 .none) (c .before .before .before .before .before .before .before .before .transferring .ensures) (λ T Q y. (record { agree = y .agree; egress = y .egress }, nets-kept (s .same) (a .pre .0 .past) y))) (λ T Q y. y) (λ T Q y. scan-flagged T Q (r .stamp) (hitOf (x .adj)) (r .shift) (r .trip) (r .stop) (r .offset) (x .flagged) _ (c .before .before .before .before .before .before .before .before .before .before .before .before .before .if1 .left))
 
