@@ -32,6 +32,15 @@ pub struct Net {
     pub events: usize,
 }
 
+// A trip that is scanned: the timetable's counts, what transfers read, where the query's numbers stand, the trip's delay row, the ride.
+pub struct Scan {
+    pub counts: Counts,
+    pub net: Net,
+    pub lay: Lay,
+    pub adj: Found,
+    pub ride: Ride,
+}
+
 // Is drop-off 1 at a trip's stop time?
 fn no_drop_off(
     t: &[u32],
@@ -75,35 +84,33 @@ pub fn shut(
 // Alighting at the trip's stop times from offset `p` on, until one is not before the best total.
 pub fn alightings(
     t: &[u32],
-    c: Counts,
     rows: &[u32],
     stop_rows: &[u32],
-    adj: Found,
-    lay: Lay,
-    ride: Ride,
+    s: Scan,
     p: usize,
     work: &mut [u32],
     labels: &mut [u32],
     distances: &mut [f64],
     h: Head,
 ) -> Head
-    requires { ⌜ Riding (now t) c (now rows) (now «stop_rows») adj lay ride ⌝ ∗ ⌜ Ready lay (ride .stamp) (memory (now work) (now labels) (now distances) h) ⌝ }
-    ensures { λ x. ⌜ Step lay (ride .stamp) (Reads (now (t .entry)) c (now (rows .entry)) (now («stop_rows» .entry)) lay (now (work .entry))) (λ T Q. alighted T Q (ride .stamp) (hitOf adj) (ride .shift) (ride .trip) (ride .stop) (ride .offset) (stopCount T (ride .trip) - p) p) (memory (now (work .entry)) (now (labels .entry)) (now (distances .entry)) h) (memory (now (work .exit)) (now (labels .exit)) (now (distances .exit)) x) ⌝ }
+    requires { ⌜ Riding (now t) (s .counts) (now rows) (now «stop_rows») (s .adj) (s .lay) (s .ride) ⌝ ∗ ⌜ Ready (s .lay) (s .ride .stamp) (memory (now work) (now labels) (now distances) h) ⌝ }
+    ensures { λ x. ⌜ Step (s .lay) (s .ride .stamp) (Reads (now (t .entry)) (s .counts) (now (rows .entry)) (now («stop_rows» .entry)) (s .lay) (now (work .entry))) (λ T Q. alighted T Q (s .ride .stamp) (hitOf (s .adj)) (s .ride .shift) (s .ride .trip) (s .ride .stop) (s .ride .offset) (stopCount T (s .ride .trip) - p) p) (memory (now (work .entry)) (now (labels .entry)) (now (distances .entry)) h) (memory (now (work .exit)) (now (labels .exit)) (now (distances .exit)) x) ⌝ }
 {
-    let trip = ride.trip as usize;
-    let n = tables::trip(t, c, trip, 1);
+    let trip = s.ride.trip as usize;
+    let adj = s.adj;
+    let n = tables::trip(t, s.counts, trip, 1);
     let mut x = h;
     let mut o = p;
     while o < n {
-        if shut(t, c, rows, stop_rows, adj, true, trip, o) {
+        if shut(t, s.counts, rows, stop_rows, adj, true, trip, o) {
             o += 1;
             continue;
         }
-        let v = boarding::arrival_now(t, c, rows, stop_rows, adj, ride.shift, trip, o);
+        let v = boarding::arrival_now(t, s.counts, rows, stop_rows, adj, s.ride.shift, trip, o);
         if x.best <= v {
             return x;
         }
-        x = scratch::alight(t, c, lay, ride, o, v, work, labels, distances, x);
+        x = scratch::alight(t, s.counts, s.lay, s.ride, o, v, work, labels, distances, x);
         o += 1;
     }
     x

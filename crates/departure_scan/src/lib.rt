@@ -17,53 +17,49 @@ ghost use Rattle.scratch.specs.View.{memory};
 ghost use Rattle.departures.specs.Listed.{RowsKnown};
 ghost use Rattle.riding.specs.Laid.{Rides};
 ghost use Rattle.riding.specs.Going.{Going, Rode, taken};
-use alighting::Net;
-use asking::QueryCounts;
+use alighting::Scan;
 use boarding::Terms;
 use frequency::FreqBoard;
+use riding::Phase;
 use scratch::Head;
-use scratch::Lay;
 use scratch::Ride;
 use tables::Counts;
 
 // One listed departure of stop x, without the test whether it is too late: boarded not before `after`, if it can be, and scanned.
 fn take_departure(
-    n: QueryCounts,
     t: &[u32],
     rows: &[u32],
     stop_rows: &[u32],
     built: &[u32],
     bytes: &[u8],
     area: &[u32],
-    net: Net,
-    flagged: bool,
-    stamp: u32,
+    p: Phase,
     x: u32,
     after: u32,
     trip: u32,
     off: u32,
-    lay: Lay,
     work: &mut [u32],
     labels: &mut [u32],
     distances: &mut [f64],
     queue: &mut [u32],
     h: Head,
 ) -> Head
-    requires { ⌜ Going n (now t) (now rows) (now «stop_rows») (now built) (now bytes) (now area) net lay stamp (memory (now work) (now labels) (now distances) h) (now queue) ⌝ ∗ ⌜ Event (now t) (n .timetable) trip off ⌝ ∗ ⌜ after < 134217728 ⌝ }
-    ensures { λ r. ⌜ Rode lay stamp (Rides n (now (t .entry)) (now (rows .entry)) (now («stop_rows» .entry)) (now (built .entry)) (now (bytes .entry)) (now (area .entry)) net lay (now (work .entry))) (λ T Q. taken T Q flagged (stamp - 2) stamp x after (record { trip = trip; offset = off })) (memory (now (work .entry)) (now (labels .entry)) (now (distances .entry)) h) (memory (now (work .exit)) (now (labels .exit)) (now (distances .exit)) r) (now (queue .entry)) (now (queue .exit)) ⌝ }
+    requires { ⌜ Going (p .counts) (now t) (now rows) (now «stop_rows») (now built) (now bytes) (now area) (p .net) (p .lay) (p .stamp) (memory (now work) (now labels) (now distances) h) (now queue) ⌝ ∗ ⌜ Event (now t) (p .counts .timetable) trip off ⌝ ∗ ⌜ after < 134217728 ⌝ }
+    ensures { λ r. ⌜ Rode (p .lay) (p .stamp) (Rides (p .counts) (now (t .entry)) (now (rows .entry)) (now («stop_rows» .entry)) (now (built .entry)) (now (bytes .entry)) (now (area .entry)) (p .net) (p .lay) (now (work .entry))) (λ T Q. taken T Q (p .flagged) (p .stamp - 2) (p .stamp) x after (record { trip = trip; offset = off })) (memory (now (work .entry)) (now (labels .entry)) (now (distances .entry)) h) (memory (now (work .exit)) (now (labels .exit)) (now (distances .exit)) r) (now (queue .entry)) (now (queue .exit)) ⌝ }
 {
-    let c = n.timetable;
-    let terms = net.terms;
+    let counts = p.counts.timetable;
+    let net = p.net;
+    let lay = p.lay;
     let adj = boarding::delay_of(rows, trip);
     let found = listed::board_listed(
         t,
-        c,
+        counts,
         rows,
         stop_rows,
         built,
-        terms,
+        net.terms,
         lay,
-        stamp,
+        p.stamp,
         adj,
         trip as usize,
         off as usize,
@@ -76,7 +72,7 @@ fn take_departure(
     };
     boardings::note(
         lay,
-        stamp,
+        p.stamp,
         built,
         adj,
         trip as usize,
@@ -85,25 +81,28 @@ fn take_departure(
         work,
     );
     let ride = Ride {
-        stamp,
+        stamp: p.stamp,
         trip,
         stop: x,
         offset: off,
         shift: b.time_shift_s,
     };
+    let s = Scan {
+        counts,
+        net,
+        lay,
+        adj,
+        ride,
+    };
     trip_scan::scan_trip_forward(
         t,
-        c,
         rows,
         stop_rows,
         built,
         bytes,
         area,
-        net,
-        flagged,
-        adj,
-        lay,
-        ride,
+        s,
+        p.flagged,
         work,
         labels,
         distances,
@@ -133,20 +132,16 @@ fn too_late(
 
 // The departures of stop x in `list`, one by one; at a stop without frequency trips until one is too late.
 pub fn scan_departures(
-    n: QueryCounts,
     t: &[u32],
     rows: &[u32],
     stop_rows: &[u32],
     built: &[u32],
     bytes: &[u8],
     area: &[u32],
-    net: Net,
-    flagged: bool,
-    stamp: u32,
+    p: Phase,
     has_freq: bool,
     x: u32,
     after: u32,
-    lay: Lay,
     list: &[u32],
     work: &mut [u32],
     labels: &mut [u32],
@@ -154,8 +149,8 @@ pub fn scan_departures(
     queue: &mut [u32],
     h: Head,
 ) -> Head
-    requires { ⌜ Going n (now t) (now rows) (now «stop_rows») (now built) (now bytes) (now area) net lay stamp (memory (now work) (now labels) (now distances) h) (now queue) ⌝ ∗ ⌜ RowsKnown (now t) (n .timetable) (now list) (length (now list) / 2) ⌝ ∗ ⌜ after < 134217728 ⌝ }
-    ensures { λ r. ⌜ Rode lay stamp (Rides n (now (t .entry)) (now (rows .entry)) (now («stop_rows» .entry)) (now (built .entry)) (now (bytes .entry)) (now (area .entry)) net lay (now (work .entry))) (λ T Q. scanDepartures T Q flagged «has_freq» (stamp - 2) stamp x after (rowsOf (now (list .entry)) (length (now (list .entry)) / 2))) (memory (now (work .entry)) (now (labels .entry)) (now (distances .entry)) h) (memory (now (work .exit)) (now (labels .exit)) (now (distances .exit)) r) (now (queue .entry)) (now (queue .exit)) ⌝ }
+    requires { ⌜ Going (p .counts) (now t) (now rows) (now «stop_rows») (now built) (now bytes) (now area) (p .net) (p .lay) (p .stamp) (memory (now work) (now labels) (now distances) h) (now queue) ⌝ ∗ ⌜ RowsKnown (now t) (p .counts .timetable) (now list) (length (now list) / 2) ⌝ ∗ ⌜ after < 134217728 ⌝ }
+    ensures { λ r. ⌜ Rode (p .lay) (p .stamp) (Rides (p .counts) (now (t .entry)) (now (rows .entry)) (now («stop_rows» .entry)) (now (built .entry)) (now (bytes .entry)) (now (area .entry)) (p .net) (p .lay) (now (work .entry))) (λ T Q. scanDepartures T Q (p .flagged) «has_freq» (p .stamp - 2) (p .stamp) x after (rowsOf (now (list .entry)) (length (now (list .entry)) / 2))) (memory (now (work .entry)) (now (labels .entry)) (now (distances .entry)) h) (memory (now (work .exit)) (now (labels .exit)) (now (distances .exit)) r) (now (queue .entry)) (now (queue .exit)) ⌝ }
 {
     let m = list.len() / 2;
     let mut g = h;
@@ -164,27 +159,23 @@ pub fn scan_departures(
         let at = i * 2;
         let trip = list[at];
         let off = list[at + 1];
-        let c = n.timetable;
-        let terms = net.terms;
+        let c = p.counts.timetable;
+        let terms = p.net.terms;
         if too_late(t, c, terms, has_freq, trip as usize, off as usize, g.best) {
             return g;
         }
         g = take_departure(
-            n,
             t,
             rows,
             stop_rows,
             built,
             bytes,
             area,
-            net,
-            flagged,
-            stamp,
+            p,
             x,
             after,
             trip,
             off,
-            lay,
             work,
             labels,
             distances,

@@ -11,9 +11,10 @@ use lib.Ieee.{Float}
 use lib.Dec.{ltb, leb, eqb}
 use borrow.Author.Tests.{lt-ltb, lt-leb, le-leb, ne-eqb}
 use Rattle.loops.specs.Count.{tabFrom}
+use Rattle.tables.specs.declared.Counts.{Counts}
 use Rattle.tables.specs.Timetable.{Timetable, timetable}
 use Rattle.departures.specs.declared.DepartureRow.{DepartureRow}
-use Rattle.departures.specs.Departures.{rowAt, rowsOf, rowDeparture, runLength, departuresOf}
+use Rattle.departures.specs.Departures.{rowAt, rowsOf, rowDeparture, runLength}
 use Rattle.departures.specs.Listed.{RowsKnown}
 use Rattle.departures.proofs.Parts.{stop-known}
 use Rattle.model.specs.Tables.{never, Tables, Query, changeBefore, stops, departure}
@@ -33,6 +34,7 @@ use Rattle.listed.specs.Listed.{Ordered}
 use Rattle.riding.specs.Laid.{Rides, Laid, Kept, otherAt, Waiting}
 use Rattle.riding.specs.Phase.{Seen}
 use Rattle.riding.specs.Going.{Going, Rode, Changing}
+use Rattle.rides.specs.Scanned.{listAt, rowsIn, scanned}
 use Rattle.riding.proofs.Keep.{other-kept}
 use Rattle.riding.proofs.Riding.{ride-none, ride-as}
 
@@ -47,6 +49,12 @@ module _ (T : Tables) (Q : Query) (flagged : Bool) (round stamp : ℕ) where
           | false ↦ scanDepartures T Q flagged false round stamp x (at (s .arrivals) x + changeBefore Q round) (notBefore T (at (s .arrivals) x + changeBefore Q round - marginOf T Q) (departuresAt T x)) s
         ]
       ]
+
+  scanned-by : (mark : Bool) (x : ℕ) (s : State)
+      → scanDepartures T Q flagged mark round stamp x (at (s .arrivals) x + changeBefore Q round) (scanned T mark (at (s .arrivals) x + changeBefore Q round - marginOf T Q) (departuresAt T x)) s
+      ≡ stopBy false mark x s
+  scanned-by true x s = refl
+  scanned-by false x s = refl
 
   abbrev lateAt : ℕ → State → Bool
   lateAt x s = eqb (at (s .arrivals) x) never || leb (s .arrivals .best) (at (s .arrivals) x + changeBefore Q round)
@@ -102,7 +110,7 @@ order-at T f n r i (suc d) u =
 
 -- THE DEPARTURES of a stop, as they are handed on
 module _ {n : QueryCounts} {t rows stopRows built bytes area : List ℕ} {net : Net} {lay : Lay} {w : List ℕ} (L : Laid n t rows stopRows built bytes area net lay w)
-    (x : ℕ) (in-stops : x < n .timetable .stops) (list : List ℕ) (is : list ≡ departuresOf (stopRuns built n) (departureRows built n) x) where
+    (x : ℕ) (in-stops : x < n .timetable .stops) (list : List ℕ) (is : list ≡ listAt built n x) where
   run-known : RowsKnown t (n .timetable) list (runLength (stopRuns built n) x)
   run-known = rw is (stop-known t (n .timetable) (stopRuns built n) (departureRows built n) (n .departures) x (L .listed .known) (L .listed .stops) in-stops)
 
@@ -143,6 +151,18 @@ module _ {n : QueryCounts} {t rows stopRows built bytes area : List ℕ} {net : 
   unfolding markAt
   mark-is T Q y = ap (λ (b : Bool). b && eqb (T .mark x) 1) (in-table T Q y) ∙ ap (λ (k : ℕ). eqb k 1) (y .mark x in-stops)
 
+-- those that are scanned, as they are found
+module _ (t : List ℕ) (c : Counts) (list d : List ℕ) (mark : Bool) (m : ℕ) (is : d ≡ list) where
+  abbrev Found : List ℕ → Type 0
+  Found r = RowsKnown t c r (length r / 2) × ((T : Tables) → T .timetable ≡ timetable t c → rowsIn r ≡ scanned T mark m (rowsIn list))
+
+  pub all-scanned : mark ≡ true → Ordered t c list (length list / 2) → Found d
+  all-scanned e o =
+      (subst (λ (l : List ℕ). RowsKnown t c l (length l / 2)) (sym is) (o .known), λ T y. ap rowsIn is ∙ ap (λ (b : Bool). scanned T b m (rowsIn list)) (sym e))
+
+  pub late-scanned : mark ≡ false → (r : List ℕ) → Ordered t c r (length r / 2) → ((T : Tables) → T .timetable ≡ timetable t c → rowsIn r ≡ notBefore T m (rowsIn d)) → Found r
+  late-scanned e r o g = (o .known, λ T y. g T y ∙ ap (λ (l : List ℕ). notBefore T m (rowsIn l)) is ∙ ap (λ (b : Bool). scanned T b m (rowsIn list)) (sym e))
+
 -- ONE STOP
 module _ {n : QueryCounts} {t rows stopRows built bytes area : List ℕ} {net : Net} {lay : Lay} {stamp : ℕ} {w l : List ℕ} {m : List Float} {h : Head} {q : List ℕ}
     (G : Going n t rows stopRows built bytes area net lay stamp (memory w l m h) q) (flagged : Bool) (round change x : ℕ) (in-stops : x < n .timetable .stops)
@@ -167,7 +187,7 @@ module _ {n : QueryCounts} {t rows stopRows built bytes area : List ℕ} {net : 
       ride-none (λ T Q. scanStops T Q flagged round stamp (x ∷ [])) (memory w l m h) q (G .ready) (G .chains) (G .room)
       (λ T Q y s e. sym (ap (λ (b : Bool). stopBy T Q flagged round stamp b (markAt T x) x s) (late-is T Q y s e ∙ le-leb (h .best) (getD w x 0 + change) u)) ∙ stop-one T Q flagged round stamp x s)
 
-  module _ (u : getD w x 0 + change < h .best) (list : List ℕ) (is : list ≡ departuresOf (stopRuns built n) (departureRows built n) x)
+  module _ (u : getD w x 0 + change < h .best) (list : List ℕ) (is : list ≡ listAt built n x)
       (mark : Bool) (told : mark ≡ eqb (getD built (marksAt n + x) 0) 1) where
     stop-by : (b : Bool) → mark ≡ b → (T : Tables) (Q : Query) → agree T Q → (s : State) → Seen lay stamp T Q (memory w l m h) q s
         → stopBy T Q flagged round stamp false b x s ≡ scanStops T Q flagged round stamp (x ∷ []) s
@@ -176,26 +196,17 @@ module _ {n : QueryCounts} {t rows stopRows built bytes area : List ℕ} {net : 
         (sym o ∙ told ∙ sym (mark-is (G .laid) x in-stops list is T Q (y .rides)))
         ∙ stop-one T Q flagged round stamp x s
 
-    -- a marked stop: all its departures
-    pub stop-marked : mark ≡ true → {b : Memory} {q′ : List ℕ}
-        → Rode lay stamp (Rides n t rows stopRows built bytes area net lay w) (λ T Q. scanDepartures T Q flagged true round stamp x (getD w x 0 + change) (rowsOf list (length list / 2))) (memory w l m h) b q q′
+    -- those of its departures that are scanned: of an unmarked one those that a delay may bring to the time or later
+    pub stop-scanned : (from : ℕ) → from ≡ getD w x 0 + change - net .terms .margin → (ds : List ℕ)
+        → ((T : Tables) → T .timetable ≡ timetable t (n .timetable) → rowsIn ds ≡ scanned T mark from (rowsIn list)) → {b : Memory} {q′ : List ℕ}
+        → Rode lay stamp (Rides n t rows stopRows built bytes area net lay w) (λ T Q. scanDepartures T Q flagged mark round stamp x (getD w x 0 + change) (rowsIn ds)) (memory w l m h) b q q′
         → Rode lay stamp agree (λ T Q. scanStops T Q flagged round stamp (x ∷ [])) (memory w l m h) b q q′
-    stop-marked o z =
-        ride-as (λ T Q. scanStops T Q flagged round stamp (x ∷ [])) z (λ T Q y. y .rides)
-        (λ T Q y s e.
-        ap₂ (λ (k : ℕ) (ds : List DepartureRow). scanDepartures T Q flagged true round stamp x k ds s) (sym (after-is T Q y s e)) (sym (listed-are (G .laid) x in-stops list is T Q (y .rides)))
-        ∙ stop-by true o T Q y s e)
-
-    -- an unmarked one: those that a delay may bring to the time or later
-    pub stop-plain : mark ≡ false → (from : ℕ) → from ≡ getD w x 0 + change - net .terms .margin → (late : List ℕ)
-        → ((T : Tables) → T .timetable ≡ timetable t (n .timetable) → rowsOf late (length late / 2) ≡ notBefore T from (rowsOf list (length list / 2))) → {b : Memory} {q′ : List ℕ}
-        → Rode lay stamp (Rides n t rows stopRows built bytes area net lay w) (λ T Q. scanDepartures T Q flagged false round stamp x (getD w x 0 + change) (rowsOf late (length late / 2))) (memory w l m h) b q q′
-        → Rode lay stamp agree (λ T Q. scanStops T Q flagged round stamp (x ∷ [])) (memory w l m h) b q q′
-    stop-plain o from f late g z =
+    stop-scanned from f ds g z =
         ride-as (λ T Q. scanStops T Q flagged round stamp (x ∷ [])) z (λ T Q y. y .rides)
         (λ T Q y s e.
         let v = sym (after-is T Q y s e) in
         let c = f ∙ ap₂ (λ (i j : ℕ). i - j) v (sym (y .rides .nets .asks .margin)) in
-        ap₂ (λ (k : ℕ) (ds : List DepartureRow). scanDepartures T Q flagged false round stamp x k ds s) v
-        (g T (y .rides .nets .agree .timetable) ∙ ap₂ (λ (k : ℕ) (ds : List DepartureRow). notBefore T k ds) c (sym (listed-are (G .laid) x in-stops list is T Q (y .rides))))
-        ∙ stop-by false o T Q y s e)
+        ap₂ (λ (k : ℕ) (es : List DepartureRow). scanDepartures T Q flagged mark round stamp x k es s) v
+        (g T (y .rides .nets .agree .timetable) ∙ ap₂ (λ (k : ℕ) (es : List DepartureRow). scanned T mark k es) c (sym (listed-are (G .laid) x in-stops list is T Q (y .rides))))
+        ∙ scanned-by T Q flagged round stamp mark x s
+        ∙ stop-by mark refl T Q y s e)

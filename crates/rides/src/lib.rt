@@ -1,27 +1,32 @@
 // rides: the ride phase of a round: the queued segments ridden (`segments`), then the departures of the stops reached before scanned
 // (`departure_scan`), from the first not too early on.
+// Specs: which departures of a stop are scanned (Scanned).
 // Proves: each function is the model's of the same name on the state in memory, for all tables and queries that agree with what is
 // read; what is read stays as it came (`riding` specs/Laid, Phase, Going).
 // Assumes nothing.
 ghost use mathlib.Core.Path.{_≡_};
+ghost use mathlib.Core.Bool.{cond};
 ghost use mathlib.Core.List.{[], _∷_};
-ghost use Prim.Native.Nat.{_+_, _-_, _≤_, _<_};
+ghost use Prim.Native.Nat.{_+_, _-_, _/_, _≤_, _<_};
 ghost use lib.ListN.{length, getD};
 ghost use lib.Dec.{eqb};
 ghost use Rattle.door.specs.Door.{timeLimit};
 ghost use Rattle.tables.specs.Timetable.{timetable};
+ghost use Rattle.departures.specs.Listed.{RowsKnown, RunsListed};
+ghost use Rattle.model.specs.Tables.{Tables};
 ghost use Rattle.model.specs.Search.{scanStops};
 ghost use Rattle.scratch.specs.Part.{part};
 ghost use Rattle.scratch.specs.View.{memory};
-ghost use Rattle.asking.specs.Lent.{marksAt};
+ghost use Rattle.asking.specs.Lent.{marksAt, stopRuns};
 ghost use Rattle.asking.specs.Sane.{Limits};
+ghost use Rattle.listed.specs.Listed.{Ordered};
 ghost use Rattle.riding.specs.Laid.{Rides, Laid, Waiting};
 ghost use Rattle.riding.specs.Phase.{Opening, RidePhase};
 ghost use Rattle.riding.specs.Going.{Going, Rode, Changing};
-use alighting::Net;
+ghost use Rattle.rides.specs.Scanned.{listAt, rowsIn, scanned};
 use asking::QueryCounts;
+use riding::Phase;
 use scratch::Head;
-use scratch::Lay;
 
 // Is the frequency mark of stop x 1?
 fn marked(n: QueryCounts, built: &[u32], x: usize) -> bool
@@ -43,79 +48,64 @@ fn less(after: u32, margin: u32) -> u32
     after - margin
 }
 
+// The departures of stop x that are scanned: from the first on that is not before `m`; all of them where it has frequency trips.
+fn departures_from<'a>(
+    t: &[u32],
+    n: QueryCounts,
+    built: &'a [u32],
+    x: usize,
+    has_freq: bool,
+    m: u32,
+) -> &'a [u32]
+    requires { ⌜ Limits n ⌝ ∗ ⌜ marksAt n ≤ length (now built) ⌝ ∗ ⌜ RunsListed (n .timetable) (stopRuns (now built) n) (n .departures) ⌝ ∗ ⌜ x < n .timetable .stops ⌝ ∗ ⌜ Ordered (now t) (n .timetable) (listAt (now built) n x) (length (listAt (now built) n x) / 2) ⌝ }
+    ensures { λ r. ⌜ RowsKnown (now (t .entry)) (n .timetable) (now r) (length (now r) / 2) ⌝ ∗ ⌜ ((T : Tables) → T .timetable ≡ timetable (now (t .entry)) (n .timetable) → rowsIn (now r) ≡ scanned T «has_freq» m (rowsIn (listAt (now (built .entry)) n x))) ⌝ }
+{
+    let list = listed::departures_at(n, built, x);
+    if has_freq {
+        return list;
+    }
+    listed::not_before(t, n.timetable, list, m)
+}
+
 // The departures of stop x, reached before, are scanned where they can be before the best total.
 fn scan_stop(
-    n: QueryCounts,
     t: &[u32],
     rows: &[u32],
     stop_rows: &[u32],
     built: &[u32],
     bytes: &[u8],
     area: &[u32],
-    net: Net,
-    flagged: bool,
-    stamp: u32,
-    change: u32,
+    p: Phase,
     x: usize,
-    lay: Lay,
     work: &mut [u32],
     labels: &mut [u32],
     distances: &mut [f64],
     queue: &mut [u32],
     h: Head,
 ) -> Head
-    requires { ⌜ Going n (now t) (now rows) (now «stop_rows») (now built) (now bytes) (now area) net lay stamp (memory (now work) (now labels) (now distances) h) (now queue) ⌝ ∗ ⌜ x < n .timetable .stops ⌝ ∗ ⌜ getD (now work) x 0 ≤ 108003224 ⌝ ∗ ⌜ change ≤ timeLimit ⌝ }
-    ensures { λ r. ⌜ Rode lay stamp (Changing n (now (t .entry)) (now (rows .entry)) (now («stop_rows» .entry)) (now (built .entry)) (now (bytes .entry)) (now (area .entry)) net lay (stamp - 2) change (now (work .entry))) (λ T Q. scanStops T Q flagged (stamp - 2) stamp (x ∷ [])) (memory (now (work .entry)) (now (labels .entry)) (now (distances .entry)) h) (memory (now (work .exit)) (now (labels .exit)) (now (distances .exit)) r) (now (queue .entry)) (now (queue .exit)) ⌝ }
+    requires { ⌜ Going (p .counts) (now t) (now rows) (now «stop_rows») (now built) (now bytes) (now area) (p .net) (p .lay) (p .stamp) (memory (now work) (now labels) (now distances) h) (now queue) ⌝ ∗ ⌜ x < p .counts .timetable .stops ⌝ ∗ ⌜ getD (now work) x 0 ≤ 108003224 ⌝ ∗ ⌜ p .change ≤ timeLimit ⌝ }
+    ensures { λ r. ⌜ Rode (p .lay) (p .stamp) (Changing (p .counts) (now (t .entry)) (now (rows .entry)) (now («stop_rows» .entry)) (now (built .entry)) (now (bytes .entry)) (now (area .entry)) (p .net) (p .lay) (p .stamp - 2) (p .change) (now (work .entry))) (λ T Q. scanStops T Q (p .flagged) (p .stamp - 2) (p .stamp) (x ∷ [])) (memory (now (work .entry)) (now (labels .entry)) (now (distances .entry)) h) (memory (now (work .exit)) (now (labels .exit)) (now (distances .exit)) r) (now (queue .entry)) (now (queue .exit)) ⌝ }
 {
-    let after = work[x] + change;
+    let after = work[x] + p.change;
     if h.best <= after {
         return h;
     }
-    let stop = x as u32;
-    let list = listed::departures_at(n, built, x);
-    if marked(n, built, x) {
-        return departure_scan::scan_departures(
-            n,
-            t,
-            rows,
-            stop_rows,
-            built,
-            bytes,
-            area,
-            net,
-            flagged,
-            stamp,
-            true,
-            stop,
-            after,
-            lay,
-            list,
-            work,
-            labels,
-            distances,
-            queue,
-            h,
-        );
-    }
-    let margin = net.terms.margin;
+    let has_freq = marked(p.counts, built, x);
+    let margin = p.net.terms.margin;
     let from = less(after, margin);
-    let late = listed::not_before(t, n.timetable, list, from);
+    let list = departures_from(t, p.counts, built, x, has_freq, from);
     departure_scan::scan_departures(
-        n,
         t,
         rows,
         stop_rows,
         built,
         bytes,
         area,
-        net,
-        flagged,
-        stamp,
-        false,
-        stop,
+        p,
+        has_freq,
+        x as u32,
         after,
-        lay,
-        late,
+        list,
         work,
         labels,
         distances,
@@ -126,47 +116,37 @@ fn scan_stop(
 
 // The first `count` stops of lay.other, one by one, until a segment does not fit.
 fn scan_stops(
-    n: QueryCounts,
     t: &[u32],
     rows: &[u32],
     stop_rows: &[u32],
     built: &[u32],
     bytes: &[u8],
     area: &[u32],
-    net: Net,
-    flagged: bool,
-    stamp: u32,
-    change: u32,
+    p: Phase,
     count: usize,
-    lay: Lay,
     work: &mut [u32],
     labels: &mut [u32],
     distances: &mut [f64],
     queue: &mut [u32],
     h: Head,
 ) -> Head
-    requires { ⌜ Going n (now t) (now rows) (now «stop_rows») (now built) (now bytes) (now area) net lay stamp (memory (now work) (now labels) (now distances) h) (now queue) ⌝ ∗ ⌜ Waiting lay (now work) count ⌝ ∗ ⌜ change ≤ timeLimit ⌝ }
-    ensures { λ r. ⌜ Rode lay stamp (Changing n (now (t .entry)) (now (rows .entry)) (now («stop_rows» .entry)) (now (built .entry)) (now (bytes .entry)) (now (area .entry)) net lay (stamp - 2) change (now (work .entry))) (λ T Q. scanStops T Q flagged (stamp - 2) stamp (part (now (work .entry)) (lay .other) count)) (memory (now (work .entry)) (now (labels .entry)) (now (distances .entry)) h) (memory (now (work .exit)) (now (labels .exit)) (now (distances .exit)) r) (now (queue .entry)) (now (queue .exit)) ⌝ }
+    requires { ⌜ Going (p .counts) (now t) (now rows) (now «stop_rows») (now built) (now bytes) (now area) (p .net) (p .lay) (p .stamp) (memory (now work) (now labels) (now distances) h) (now queue) ⌝ ∗ ⌜ Waiting (p .lay) (now work) count ⌝ ∗ ⌜ p .change ≤ timeLimit ⌝ }
+    ensures { λ r. ⌜ Rode (p .lay) (p .stamp) (Changing (p .counts) (now (t .entry)) (now (rows .entry)) (now («stop_rows» .entry)) (now (built .entry)) (now (bytes .entry)) (now (area .entry)) (p .net) (p .lay) (p .stamp - 2) (p .change) (now (work .entry))) (λ T Q. scanStops T Q (p .flagged) (p .stamp - 2) (p .stamp) (part (now (work .entry)) (p .lay .other) count)) (memory (now (work .entry)) (now (labels .entry)) (now (distances .entry)) h) (memory (now (work .exit)) (now (labels .exit)) (now (distances .exit)) r) (now (queue .entry)) (now (queue .exit)) ⌝ }
 {
     let mut g = h;
     let mut i: usize = 0;
     while i < count {
-        let at = lay.other + i;
+        let at = p.lay.other + i;
         let x = work[at] as usize;
         g = scan_stop(
-            n,
             t,
             rows,
             stop_rows,
             built,
             bytes,
             area,
-            net,
-            flagged,
-            stamp,
-            change,
+            p,
             x,
-            lay,
             work,
             labels,
             distances,
@@ -181,21 +161,23 @@ fn scan_stops(
     g
 }
 
+// How many of the queued segments are ridden: with arc flags in use all of them, else none.
+fn ridden(flagged: bool, queued: usize) -> usize
+    ensures { λ r. ⌜ r ≡ cond flagged queued 0 ⌝ }
+{
+    if flagged { queued } else { 0 }
+}
+
 // THE RIDE PHASE of a round: the segments in `from` are ridden, then the departures of the first h.count stops of lay.other scanned; the stops reached
 // go to lay.list, the segments queued to `queue`.
 pub fn ride_phase(
-    n: QueryCounts,
     t: &[u32],
     rows: &[u32],
     stop_rows: &[u32],
     built: &[u32],
     bytes: &[u8],
     area: &[u32],
-    net: Net,
-    flagged: bool,
-    stamp: u32,
-    change: u32,
-    lay: Lay,
+    p: Phase,
     from: &[u32],
     work: &mut [u32],
     labels: &mut [u32],
@@ -203,52 +185,26 @@ pub fn ride_phase(
     queue: &mut [u32],
     h: Head,
 ) -> Head
-    requires { ⌜ Laid n (now t) (now rows) (now «stop_rows») (now built) (now bytes) (now area) net lay (now work) ⌝ ∗ ⌜ Opening (n .timetable) lay stamp change (memory (now work) (now labels) (now distances) h) (now from) ⌝ }
-    ensures { λ x. ⌜ RidePhase lay flagged stamp change (Rides n (now (t .entry)) (now (rows .entry)) (now («stop_rows» .entry)) (now (built .entry)) (now (bytes .entry)) (now (area .entry)) net lay (now (work .entry))) (memory (now (work .entry)) (now (labels .entry)) (now (distances .entry)) h) (memory (now (work .exit)) (now (labels .exit)) (now (distances .exit)) x) (now (from .entry)) (now (queue .entry)) (now (queue .exit)) ⌝ }
+    requires { ⌜ Laid (p .counts) (now t) (now rows) (now «stop_rows») (now built) (now bytes) (now area) (p .net) (p .lay) (now work) ⌝ ∗ ⌜ Opening (p .counts .timetable) (p .lay) (p .stamp) (p .change) (memory (now work) (now labels) (now distances) h) (now from) ⌝ }
+    ensures { λ x. ⌜ RidePhase (p .lay) (p .flagged) (p .stamp) (p .change) (Rides (p .counts) (now (t .entry)) (now (rows .entry)) (now («stop_rows» .entry)) (now (built .entry)) (now (bytes .entry)) (now (area .entry)) (p .net) (p .lay) (now (work .entry))) (memory (now (work .entry)) (now (labels .entry)) (now (distances .entry)) h) (memory (now (work .exit)) (now (labels .exit)) (now (distances .exit)) x) (now (from .entry)) (now (queue .entry)) (now (queue .exit)) ⌝ }
 {
     let count = h.count;
-    let m = h.queued;
+    let m = ridden(p.flagged, h.queued);
     let g = Head {
         best: h.best,
         count: 0,
         queued: 0,
         full: false,
     };
-    if !flagged {
-        return scan_stops(
-            n,
-            t,
-            rows,
-            stop_rows,
-            built,
-            bytes,
-            area,
-            net,
-            flagged,
-            stamp,
-            change,
-            count,
-            lay,
-            work,
-            labels,
-            distances,
-            queue,
-            g,
-        );
-    }
     let x = segments::ride_segments(
-        n,
         t,
         rows,
         stop_rows,
         built,
         bytes,
         area,
-        net,
-        flagged,
-        stamp,
+        p,
         m,
-        lay,
         from,
         work,
         labels,
@@ -260,19 +216,14 @@ pub fn ride_phase(
         return x;
     }
     scan_stops(
-        n,
         t,
         rows,
         stop_rows,
         built,
         bytes,
         area,
-        net,
-        flagged,
-        stamp,
-        change,
+        p,
         count,
-        lay,
         work,
         labels,
         distances,

@@ -1,13 +1,12 @@
 -- Segments, then stops: the ride phase. Assumes nothing.
 use Prim.Native.Nat.{ℕ, zero, suc, _-_, _/_, _<_}
 use mathlib.Core.Path.{_≡_, refl, sym, ap, subst, _∙_}
-use mathlib.Core.Bool.{Bool, true, false, not}
+use mathlib.Core.Bool.{Bool, true, false, cond}
 use mathlib.Core.List.{List, []}
 use native.Mathlib.Omega.{arith}
 use lib.ListN.{length}
 use lib.Ieee.{Float}
 use Rattle.loops.specs.Count.{tabFrom}
-use Rattle.loops.proofs.Search.{clash}
 use Rattle.model.specs.Tables.{Tables, Query, changeBefore}
 use Rattle.model.specs.Search.{Arrivals, State, emptied, roundStart, rideSegments, scanStops, ridePhase}
 use Rattle.scratch.specs.declared.Lay.{Lay}
@@ -17,7 +16,7 @@ use Rattle.scratch.specs.Places.{turned}
 use Rattle.scratch.specs.View.{Memory, memory, arrivalsOf, queueOf}
 use Rattle.asking.specs.declared.QueryCounts.{QueryCounts}
 use Rattle.alighting.specs.declared.Net.{Net}
-use Rattle.riding.specs.Laid.{Rides, Laid, Waiting}
+use Rattle.riding.specs.Laid.{Rides, Laid, Waiting, Segments}
 use Rattle.riding.specs.Phase.{Seen, Before, Opening, startHead, RidePhase}
 use Rattle.riding.specs.Going.{Going, Rode, Changing}
 use Rattle.riding.proofs.Later.{stops-later}
@@ -51,22 +50,24 @@ module _ {n : QueryCounts} {t rows stopRows built bytes area : List ℕ} {net : 
   abbrev phaseIn : Bool → Tables → Query → State → State
   phaseIn flagged T Q s = scanStops T Q flagged (stamp - 2) stamp (part w (lay .other) (h .count)) (segmentsIn flagged T Q s)
 
-  -- without arc flags: the stops alone
-  pub phase-plain : (flagged : Bool) → not flagged ≡ true → {b : Memory} {q q′ : List ℕ}
-      → Rode lay stamp agree (λ T Q. scanStops T Q flagged (stamp - 2) stamp (part w (lay .other) (h .count))) (memory w l m (startHead h)) b q q′
-      → Rode lay stamp agree (phaseIn flagged) (memory w l m (startHead h)) b q q′
-  phase-plain false e z = z
-  phase-plain true e z = absurd (clash e refl)
+  -- the segments that are ridden: none without arc flags
+  pub segments-first : (flagged : Bool) (k : ℕ) → k ≡ cond flagged (h .queued) 0 → Segments (n .timetable) from k
+  segments-first flagged k e = subst (Segments (n .timetable) from) (sym e) (go flagged)
+    where
+      go : (f : Bool) → Segments (n .timetable) from (cond f (h .queued) 0)
+      go true = O .segments
+      go false = record { room = omega arith; trip = λ j u. absurd (omega arith); shift = λ j u. absurd (omega arith) }
 
-  -- with them: the segments before
-  module _ (flagged : Bool) (on : not flagged ≡ false) {b : Memory} {q r : List ℕ}
-      (z : Rode lay stamp (Rides n t rows stopRows built bytes area net lay w) (λ T Q. rideSegments T Q flagged (stamp - 2) stamp (queueOf from (h .queued))) (memory w l m (startHead h)) b q r) where
-    same-segments : (T : Tables) (Q : Query) (s : State) → rideSegments T Q flagged (stamp - 2) stamp (queueOf from (h .queued)) s ≡ segmentsIn flagged T Q s
-    same-segments T Q s = go flagged on
+  -- those, then the stops
+  module _ (flagged : Bool) (k : ℕ) (are : k ≡ cond flagged (h .queued) 0) {b : Memory} {q r : List ℕ}
+      (z : Rode lay stamp (Rides n t rows stopRows built bytes area net lay w) (λ T Q. rideSegments T Q flagged (stamp - 2) stamp (queueOf from k)) (memory w l m (startHead h)) b q r) where
+    same-segments : (T : Tables) (Q : Query) (s : State) → rideSegments T Q flagged (stamp - 2) stamp (queueOf from k) s ≡ segmentsIn flagged T Q s
+    unfolding rideSegments queueOf tabFrom
+    same-segments T Q s = ap (λ (j : ℕ). rideSegments T Q flagged (stamp - 2) stamp (queueOf from j) s) are ∙ go flagged
       where
-        go : (f : Bool) → not f ≡ false → rideSegments T Q f (stamp - 2) stamp (queueOf from (h .queued)) s ≡ segmentsIn f T Q s
-        go true e = refl
-        go false e = absurd (clash refl e)
+        go : (f : Bool) → rideSegments T Q f (stamp - 2) stamp (queueOf from (cond f (h .queued) 0)) s ≡ segmentsIn f T Q s
+        go true = refl
+        go false = refl
 
     abbrev stopsIn : Tables → Query → State → State
     stopsIn T Q = scanStops T Q flagged (stamp - 2) stamp (part w (lay .other) (h .count))

@@ -9,6 +9,7 @@ ghost use Rattle.scratch.specs.View.{memory};
 ghost use Rattle.round.specs.Round.{Opened, Round};
 use alighting::Net;
 use asking::QueryCounts;
+use riding::Phase;
 use scratch::Head;
 use scratch::Lay;
 use walks::Rules;
@@ -47,19 +48,22 @@ pub fn round(
 {
     let stamp = r + 2;
     let before = change_before(r, change);
+    let p = Phase {
+        counts: n,
+        net,
+        lay,
+        flagged,
+        stamp,
+        change: before,
+    };
     let g = rides::ride_phase(
-        n,
         t,
         rows,
         stop_rows,
         built,
         bytes,
         area,
-        net,
-        flagged,
-        stamp,
-        before,
-        lay,
+        p,
         from,
         work,
         labels,

@@ -11,10 +11,9 @@ ghost use Rattle.model.specs.Search.{rideSegments};
 ghost use Rattle.scratch.specs.View.{memory, segmentAt, queueOf};
 ghost use Rattle.riding.specs.Laid.{Rides, Segments};
 ghost use Rattle.riding.specs.Going.{Going, Rode, rideOf};
-use alighting::Net;
-use asking::QueryCounts;
+use alighting::Scan;
+use riding::Phase;
 use scratch::Head;
-use scratch::Lay;
 use scratch::Ride;
 
 // The ride of segment k of `from`.
@@ -38,18 +37,14 @@ fn ride_of(from: &[u32], stamp: u32, k: usize) -> Ride
 
 // Segment k of `from` is ridden where its trip is permitted.
 fn ride_segment(
-    n: QueryCounts,
     t: &[u32],
     rows: &[u32],
     stop_rows: &[u32],
     built: &[u32],
     bytes: &[u8],
     area: &[u32],
-    net: Net,
-    flagged: bool,
-    stamp: u32,
+    p: Phase,
     k: usize,
-    lay: Lay,
     from: &[u32],
     work: &mut [u32],
     labels: &mut [u32],
@@ -57,29 +52,33 @@ fn ride_segment(
     queue: &mut [u32],
     h: Head,
 ) -> Head
-    requires { ⌜ Going n (now t) (now rows) (now «stop_rows») (now built) (now bytes) (now area) net lay stamp (memory (now work) (now labels) (now distances) h) (now queue) ⌝ ∗ ⌜ Segments (n .timetable) (now from) (k + 1) ⌝ }
-    ensures { λ r. ⌜ Rode lay stamp (Rides n (now (t .entry)) (now (rows .entry)) (now («stop_rows» .entry)) (now (built .entry)) (now (bytes .entry)) (now (area .entry)) net lay (now (work .entry))) (λ T Q. rideSegments T Q flagged (stamp - 2) stamp (segmentAt (now (from .entry)) k ∷ [])) (memory (now (work .entry)) (now (labels .entry)) (now (distances .entry)) h) (memory (now (work .exit)) (now (labels .exit)) (now (distances .exit)) r) (now (queue .entry)) (now (queue .exit)) ⌝ }
+    requires { ⌜ Going (p .counts) (now t) (now rows) (now «stop_rows») (now built) (now bytes) (now area) (p .net) (p .lay) (p .stamp) (memory (now work) (now labels) (now distances) h) (now queue) ⌝ ∗ ⌜ Segments (p .counts .timetable) (now from) (k + 1) ⌝ }
+    ensures { λ r. ⌜ Rode (p .lay) (p .stamp) (Rides (p .counts) (now (t .entry)) (now (rows .entry)) (now («stop_rows» .entry)) (now (built .entry)) (now (bytes .entry)) (now (area .entry)) (p .net) (p .lay) (now (work .entry))) (λ T Q. rideSegments T Q (p .flagged) (p .stamp - 2) (p .stamp) (segmentAt (now (from .entry)) k ∷ [])) (memory (now (work .entry)) (now (labels .entry)) (now (distances .entry)) h) (memory (now (work .exit)) (now (labels .exit)) (now (distances .exit)) r) (now (queue .entry)) (now (queue .exit)) ⌝ }
 {
-    let ride = ride_of(from, stamp, k);
-    let c = n.timetable;
-    let terms = net.terms;
-    if !boarding::permitted(t, c, terms, ride.trip as usize) {
+    let ride = ride_of(from, p.stamp, k);
+    let counts = p.counts.timetable;
+    let net = p.net;
+    if !boarding::permitted(t, counts, net.terms, ride.trip as usize) {
         return h;
     }
     let adj = boarding::delay_of(rows, ride.trip);
+    let lay = p.lay;
+    let s = Scan {
+        counts,
+        net,
+        lay,
+        adj,
+        ride,
+    };
     trip_scan::scan_trip_forward(
         t,
-        c,
         rows,
         stop_rows,
         built,
         bytes,
         area,
-        net,
-        flagged,
-        adj,
-        lay,
-        ride,
+        s,
+        p.flagged,
         work,
         labels,
         distances,
@@ -90,18 +89,14 @@ fn ride_segment(
 
 // The first m segments of `from`, one by one, until a segment does not fit.
 pub fn ride_segments(
-    n: QueryCounts,
     t: &[u32],
     rows: &[u32],
     stop_rows: &[u32],
     built: &[u32],
     bytes: &[u8],
     area: &[u32],
-    net: Net,
-    flagged: bool,
-    stamp: u32,
+    p: Phase,
     m: usize,
-    lay: Lay,
     from: &[u32],
     work: &mut [u32],
     labels: &mut [u32],
@@ -109,25 +104,21 @@ pub fn ride_segments(
     queue: &mut [u32],
     h: Head,
 ) -> Head
-    requires { ⌜ Going n (now t) (now rows) (now «stop_rows») (now built) (now bytes) (now area) net lay stamp (memory (now work) (now labels) (now distances) h) (now queue) ⌝ ∗ ⌜ Segments (n .timetable) (now from) m ⌝ }
-    ensures { λ r. ⌜ Rode lay stamp (Rides n (now (t .entry)) (now (rows .entry)) (now («stop_rows» .entry)) (now (built .entry)) (now (bytes .entry)) (now (area .entry)) net lay (now (work .entry))) (λ T Q. rideSegments T Q flagged (stamp - 2) stamp (queueOf (now (from .entry)) m)) (memory (now (work .entry)) (now (labels .entry)) (now (distances .entry)) h) (memory (now (work .exit)) (now (labels .exit)) (now (distances .exit)) r) (now (queue .entry)) (now (queue .exit)) ⌝ }
+    requires { ⌜ Going (p .counts) (now t) (now rows) (now «stop_rows») (now built) (now bytes) (now area) (p .net) (p .lay) (p .stamp) (memory (now work) (now labels) (now distances) h) (now queue) ⌝ ∗ ⌜ Segments (p .counts .timetable) (now from) m ⌝ }
+    ensures { λ r. ⌜ Rode (p .lay) (p .stamp) (Rides (p .counts) (now (t .entry)) (now (rows .entry)) (now («stop_rows» .entry)) (now (built .entry)) (now (bytes .entry)) (now (area .entry)) (p .net) (p .lay) (now (work .entry))) (λ T Q. rideSegments T Q (p .flagged) (p .stamp - 2) (p .stamp) (queueOf (now (from .entry)) m)) (memory (now (work .entry)) (now (labels .entry)) (now (distances .entry)) h) (memory (now (work .exit)) (now (labels .exit)) (now (distances .exit)) r) (now (queue .entry)) (now (queue .exit)) ⌝ }
 {
     let mut g = h;
     let mut k: usize = 0;
     while k < m {
         g = ride_segment(
-            n,
             t,
             rows,
             stop_rows,
             built,
             bytes,
             area,
-            net,
-            flagged,
-            stamp,
+            p,
             k,
-            lay,
             from,
             work,
             labels,

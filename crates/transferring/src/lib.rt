@@ -16,22 +16,16 @@ ghost use Rattle.scratch.specs.Places.{EgressTable};
 ghost use Rattle.scratch.specs.Step.{Ready, QueueStep};
 ghost use Rattle.boarding.specs.Reads.{hitOf, Event};
 ghost use Rattle.alighting.specs.Scan.{Riding, Nets, Netted, RunIn, Open, Boards, Laid, boarded};
-use alighting::Net;
+use alighting::Scan;
 use boarding::Resolved;
-use delay_tables::Found;
 use frequency::Boarding;
 use scratch::Head;
-use scratch::Lay;
-use scratch::Ride;
 use scratch::Seg;
-use tables::Counts;
 
 // A boarding taken after a transfer: its stop is reached on foot from stop `from`, its segment queued.
 fn take_boarding(
     t: &[u32],
-    c: Counts,
-    lay: Lay,
-    stamp: u32,
+    s: Scan,
     from: u32,
     off: usize,
     time: u32,
@@ -43,23 +37,23 @@ fn take_boarding(
     queue: &mut [u32],
     h: Head,
 ) -> Head
-    requires { ⌜ Laid (now t) c lay ⌝ ∗ ⌜ Boards (now t) c trip off (b .departure) ⌝ ∗ ⌜ Ready lay stamp (memory (now work) (now labels) (now distances) h) ⌝ ∗ ⌜ Open h (length (now queue)) ⌝ }
-    ensures { λ x. ⌜ QueueStep lay stamp (λ T Q. EgressTable (Q .egress) lay (now (work .entry)) × (T .timetable ≡ timetable (now (t .entry)) c)) (λ T Q. boarded T Q stamp from off time trip b) (memory (now (work .entry)) (now (labels .entry)) (now (distances .entry)) h) (memory (now (work .exit)) (now (labels .exit)) (now (distances .exit)) x) (now (queue .entry)) (now (queue .exit)) ⌝ }
+    requires { ⌜ Laid (now t) (s .counts) (s .lay) ⌝ ∗ ⌜ Boards (now t) (s .counts) trip off (b .departure) ⌝ ∗ ⌜ Ready (s .lay) (s .ride .stamp) (memory (now work) (now labels) (now distances) h) ⌝ ∗ ⌜ Open h (length (now queue)) ⌝ }
+    ensures { λ x. ⌜ QueueStep (s .lay) (s .ride .stamp) (λ T Q. EgressTable (Q .egress) (s .lay) (now (work .entry)) × (T .timetable ≡ timetable (now (t .entry)) (s .counts))) (λ T Q. boarded T Q (s .ride .stamp) from off time trip b) (memory (now (work .entry)) (now (labels .entry)) (now (distances .entry)) h) (memory (now (work .exit)) (now (labels .exit)) (now (distances .exit)) x) (now (queue .entry)) (now (queue .exit)) ⌝ }
 {
     let i = trip as usize;
-    let first = tables::trip(t, c, i, 0);
-    let s = tables::time(t, c, first + off, 0);
-    let plain = tables::trip(t, c, i, 5) == 0;
+    let first = tables::trip(t, s.counts, i, 0);
+    let stop = tables::time(t, s.counts, first + off, 0);
+    let plain = tables::trip(t, s.counts, i, 5) == 0;
     let seg = Seg {
         trip,
         offset: off as u32,
-        stop: s as u32,
+        stop: stop as u32,
         shift: b.time_shift_s,
     };
     let v = b.departure;
     scratch::transfer(
-        lay,
-        stamp,
+        s.lay,
+        s.ride.stamp,
         plain,
         seg,
         v,
@@ -76,15 +70,12 @@ fn take_boarding(
 // Transfer `k` of the area, taken at a stop `from` that is reached at `v`.
 fn take_transfer(
     t: &[u32],
-    c: Counts,
     rows: &[u32],
     stop_rows: &[u32],
     built: &[u32],
     bytes: &[u8],
     area: &[u32],
-    net: Net,
-    lay: Lay,
-    stamp: u32,
+    s: Scan,
     v: u32,
     from: u32,
     k: usize,
@@ -94,24 +85,29 @@ fn take_transfer(
     queue: &mut [u32],
     h: Head,
 ) -> Head
-    requires { ⌜ Netted (now t) c (now rows) (now «stop_rows») (now built) (now bytes) (now area) net lay (now work) ⌝ ∗ ⌜ RunIn (now area) k 1 ⌝ ∗ ⌜ Ready lay stamp (memory (now work) (now labels) (now distances) h) ⌝ ∗ ⌜ Open h (length (now queue)) ⌝ ∗ ⌜ v ≤ 2097150 ⌝ }
-    ensures { λ x. ⌜ QueueStep lay stamp (Nets (now (t .entry)) c (now (rows .entry)) (now («stop_rows» .entry)) (now (built .entry)) (now (bytes .entry)) (now (area .entry)) net lay (now (work .entry))) (λ T Q. takeTransfers T Q stamp v from (transferAt (now (area .entry)) k ∷ [])) (memory (now (work .entry)) (now (labels .entry)) (now (distances .entry)) h) (memory (now (work .exit)) (now (labels .exit)) (now (distances .exit)) x) (now (queue .entry)) (now (queue .exit)) ⌝ }
+    requires { ⌜ Netted (now t) (s .counts) (now rows) (now «stop_rows») (now built) (now bytes) (now area) (s .net) (s .lay) (now work) ⌝ ∗ ⌜ RunIn (now area) k 1 ⌝ ∗ ⌜ Ready (s .lay) (s .ride .stamp) (memory (now work) (now labels) (now distances) h) ⌝ ∗ ⌜ Open h (length (now queue)) ⌝ ∗ ⌜ v ≤ 2097150 ⌝ }
+    ensures { λ x. ⌜ QueueStep (s .lay) (s .ride .stamp) (Nets (now (t .entry)) (s .counts) (now (rows .entry)) (now («stop_rows» .entry)) (now (built .entry)) (now (bytes .entry)) (now (area .entry)) (s .net) (s .lay) (now (work .entry))) (λ T Q. takeTransfers T Q (s .ride .stamp) v from (transferAt (now (area .entry)) k ∷ [])) (memory (now (work .entry)) (now (labels .entry)) (now (distances .entry)) h) (memory (now (work .exit)) (now (labels .exit)) (now (distances .exit)) x) (now (queue .entry)) (now (queue .exit)) ⌝ }
 {
     let at = k * 4;
-    if !flags::holds_target(bytes, net.patterns, net.target, tables::field(area, at + 3)) {
+    if !flags::holds_target(
+        bytes,
+        s.net.patterns,
+        s.net.target,
+        tables::field(area, at + 3),
+    ) {
         return h;
     }
     let time = area[at + 2];
     let off = tables::field(area, at + 1);
     let found = resolving::resolve(
         t,
-        c,
+        s.counts,
         rows,
         stop_rows,
         built,
         work,
-        net.lined,
-        net.terms,
+        s.net.lined,
+        s.net.terms,
         area[at],
         off,
         v + time,
@@ -122,9 +118,7 @@ fn take_transfer(
     };
     take_boarding(
         t,
-        c,
-        lay,
-        stamp,
+        s,
         from,
         off,
         time,
@@ -141,15 +135,12 @@ fn take_transfer(
 // The `n` transfers of the area from `first` on, until a segment does not fit.
 fn take_transfers(
     t: &[u32],
-    c: Counts,
     rows: &[u32],
     stop_rows: &[u32],
     built: &[u32],
     bytes: &[u8],
     area: &[u32],
-    net: Net,
-    lay: Lay,
-    stamp: u32,
+    s: Scan,
     v: u32,
     from: u32,
     first: usize,
@@ -160,8 +151,8 @@ fn take_transfers(
     queue: &mut [u32],
     h: Head,
 ) -> Head
-    requires { ⌜ Netted (now t) c (now rows) (now «stop_rows») (now built) (now bytes) (now area) net lay (now work) ⌝ ∗ ⌜ RunIn (now area) first n ⌝ ∗ ⌜ Ready lay stamp (memory (now work) (now labels) (now distances) h) ⌝ ∗ ⌜ Open h (length (now queue)) ⌝ ∗ ⌜ v ≤ 2097150 ⌝ }
-    ensures { λ x. ⌜ QueueStep lay stamp (Nets (now (t .entry)) c (now (rows .entry)) (now («stop_rows» .entry)) (now (built .entry)) (now (bytes .entry)) (now (area .entry)) net lay (now (work .entry))) (λ T Q. takeTransfers T Q stamp v from (transfersAt (now (area .entry)) (record { first = first; length = n }))) (memory (now (work .entry)) (now (labels .entry)) (now (distances .entry)) h) (memory (now (work .exit)) (now (labels .exit)) (now (distances .exit)) x) (now (queue .entry)) (now (queue .exit)) ⌝ }
+    requires { ⌜ Netted (now t) (s .counts) (now rows) (now «stop_rows») (now built) (now bytes) (now area) (s .net) (s .lay) (now work) ⌝ ∗ ⌜ RunIn (now area) first n ⌝ ∗ ⌜ Ready (s .lay) (s .ride .stamp) (memory (now work) (now labels) (now distances) h) ⌝ ∗ ⌜ Open h (length (now queue)) ⌝ ∗ ⌜ v ≤ 2097150 ⌝ }
+    ensures { λ x. ⌜ QueueStep (s .lay) (s .ride .stamp) (Nets (now (t .entry)) (s .counts) (now (rows .entry)) (now («stop_rows» .entry)) (now (built .entry)) (now (bytes .entry)) (now (area .entry)) (s .net) (s .lay) (now (work .entry))) (λ T Q. takeTransfers T Q (s .ride .stamp) v from (transfersAt (now (area .entry)) (record { first = first; length = n }))) (memory (now (work .entry)) (now (labels .entry)) (now (distances .entry)) h) (memory (now (work .exit)) (now (labels .exit)) (now (distances .exit)) x) (now (queue .entry)) (now (queue .exit)) ⌝ }
 {
     let mut x = h;
     let mut j: usize = 0;
@@ -169,15 +160,12 @@ fn take_transfers(
         let k = first + j;
         x = take_transfer(
             t,
-            c,
             rows,
             stop_rows,
             built,
             bytes,
             area,
-            net,
-            lay,
-            stamp,
+            s,
             v,
             from,
             k,
@@ -198,17 +186,13 @@ fn take_transfers(
 // The transfers of a trip's stop time that is reached at `v`.
 fn take_event(
     t: &[u32],
-    c: Counts,
     rows: &[u32],
     stop_rows: &[u32],
     built: &[u32],
     bytes: &[u8],
     area: &[u32],
-    net: Net,
-    lay: Lay,
-    stamp: u32,
+    s: Scan,
     v: u32,
-    trip: usize,
     off: usize,
     work: &mut [u32],
     labels: &mut [u32],
@@ -216,25 +200,23 @@ fn take_event(
     queue: &mut [u32],
     h: Head,
 ) -> Head
-    requires { ⌜ Netted (now t) c (now rows) (now «stop_rows») (now built) (now bytes) (now area) net lay (now work) ⌝ ∗ ⌜ Event (now t) c trip off ⌝ ∗ ⌜ Ready lay stamp (memory (now work) (now labels) (now distances) h) ⌝ ∗ ⌜ Open h (length (now queue)) ⌝ ∗ ⌜ v ≤ 2097150 ⌝ }
-    ensures { λ x. ⌜ QueueStep lay stamp (Nets (now (t .entry)) c (now (rows .entry)) (now («stop_rows» .entry)) (now (built .entry)) (now (bytes .entry)) (now (area .entry)) net lay (now (work .entry))) (λ T Q. takeTransfers T Q stamp v (stopAt T trip off) (T .transfers trip off)) (memory (now (work .entry)) (now (labels .entry)) (now (distances .entry)) h) (memory (now (work .exit)) (now (labels .exit)) (now (distances .exit)) x) (now (queue .entry)) (now (queue .exit)) ⌝ }
+    requires { ⌜ Netted (now t) (s .counts) (now rows) (now «stop_rows») (now built) (now bytes) (now area) (s .net) (s .lay) (now work) ⌝ ∗ ⌜ Event (now t) (s .counts) (s .ride .trip) off ⌝ ∗ ⌜ Ready (s .lay) (s .ride .stamp) (memory (now work) (now labels) (now distances) h) ⌝ ∗ ⌜ Open h (length (now queue)) ⌝ ∗ ⌜ v ≤ 2097150 ⌝ }
+    ensures { λ x. ⌜ QueueStep (s .lay) (s .ride .stamp) (Nets (now (t .entry)) (s .counts) (now (rows .entry)) (now («stop_rows» .entry)) (now (built .entry)) (now (bytes .entry)) (now (area .entry)) (s .net) (s .lay) (now (work .entry))) (λ T Q. takeTransfers T Q (s .ride .stamp) v (stopAt T (s .ride .trip) off) (T .transfers (s .ride .trip) off)) (memory (now (work .entry)) (now (labels .entry)) (now (distances .entry)) h) (memory (now (work .exit)) (now (labels .exit)) (now (distances .exit)) x) (now (queue .entry)) (now (queue .exit)) ⌝ }
 {
-    let i = tables::trip(t, c, trip, 0);
-    let from = tables::time(t, c, i + off, 0) as u32;
-    let at = net.runs + (tables::field(work, net.events + trip) + off) * 2;
+    let trip = s.ride.trip as usize;
+    let i = tables::trip(t, s.counts, trip, 0);
+    let from = tables::time(t, s.counts, i + off, 0) as u32;
+    let at = s.net.runs + (tables::field(work, s.net.events + trip) + off) * 2;
     let first = tables::field(built, at);
     let n = tables::field(built, at + 1);
     take_transfers(
         t,
-        c,
         rows,
         stop_rows,
         built,
         bytes,
         area,
-        net,
-        lay,
-        stamp,
+        s,
         v,
         from,
         first,
@@ -250,16 +232,12 @@ fn take_event(
 // The transfers at the trip's stop times from offset `p` on, until one is not before the best total. Skipped stops are not tested.
 pub fn transferring(
     t: &[u32],
-    c: Counts,
     rows: &[u32],
     stop_rows: &[u32],
     built: &[u32],
     bytes: &[u8],
     area: &[u32],
-    net: Net,
-    adj: Found,
-    lay: Lay,
-    ride: Ride,
+    s: Scan,
     p: usize,
     work: &mut [u32],
     labels: &mut [u32],
@@ -267,35 +245,32 @@ pub fn transferring(
     queue: &mut [u32],
     h: Head,
 ) -> Head
-    requires { ⌜ Netted (now t) c (now rows) (now «stop_rows») (now built) (now bytes) (now area) net lay (now work) ⌝ ∗ ⌜ Riding (now t) c (now rows) (now «stop_rows») adj lay ride ⌝ ∗ ⌜ Ready lay (ride .stamp) (memory (now work) (now labels) (now distances) h) ⌝ ∗ ⌜ Open h (length (now queue)) ⌝ }
-    ensures { λ x. ⌜ QueueStep lay (ride .stamp) (Nets (now (t .entry)) c (now (rows .entry)) (now («stop_rows» .entry)) (now (built .entry)) (now (bytes .entry)) (now (area .entry)) net lay (now (work .entry))) (λ T Q. transferred T Q (ride .stamp) (hitOf adj) (ride .shift) (ride .trip) (stopCount T (ride .trip) - p) p) (memory (now (work .entry)) (now (labels .entry)) (now (distances .entry)) h) (memory (now (work .exit)) (now (labels .exit)) (now (distances .exit)) x) (now (queue .entry)) (now (queue .exit)) ⌝ }
+    requires { ⌜ Netted (now t) (s .counts) (now rows) (now «stop_rows») (now built) (now bytes) (now area) (s .net) (s .lay) (now work) ⌝ ∗ ⌜ Riding (now t) (s .counts) (now rows) (now «stop_rows») (s .adj) (s .lay) (s .ride) ⌝ ∗ ⌜ Ready (s .lay) (s .ride .stamp) (memory (now work) (now labels) (now distances) h) ⌝ ∗ ⌜ Open h (length (now queue)) ⌝ }
+    ensures { λ x. ⌜ QueueStep (s .lay) (s .ride .stamp) (Nets (now (t .entry)) (s .counts) (now (rows .entry)) (now («stop_rows» .entry)) (now (built .entry)) (now (bytes .entry)) (now (area .entry)) (s .net) (s .lay) (now (work .entry))) (λ T Q. transferred T Q (s .ride .stamp) (hitOf (s .adj)) (s .ride .shift) (s .ride .trip) (stopCount T (s .ride .trip) - p) p) (memory (now (work .entry)) (now (labels .entry)) (now (distances .entry)) h) (memory (now (work .exit)) (now (labels .exit)) (now (distances .exit)) x) (now (queue .entry)) (now (queue .exit)) ⌝ }
 {
-    let trip = ride.trip as usize;
-    let n = tables::trip(t, c, trip, 1);
+    let trip = s.ride.trip as usize;
+    let adj = s.adj;
+    let n = tables::trip(t, s.counts, trip, 1);
     let mut x = h;
     let mut o = p;
     while o < n {
-        if alighting::shut(t, c, rows, stop_rows, adj, false, trip, o) {
+        if alighting::shut(t, s.counts, rows, stop_rows, adj, false, trip, o) {
             o += 1;
             continue;
         }
-        let v = boarding::arrival_now(t, c, rows, stop_rows, adj, ride.shift, trip, o);
+        let v = boarding::arrival_now(t, s.counts, rows, stop_rows, adj, s.ride.shift, trip, o);
         if x.best <= v {
             return x;
         }
         x = take_event(
             t,
-            c,
             rows,
             stop_rows,
             built,
             bytes,
             area,
-            net,
-            lay,
-            ride.stamp,
+            s,
             v,
-            trip,
             o,
             work,
             labels,

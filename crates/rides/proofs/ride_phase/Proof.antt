@@ -1,14 +1,18 @@
-use Rattle.riding.proofs.Phased.{going-first, going-then, phase-is-ride, phase-over, phase-plain, phase-then, waiting-then}
+use Rattle.riding.proofs.Phased.{going-first, going-then, phase-is-ride, phase-over, phase-then, segments-first, waiting-then}
 use borrow.Author.Needs.{needs}
 use Rattle.rides.proofs.ride_phase.Statement.{statement}
 use Rattle.rides.proofs.ride_phase.Tie as tie
 use Rattle.rides.proofs.ride_phase.Reads as reads
 use Rattle.rides.proofs.ride_phase.Lts as lts
 use Rattle.segments.proofs.ride_segments.Reads as ride-segments-reads
+use Rattle.rides.proofs.ridden.Reads as ridden-reads
 use Rattle.rides.proofs.scan_stops.Reads as scan-stops-reads
 
-scan-stops-requires : tie.Need-scan-stops-requires
-scan-stops-requires c κs = let a = c .before .before .before .before .before .before .before .before .before .before .before .before .before .before .before .before in let x = a .args in let L = a .pre .0 in let O = a .pre .1 in (going-first L O _, (O .waiting, O .small))
+ridden-requires : tie.Need-ridden-requires
+ridden-requires c κs = search needs
+
+ride-segments-requires : tie.Need-ride-segments-requires
+ride-segments-requires c κs = let a = c .before .before .before .before .before .before .before .before .before .before .before .before .before .before .before .before in let x = a .args in let L = a .pre .0 in let O = a .pre .1 in (going-first L O _, segments-first L O (x .p .flagged) (c .before .before .before .before .ridden .result) (c .before .before .before .before .ridden .ensures))
 
 same-length : tie.Need-same-length
 same-length c = search needs
@@ -23,10 +27,10 @@ same-length-4 : tie.Need-same-length-4
 same-length-4 c = search needs
 
 returns : tie.Need-returns
-returns c = let a = c .before .before .before .before .before .before .before .before .before .before .before .before .before .before .before .before .before .before .before .before .before .before .before .before .before in let x = a .args in let L = a .pre .0 in let O = a .pre .1 in phase-is-ride L O (x .flagged) (phase-plain L O (x .flagged) (c .before .before .before .before .before .before .before .before .before .before .before .before .before .if1 .taken) (c .before .before .before .before .before .before .before .before .scan-stops .ensures))
+returns c = let a = c .before .before .before .before .before .before .before .before .before .before .before .before .before .before .before .before .before .before .before .before .before .before .before .before .before .before in let x = a .args in let L = a .pre .0 in let O = a .pre .1 in phase-is-ride L O (x .p .flagged) (phase-over L O (x .p .flagged) (c .before .before .before .before .before .before .before .before .before .before .before .before .before .before .ridden .result) (c .before .before .before .before .before .before .before .before .before .before .before .before .before .before .ridden .ensures) (c .before .before .before .before .before .before .before .before .before .ride-segments .ensures) (c .if1 .taken))
 
-ride-segments-requires : tie.Need-ride-segments-requires
-ride-segments-requires c κs = let a = c .before .before .before .before .before .before .before .before .before .before .before .before .before .before .before .before in let x = a .args in let L = a .pre .0 in let O = a .pre .1 in (going-first L O _, O .segments)
+scan-stops-requires : tie.Need-scan-stops-requires
+scan-stops-requires c κs = let a = c .before .before .before .before .before .before .before .before .before .before .before .before .before .before .before .before .before .before .before .before .before .before .before .before .before .before .before .before .before .before in let x = a .args in let L = a .pre .0 in let O = a .pre .1 in (going-then L O (x .p .flagged) (c .before .before .before .before .before .before .before .before .before .before .before .before .before .before .before .before .before .before .ridden .result) (c .before .before .before .before .before .before .before .before .before .before .before .before .before .before .before .before .before .before .ridden .ensures) (c .before .before .before .before .before .before .before .before .before .before .before .before .before .ride-segments .ensures) (c .before .before .before .before .if1 .left), (waiting-then L O (x .p .flagged) (c .before .before .before .before .before .before .before .before .before .before .before .before .before .before .before .before .before .before .ridden .result) (c .before .before .before .before .before .before .before .before .before .before .before .before .before .before .before .before .before .before .ridden .ensures) (c .before .before .before .before .before .before .before .before .before .before .before .before .before .ride-segments .ensures) (c .before .before .before .before .if1 .left), O .small))
 
 same-length-5 : tie.Need-same-length-5
 same-length-5 c = search needs
@@ -41,45 +45,22 @@ same-length-8 : tie.Need-same-length-8
 same-length-8 c = search needs
 
 returns-2 : tie.Need-returns-2
-returns-2 c = let a = c .before .before .before .before .before .before .before .before .before .before .before .before .before .before .before .before .before .before .before .before .before .before .before .before .before .before in let x = a .args in let L = a .pre .0 in let O = a .pre .1 in phase-is-ride L O (x .flagged) (phase-over L O (x .flagged) (c .before .before .before .before .before .before .before .before .before .before .before .before .before .before .if1 .left) (c .before .before .before .before .before .before .before .before .before .ride-segments .ensures) (c .if2 .taken))
-
-scan-stops-requires-2 : tie.Need-scan-stops-requires-2
-scan-stops-requires-2 c κs = let a = c .before .before .before .before .before .before .before .before .before .before .before .before .before .before .before .before .before .before .before .before .before .before .before .before .before .before .before .before .before .before in let x = a .args in let L = a .pre .0 in let O = a .pre .1 in (going-then L O (x .flagged) (c .before .before .before .before .before .before .before .before .before .before .before .before .before .before .before .before .before .before .if1 .left) (c .before .before .before .before .before .before .before .before .before .before .before .before .before .ride-segments .ensures) (c .before .before .before .before .if2 .left), (waiting-then L O (x .flagged) (c .before .before .before .before .before .before .before .before .before .before .before .before .before .before .before .before .before .before .if1 .left) (c .before .before .before .before .before .before .before .before .before .before .before .before .before .ride-segments .ensures) (c .before .before .before .before .if2 .left), O .small))
-
-same-length-9 : tie.Need-same-length-9
-same-length-9 c = search needs
-
-same-length-10 : tie.Need-same-length-10
-same-length-10 c = search needs
-
-same-length-11 : tie.Need-same-length-11
-same-length-11 c = search needs
-
-same-length-12 : tie.Need-same-length-12
-same-length-12 c = search needs
-
-returns-3 : tie.Need-returns-3
-returns-3 c = let a = c .before .before .before .before .before .before .before .before .before .before .before .before .before .before .before .before .before .before .before .before .before .before .before .before .before .before .before .before .before .before .before .before .before .before .before .before .before .before .before in let x = a .args in let L = a .pre .0 in let O = a .pre .1 in phase-is-ride L O (x .flagged) (phase-then L O (x .flagged) (c .before .before .before .before .before .before .before .before .before .before .before .before .before .before .before .before .before .before .before .before .before .before .before .before .before .before .before .if1 .left) (c .before .before .before .before .before .before .before .before .before .before .before .before .before .before .before .before .before .before .before .before .before .before .ride-segments .ensures) (c .before .before .before .before .before .before .before .before .before .before .before .before .before .if2 .left) (c .before .before .before .before .before .before .before .before .scan-stops2 .ensures))
+returns-2 c = let a = c .before .before .before .before .before .before .before .before .before .before .before .before .before .before .before .before .before .before .before .before .before .before .before .before .before .before .before .before .before .before .before .before .before .before .before .before .before .before .before in let x = a .args in let L = a .pre .0 in let O = a .pre .1 in phase-is-ride L O (x .p .flagged) (phase-then L O (x .p .flagged) (c .before .before .before .before .before .before .before .before .before .before .before .before .before .before .before .before .before .before .before .before .before .before .before .before .before .before .before .ridden .result) (c .before .before .before .before .before .before .before .before .before .before .before .before .before .before .before .before .before .before .before .before .before .before .before .before .before .before .before .ridden .ensures) (c .before .before .before .before .before .before .before .before .before .before .before .before .before .before .before .before .before .before .before .before .before .before .ride-segments .ensures) (c .before .before .before .before .before .before .before .before .before .before .before .before .before .if1 .left) (c .before .before .before .before .before .before .before .before .scan-stops .ensures))
 
 pub ride-phase-spec : {M : Type 1} → statement M
 ride-phase-spec =
     tie.close
     (tie.spec
-    scan-stops-requires
+    ridden-requires
+    ride-segments-requires
     same-length
     same-length-2
     same-length-3
     same-length-4
     returns
-    ride-segments-requires
+    scan-stops-requires
     same-length-5
     same-length-6
     same-length-7
     same-length-8
-    returns-2
-    scan-stops-requires-2
-    same-length-9
-    same-length-10
-    same-length-11
-    same-length-12
-    returns-3)
+    returns-2)

@@ -23,11 +23,11 @@ time-requires c κs = let a = c .before .before .before .before .before .before 
 trip-requires-2 : tie.Need-trip-requires-2
 trip-requires-2 c κs = search needs
 
-cast-t22 : tie.Need-cast-t22
-cast-t22 c = let a = c .before .before .before .before .before .before .before .before in let x = a .args in let g = a .pre .0 .sane in let k = g .runs .run (x .trip) (a .pre .1 .0 .trip-in) in omega (arith, k, a .pre .1 .0 .offset-in, g .counts .times)
+cast-t20 : tie.Need-cast-t20
+cast-t20 c = let a = c .before .before .before .before .before .before .before .before in let x = a .args in let g = a .pre .0 .sane in let k = g .runs .run (x .trip) (a .pre .1 .0 .trip-in) in omega (arith, k, a .pre .1 .0 .offset-in, g .counts .times)
 
-cast-t23 : tie.Need-cast-t23
-cast-t23 c = search needs
+cast-t21 : tie.Need-cast-t21
+cast-t21 c = search needs
 
 transfer-requires : tie.Need-transfer-requires
 transfer-requires c κs = let a = c .before .before .before .before .before .before .before .before .before .before .before .before in let x = a .args in let g = a .pre .0 .sane in let k = g .runs .run (x .trip) (a .pre .1 .0 .trip-in) in let n = g .numbers .stop (c .before .before .before .before .before .before .trip .result + x .off) (omega (arith, c .before .before .before .before .before .before .trip .ensures .0, k, a .pre .1 .0 .offset-in)) in (a .pre .1 .1 .0, ((omega (arith, a .pre .1 .0 .trip-in, a .pre .0 .trips), omega (arith, c .before .before .before .before .before .time .ensures .0, n, a .pre .0 .stops)), (a .pre .1 .0 .early, (a .pre .1 .1 .1 .none, a .pre .1 .1 .1 .room))))
@@ -45,7 +45,7 @@ same-length-4 : tie.Need-same-length-4
 same-length-4 c = search needs
 
 returns : tie.Need-returns
-returns c = let a = c .before .before .before .before .before .before .before .before .before .before .before .before .before .before .before .before .before .before .before .before .before in let x = a .args in boarding-is (now (x .t)) (x .c) (x .from) (x .off) (x .time) (x .trip) (x .b) _ _ _ (c .before .before .before .before .before .before .before .before .transfer .ensures) (c .before .before .before .before .before .before .before .before .before .before .before .before .before .before .before .trip .ensures .0) (c .before .before .before .before .before .before .before .before .before .before .before .before .before .before .time .ensures .0) (c .before .before .before .before .before .before .before .before .before .before .before .before .before .trip2 .ensures .0)
+returns c = let a = c .before .before .before .before .before .before .before .before .before .before .before .before .before .before .before .before .before .before .before .before .before in let x = a .args in boarding-is (now (x .t)) (x .s .counts) (x .from) (x .off) (x .time) (x .trip) (x .b) _ _ _ (c .before .before .before .before .before .before .before .before .transfer .ensures) (c .before .before .before .before .before .before .before .before .before .before .before .before .before .before .before .trip .ensures .0) (c .before .before .before .before .before .before .before .before .before .before .before .before .before .before .time .ensures .0) (c .before .before .before .before .before .before .before .before .before .before .before .before .before .trip2 .ensures .0)
 
 pub take-boarding-spec : {M : Type 1} → statement M
 take-boarding-spec =
@@ -55,8 +55,8 @@ take-boarding-spec =
     add-time
     time-requires
     trip-requires-2
-    cast-t22
-    cast-t23
+    cast-t20
+    cast-t21
     transfer-requires
     same-length
     same-length-2

@@ -16,16 +16,16 @@ use Rattle.transferring.proofs.take_transfers.Lts as lts
 use Rattle.transferring.proofs.take_transfer.Reads as take-transfer-reads
 
 abbrev Inv-loop : tie.InvT-loop
-Inv-loop t c rows stop-rows built bytes area net lay stamp v from first n work₀ labels₀ distances₀ queue₀ x₀ j₀ work labels distances queue x j =
-    Queuing lay stamp (Nets t c rows stop-rows built bytes area net lay work₀) (λ T Q. takeTransfers T Q stamp v from (transfersAt area (record { first = first; length = n })))
-    (λ T Q. takeFrom T Q stamp v from area first n j) (memory work₀ labels₀ distances₀ x₀) (memory work labels distances x) queue₀ queue
+Inv-loop t rows stop-rows built bytes area s v from first n work₀ labels₀ distances₀ queue₀ x₀ j₀ work labels distances queue x j =
+    Queuing (s .lay) (s .ride .stamp) (Nets t (s .counts) rows stop-rows built bytes area (s .net) (s .lay) work₀) (λ T Q. takeTransfers T Q (s .ride .stamp) v from (transfersAt area (record { first = first; length = n })))
+    (λ T Q. takeFrom T Q (s .ride .stamp) v from area first n j) (memory work₀ labels₀ distances₀ x₀) (memory work labels distances x) queue₀ queue
 
 abbrev μ-loop : tie.MeasureT-loop
-μ-loop t c rows stop-rows built bytes area net lay stamp v from first n work₀ labels₀ distances₀ queue₀ x₀ j₀ work labels distances queue x j =
+μ-loop t rows stop-rows built bytes area s v from first n work₀ labels₀ distances₀ queue₀ x₀ j₀ work labels distances queue x j =
     n - j
 
 loop-holds : tie.Need-loop-holds Inv-loop μ-loop
-loop-holds c = let a = c .before .before .before .before .before .before .before .before .before .before in let x = a .args in queuing-start _ _ _ _ (a .pre .1 .1 .0) (a .pre .1 .1 .1 .0) (λ T Q y z. from-start T Q (x .stamp) (x .v) (x .from) (now (x .area)) (x .first) (x .n) z)
+loop-holds c = let a = c .before .before .before .before .before .before .before .before .before .before in let x = a .args in queuing-start _ _ _ _ (a .pre .1 .1 .0) (a .pre .1 .1 .1 .0) (λ T Q y z. from-start T Q (x .s .ride .stamp) (x .v) (x .from) (now (x .area)) (x .first) (x .n) z)
 
 add-k : tie.Need-add-k Inv-loop μ-loop
 add-k c = let a = c .before .before .before .before .before .before .before .before .before .before .before .before in omega (arith, a .pre .1 .0 .near, c .loop-test .taken)
@@ -46,7 +46,7 @@ same-length-4 : tie.Need-same-length-4 Inv-loop μ-loop
 same-length-4 c = (c .before .before .before .before .before .before .before .before .before .take-transfer .ensures .size) ∙ (c .before .before .before .before .before .before .before .before .before .before .before .before .before .before .before .loop .inv .size)
 
 returns : tie.Need-returns Inv-loop μ-loop
-returns c = let a = c .before .before .before .before .before .before .before .before .before .before .before .before .before .before .before .before .before .before .before .before .before .before .before .before .before .before in let x = a .args in queuing-over (λ T Q. takeFrom T Q (x .stamp) (x .v) (x .from) (now (x .area)) (x .first) (x .n) (c .before .before .before .before .before .before .before .before .before .before .before .before .before .before .before .loop .j + 1)) (c .before .before .before .before .before .before .before .before .before .before .before .before .before .before .before .loop .inv) (c .before .before .before .before .before .before .before .before .before .take-transfer .ensures) (λ T Q y. nets-kept (c .before .before .before .before .before .before .before .before .before .before .before .before .before .before .before .loop .inv .same) (a .pre .0 .past) y) (λ T Q y. from-turn T Q (x .stamp) (x .v) (x .from) (now (x .area)) (x .first) (x .n) _ _ (c .before .before .before .before .before .before .before .before .before .before .before .before .before .before .loop-test .taken)) (c .if1 .taken) (λ T Q z. from-grows T Q (x .stamp) (x .v) (x .from) (now (x .area)) (x .first) (x .n) _ z)
+returns c = let a = c .before .before .before .before .before .before .before .before .before .before .before .before .before .before .before .before .before .before .before .before .before .before .before .before .before .before in let x = a .args in queuing-over (λ T Q. takeFrom T Q (x .s .ride .stamp) (x .v) (x .from) (now (x .area)) (x .first) (x .n) (c .before .before .before .before .before .before .before .before .before .before .before .before .before .before .before .loop .j + 1)) (c .before .before .before .before .before .before .before .before .before .before .before .before .before .before .before .loop .inv) (c .before .before .before .before .before .before .before .before .before .take-transfer .ensures) (λ T Q y. nets-kept (c .before .before .before .before .before .before .before .before .before .before .before .before .before .before .before .loop .inv .same) (a .pre .0 .past) y) (λ T Q y. from-turn T Q (x .s .ride .stamp) (x .v) (x .from) (now (x .area)) (x .first) (x .n) _ _ (c .before .before .before .before .before .before .before .before .before .before .before .before .before .before .loop-test .taken)) (c .if1 .taken) (λ T Q z. from-grows T Q (x .s .ride .stamp) (x .v) (x .from) (now (x .area)) (x .first) (x .n) _ z)
 
 add-j : tie.Need-add-j Inv-loop μ-loop
 add-j c = let a = c .before .before .before .before .before .before .before .before .before .before .before .before .before .before .before .before .before .before .before .before .before .before .before .before .before .before in omega (arith, a .pre .1 .0 .near, c .before .before .before .before .before .before .before .before .before .before .before .before .before .before .loop-test .taken)
@@ -55,7 +55,7 @@ loop-less : tie.Need-loop-less Inv-loop μ-loop
 loop-less c = omega (arith, c .before .before .before .before .before .before .before .before .before .before .before .before .before .before .loop-test .taken)
 
 loop-again : tie.Need-loop-again Inv-loop μ-loop
-loop-again c = let a = c .before .before .before .before .before .before .before .before .before .before .before .before .before .before .before .before .before .before .before .before .before .before .before .before .before .before in let x = a .args in queuing-turn _ (c .before .before .before .before .before .before .before .before .before .before .before .before .before .before .before .loop .inv) (c .before .before .before .before .before .before .before .before .before .take-transfer .ensures) (λ T Q y. nets-kept (c .before .before .before .before .before .before .before .before .before .before .before .before .before .before .before .loop .inv .same) (a .pre .0 .past) y) (λ T Q y. from-turn T Q (x .stamp) (x .v) (x .from) (now (x .area)) (x .first) (x .n) _ _ (c .before .before .before .before .before .before .before .before .before .before .before .before .before .before .loop-test .taken)) (c .if1 .left)
+loop-again c = let a = c .before .before .before .before .before .before .before .before .before .before .before .before .before .before .before .before .before .before .before .before .before .before .before .before .before .before in let x = a .args in queuing-turn _ (c .before .before .before .before .before .before .before .before .before .before .before .before .before .before .before .loop .inv) (c .before .before .before .before .before .before .before .before .before .take-transfer .ensures) (λ T Q y. nets-kept (c .before .before .before .before .before .before .before .before .before .before .before .before .before .before .before .loop .inv .same) (a .pre .0 .past) y) (λ T Q y. from-turn T Q (x .s .ride .stamp) (x .v) (x .from) (now (x .area)) (x .first) (x .n) _ _ (c .before .before .before .before .before .before .before .before .before .before .before .before .before .before .loop-test .taken)) (c .if1 .left)
 
 same-length-5 : tie.Need-same-length-5 Inv-loop μ-loop
 same-length-5 c = c .before .loop .inv .same .size
@@ -70,7 +70,7 @@ same-length-8 : tie.Need-same-length-8 Inv-loop μ-loop
 same-length-8 c = c .before .loop .inv .size
 
 returns-2 : tie.Need-returns-2 Inv-loop μ-loop
-returns-2 c = let a = c .before .before .before .before .before .before .before .before .before .before .before .before in let x = a .args in queuing-end _ (c .before .loop .inv) (λ T Q y. from-end T Q (x .stamp) (x .v) (x .from) (now (x .area)) (x .first) (x .n) _ _ (c .loop-test .left))
+returns-2 c = let a = c .before .before .before .before .before .before .before .before .before .before .before .before in let x = a .args in queuing-end _ (c .before .loop .inv) (λ T Q y. from-end T Q (x .s .ride .stamp) (x .v) (x .from) (now (x .area)) (x .first) (x .n) _ _ (c .loop-test .left))
 
 pub take-transfers-spec : {M : Type 1} → statement M
 take-transfers-spec =
