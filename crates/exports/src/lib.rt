@@ -14,15 +14,14 @@ ghost use Rattle.label_table.specs.Calls.{outcome, storeOutcome, loadAnswer};
 ghost use Rattle.label.specs.declared.Label.the-variants.{Access, Transit, Walk};
 ghost use Rattle.clock.specs.Clock.{serviceSecond};
 ghost use Rattle.departures.specs.Call.{areas as departureAreas, outcomeOf as departureOutcomeOf, outcome as sortOutcome};
-ghost use Rattle.lines.specs.Call.{areas as lineAreas, outcome as linesOutcome};
+ghost use Rattle.lines.specs.Call.{areas as lineAreas, answerOf as linesAnswer, outcome as linesOutcome};
 ghost use Rattle.line_layout.specs.Call.{areas as layoutAreas, outcomeOf as layoutOutcomeOf, outcome as layoutOutcome};
-ghost use Rattle.transfers.specs.Call.{areas as transferAreas, lent, outcome as transfersOutcome};
+ghost use Rattle.transfers.specs.Call.{areas as transferAreas, answerOf as transfersAnswer, lent, outcome as transfersOutcome};
 ghost use Rattle.asking.specs.Lent.{lent as lentForQuery};
 ghost use Rattle.asking.specs.Door.{workspaceAnswer};
 ghost use Rattle.replies.specs.Outcome.{areas, runTbrOutcome, queryOutcome};
-ghost use Rattle.exports.specs.Counts.{countsOf, gathered, queryCountsOf};
+ghost use Rattle.sizes.specs.Counts.{countsOf, queryCountsOf};
 ghost use Rattle.exports.specs.Shown.{shown, shownOf, shownTransfers, shownTransfersOf};
-use asking::QueryCounts;
 use cell_bitset::CellBitSet;
 use cell_bitset::CellSetAnswer;
 use delay_tables::DelayAt;
@@ -31,11 +30,8 @@ use frequency::FreqAnswer;
 use label_table::LabelAnswer;
 use lines::Grouped;
 use replies::Reply;
-use tables::Counts;
+use sizes::QuerySizes;
 use transfers::Built;
-
-// The delay margin is at most this many seconds.
-const MARGIN_CAP: u32 = 21600;
 
 // The transfer time of built transfers, in seconds.
 const TRANSFER_TIME: usize = 120;
@@ -210,14 +206,7 @@ pub extern "C" fn savoiky_margin(
 ) -> Answer
     ensures { λ r. ⌜ r ≡ marginOutcome trips «delay_rows» «stop_row_count» (now (rows .entry)) (now («stop_rows» .entry)) 21600 ⌝ }
 {
-    delays::margin(
-        trips,
-        delay_rows,
-        stop_row_count,
-        rows,
-        stop_rows,
-        MARGIN_CAP,
-    )
+    sizes::capped_margin(trips, delay_rows, stop_row_count, rows, stop_rows)
 }
 
 // What the delay tables say of the stop time of a trip with this sequence number: known 1 where the trip has a delay row. The
@@ -373,18 +362,6 @@ pub extern "C" fn savoiky_label_load(
     label_table::load(stops, stop, row, labels, distances)
 }
 
-fn counts(stops: u32, trips: u32, times: u32, windows: u32, edges: u32) -> Counts
-    ensures { λ r. ⌜ r ≡ countsOf stops trips times windows edges ⌝ }
-{
-    Counts {
-        stops: stops as usize,
-        trips: trips as usize,
-        times: times as usize,
-        windows: windows as usize,
-        edges: edges as usize,
-    }
-}
-
 // THE TIMETABLE, `tables`, is one slice of 6 times + 8 trips + 3 windows + 5 edges + stops words, in this order:
 //   stop times, six words: stop, arrival, departure, sequence (any number), pickup, drop-off (0 to 3; only 1 bars)
 //   trips, eight words: first stop time, count (at least 1), mode (0 tram, 1 metro, 2 rail, 3 bus, 4 ferry, 5 coach, 6 other),
@@ -418,7 +395,7 @@ pub extern "C" fn savoiky_sort_stop_departures(
 ) -> u32
     ensures { λ r. ⌜ departureOutcomeOf r (departureAreas (now (rows .exit)) (now (marks .exit)) (now (work .exit)) (now (other .exit))) ≡ sortOutcome (now (tables .entry)) (countsOf stops trips times windows edges) departures (now (runs .entry)) (departureAreas (now (rows .entry)) (now (marks .entry)) (now (work .entry)) (now (other .entry))) ⌝ }
 {
-    let c = counts(stops, trips, times, windows, edges);
+    let c = sizes::counts(stops, trips, times, windows, edges);
     departures::sort_stop_departures(
         tables,
         c,
@@ -429,6 +406,15 @@ pub extern "C" fn savoiky_sort_stop_departures(
         work,
         other,
     )
+}
+
+fn lines_answer(g: Grouped) -> Answer
+    ensures { λ r. ⌜ r ≡ linesAnswer g ⌝ }
+{
+    match g {
+        Grouped::Refused(v) => door::refused(v),
+        Grouped::Lines(n) => door::given(n),
+    }
 }
 
 // Groups the trips into lines: trips with the same stops in the same order, by first departure. The value says how many lines.
@@ -450,11 +436,8 @@ pub extern "C" fn savoiky_compute_line_groups(
 ) -> Answer
     ensures { λ r. ⌜ shown r (lineAreas (now (lines .exit)) (now (runs .exit)) (now (entries .exit)) (now (work .exit)) (now (other .exit))) ≡ shownOf (linesOutcome (now (tables .entry)) (countsOf stops trips times windows edges) (lineAreas (now (lines .entry)) (now (runs .entry)) (now (entries .entry)) (now (work .entry)) (now (other .entry)))) ⌝ }
 {
-    let c = counts(stops, trips, times, windows, edges);
-    match lines::compute_line_groups(tables, c, lines, runs, entries, work, other) {
-        Grouped::Refused(v) => door::refused(v),
-        Grouped::Lines(n) => door::given(n),
-    }
+    let c = sizes::counts(stops, trips, times, windows, edges);
+    lines_answer(lines::compute_line_groups(tables, c, lines, runs, entries, work, other))
 }
 
 // Each trip's position in its line (4,294,967,295: in none) and each line's FIFO flag (1: no trip overtakes another), of any
@@ -477,7 +460,7 @@ pub extern "C" fn savoiky_line_layout(
 ) -> u32
     ensures { λ r. ⌜ layoutOutcomeOf r (layoutAreas (now (positions .exit)) (now (fifo .exit))) ≡ layoutOutcome (now (tables .entry)) (countsOf stops trips times windows edges) lines «entry_count» (now (runs .entry)) (now (entries .entry)) (layoutAreas (now (positions .entry)) (now (fifo .entry))) ⌝ }
 {
-    let c = counts(stops, trips, times, windows, edges);
+    let c = sizes::counts(stops, trips, times, windows, edges);
     line_layout::line_layout(
         tables,
         c,
@@ -488,6 +471,15 @@ pub extern "C" fn savoiky_line_layout(
         positions,
         fifo,
     )
+}
+
+fn transfers_answer(b: Built) -> Answer
+    ensures { λ r. ⌜ r ≡ transfersAnswer b ⌝ }
+{
+    match b {
+        Built::Refused(v) => door::refused(v),
+        Built::Rows(n) => door::given(n),
+    }
 }
 
 // Builds the transfers of every stop event (each stop time of each trip, trip by trip). The value says how many.
@@ -513,8 +505,8 @@ pub extern "C" fn savoiky_compute_trip_transfers(
 ) -> Answer
     ensures { λ r. ⌜ shownTransfers r (transferAreas (now (area .exit)) (now («transfer_runs» .exit))) ≡ shownTransfersOf (transfersOutcome (lent (now (tables .entry)) (countsOf stops trips times windows edges) «line_count» (now (lines .entry)) departures (now (runs .entry)) (now (rows .entry)) 120) (transferAreas (now (area .entry)) (now («transfer_runs» .entry)))) ⌝ }
 {
-    let c = counts(stops, trips, times, windows, edges);
-    match transfers::compute_trip_transfers(
+    let c = sizes::counts(stops, trips, times, windows, edges);
+    transfers_answer(transfers::compute_trip_transfers(
         tables,
         c,
         line_count as usize,
@@ -525,79 +517,7 @@ pub extern "C" fn savoiky_compute_trip_transfers(
         TRANSFER_TIME,
         area,
         transfer_runs,
-    ) {
-        Built::Refused(v) => door::refused(v),
-        Built::Rows(n) => door::given(n),
-    }
-}
-
-// The counts of a query: entries are line entries, delays the delay rows, egress the egress stops.
-#[repr(C)]
-pub struct QuerySizes {
-    pub trips: u32,
-    pub windows: u32,
-    pub times: u32,
-    pub edges: u32,
-    pub stops: u32,
-    pub cells: u32,
-    pub patterns: u32,
-    pub lines: u32,
-    pub entries: u32,
-    pub transfers: u32,
-    pub departures: u32,
-    pub delays: u32,
-    pub stop_rows: u32,
-    pub origins: u32,
-    pub egress: u32,
-}
-
-fn gather(
-    timetable: Counts,
-    cells: u32,
-    patterns: u32,
-    lines: u32,
-    entries: u32,
-    departures: u32,
-    transfers: u32,
-    delays: u32,
-    stop_rows: u32,
-    origins: u32,
-    egress: u32,
-) -> QueryCounts
-    ensures { λ r. ⌜ r ≡ gathered timetable cells patterns lines entries departures transfers delays «stop_rows» origins egress ⌝ }
-{
-    QueryCounts {
-        timetable: timetable,
-        cells: cells as usize,
-        patterns: patterns as usize,
-        lines: lines as usize,
-        entries: entries as usize,
-        departures: departures as usize,
-        transfers: transfers as usize,
-        delays: delays as usize,
-        stop_rows: stop_rows as usize,
-        origins: origins as usize,
-        egress: egress as usize,
-    }
-}
-
-fn query_counts(s: QuerySizes) -> QueryCounts
-    ensures { λ r. ⌜ r ≡ queryCountsOf s ⌝ }
-{
-    let timetable = counts(s.stops, s.trips, s.times, s.windows, s.edges);
-    gather(
-        timetable,
-        s.cells,
-        s.patterns,
-        s.lines,
-        s.entries,
-        s.departures,
-        s.transfers,
-        s.delays,
-        s.stop_rows,
-        s.origins,
-        s.egress,
-    )
+    ))
 }
 
 // How many words of workspace a query needs: 5 stops + 8 trips + 3 lines + 128. Question 1.
@@ -605,7 +525,7 @@ fn query_counts(s: QuerySizes) -> QueryCounts
 pub extern "C" fn savoiky_work_size(sizes: QuerySizes) -> Answer
     ensures { λ r. ⌜ r ≡ workspaceAnswer (queryCountsOf sizes) ⌝ }
 {
-    asking::workspace(query_counts(sizes))
+    asking::workspace(sizes::query_counts(sizes))
 }
 
 // A QUERY. Lent to be read:
@@ -650,7 +570,7 @@ pub extern "C" fn savoiky_run_tbr(
     ensures { λ r. ⌜ record { reply = r; areas = areas (now (labels .exit)) (now («label_distances» .exit)) (now (work .exit)) (now («queue_a» .exit)) (now («queue_b» .exit)) (now (candidates .exit)) } ≡ runTbrOutcome (lentForQuery (queryCountsOf sizes) (now (tables .entry)) (now (built .entry)) (now (transfers .entry)) (now (patterns .entry)) (now (distances .entry)) (now (query .entry))) (areas (now (labels .entry)) (now («label_distances» .entry)) (now (work .entry)) (now («queue_a» .entry)) (now («queue_b» .entry)) (now (candidates .entry))) ⌝ }
 {
     query::run_tbr(
-        query_counts(sizes),
+        sizes::query_counts(sizes),
         tables,
         built,
         transfers,
@@ -686,7 +606,7 @@ pub extern "C" fn savoiky_query(
     ensures { λ r. ⌜ record { reply = r; areas = areas (now (labels .exit)) (now («label_distances» .exit)) (now (work .exit)) (now («queue_a» .exit)) (now («queue_b» .exit)) (now (candidates .exit)) } ≡ queryOutcome (lentForQuery (queryCountsOf sizes) (now (tables .entry)) (now (built .entry)) (now (transfers .entry)) (now (patterns .entry)) (now (distances .entry)) (now (query .entry))) (areas (now (labels .entry)) (now («label_distances» .entry)) (now (work .entry)) (now («queue_a» .entry)) (now («queue_b» .entry)) (now (candidates .entry))) ⌝ }
 {
     query::query(
-        query_counts(sizes),
+        sizes::query_counts(sizes),
         tables,
         built,
         transfers,

@@ -1,48 +1,49 @@
 // Lines of the building calls: a timetable of fixed shape, and what each call must answer and leave.
-ghost use Prim.Native.Nat.{_<_};
-use crate::cases::at;
-use crate::cases::both;
+use crate::words::at;
+use crate::words::both;
+use crate::words::first_nine;
+use crate::words::part;
+use crate::words::rest;
+use crate::words::same_words;
 
-// The words from `from` on.
-fn copy_words(w: &[u32], from: usize, to: &mut [u32])
-    requires { ⌜ from < 4096 ⌝ }
-{
+// The timetable, and the runs of its stops.
+fn tables_of(w: &[u32]) -> &[u32] {
+    part(w, 10, 141)
+}
+
+fn runs_of(w: &[u32]) -> &[u32] {
+    part(w, 151, 6)
+}
+
+// The listed departures.
+fn rows_of(w: &[u32]) -> &[u32] {
+    part(w, 157, 20)
+}
+
+fn copy_words(w: &[u32], to: &mut [u32]) {
     let mut i: usize = 0;
     while i < to.len() {
-        to[i] = at(w, from + i);
+        to[i] = at(w, i);
         i += 1;
     }
 }
 
-// Are these the words from `from` on?
-fn same_words(w: &[u32], from: usize, a: &[u32]) -> bool
-    requires { ⌜ from < 4096 ⌝ }
-{
-    let mut i: usize = 0;
-    while i < a.len() {
-        if a[i] != at(w, from + i) {
-            return false;
-        }
-        i += 1;
-    }
-    true
-}
-
-fn sorting(w: &[u32], tables: &[u32], runs: &[u32]) -> bool {
+fn sorting(w: &[u32]) -> bool {
     let mut rows = [0u32; 20];
     let mut marks = [7u32; 3];
     let mut work = [7u64; 10];
     let mut other = [7u64; 10];
-    copy_words(w, 157, &mut rows);
+    copy_words(rows_of(w), &mut rows);
+    let n = first_nine(w);
     let code = exports::savoiky_sort_stop_departures(
-        at(w, 1),
-        at(w, 2),
-        at(w, 3),
-        at(w, 4),
-        at(w, 5),
-        at(w, 6),
-        tables,
-        runs,
+        n.1,
+        n.2,
+        n.3,
+        n.4,
+        n.5,
+        n.6,
+        tables_of(w),
+        runs_of(w),
         &mut rows,
         &mut marks,
         &mut work,
@@ -54,48 +55,52 @@ fn sorting(w: &[u32], tables: &[u32], runs: &[u32]) -> bool {
     )
 }
 
-fn grouping(w: &[u32], tables: &[u32]) -> bool {
+fn grouping(w: &[u32]) -> bool {
     let mut lines = [7u32; 5];
     let mut runs = [7u32; 10];
     let mut entries = [7u32; 5];
     let mut work = [7u64; 5];
     let mut other = [7u64; 5];
+    let n = first_nine(w);
     let a = exports::savoiky_compute_line_groups(
-        at(w, 1),
-        at(w, 2),
-        at(w, 3),
-        at(w, 4),
-        at(w, 5),
-        tables,
+        n.1,
+        n.2,
+        n.3,
+        n.4,
+        n.5,
+        tables_of(w),
         &mut lines,
         &mut runs,
         &mut entries,
         &mut work,
         &mut other,
     );
-    let one = both(a.code == at(w, 218), a.value == at(w, 219));
-    let two = both(same_words(w, 220, &lines), same_words(w, 225, &runs));
-    both(one, both(two, same_words(w, 235, &entries)))
+    let one = both(
+        same_words(w, 218, &[a.code, a.value]),
+        same_words(w, 220, &lines),
+    );
+    both(
+        one,
+        both(same_words(w, 225, &runs), same_words(w, 235, &entries)),
+    )
 }
 
-fn laying_out(w: &[u32], tables: &[u32]) -> bool {
-    let mut runs = [0u32; 6];
-    let mut entries = [0u32; 6];
+// The call's numbers are the words from 1 on; 1 to 5 the counts of the timetable, 8 and 9 those of the lines.
+fn laying_out(w: &[u32]) -> bool {
     let mut positions = [7u32; 5];
     let mut fifo = [7u32; 3];
-    copy_words(w, 182, &mut runs);
-    copy_words(w, 188, &mut entries);
+    let n = first_nine(rest(w, 1));
     let code = exports::savoiky_line_layout(
-        at(w, 1),
-        at(w, 2),
-        at(w, 3),
-        at(w, 4),
-        at(w, 5),
-        at(w, 8),
-        at(w, 9),
-        tables,
-        &runs,
-        &entries,
+        n.0,
+        n.1,
+        n.2,
+        n.3,
+        n.4,
+        n.7,
+        n.8,
+        tables_of(w),
+        part(w, 182, 6),
+        part(w, 188, 6),
         &mut positions,
         &mut fifo,
     );
@@ -105,31 +110,27 @@ fn laying_out(w: &[u32], tables: &[u32]) -> bool {
     )
 }
 
-fn transferring(w: &[u32], tables: &[u32], runs: &[u32]) -> bool {
-    let mut rows = [0u32; 20];
-    let mut lines = [0u32; 5];
+fn transferring(w: &[u32]) -> bool {
     let mut area = [7u32; 96];
     let mut transfer_runs = [7u32; 30];
-    copy_words(w, 157, &mut rows);
-    copy_words(w, 177, &mut lines);
+    let n = first_nine(w);
     let a = exports::savoiky_compute_trip_transfers(
-        at(w, 1),
-        at(w, 2),
-        at(w, 3),
-        at(w, 4),
-        at(w, 5),
-        at(w, 7),
-        at(w, 6),
-        tables,
-        &lines,
-        runs,
-        &rows,
+        n.1,
+        n.2,
+        n.3,
+        n.4,
+        n.5,
+        n.7,
+        n.6,
+        tables_of(w),
+        part(w, 177, 5),
+        runs_of(w),
+        rows_of(w),
         &mut area,
         &mut transfer_runs,
     );
-    let one = both(a.code == at(w, 249), a.value == at(w, 250));
     both(
-        one,
+        same_words(w, 249, &[a.code, a.value]),
         both(
             same_words(w, 251, &area),
             same_words(w, 347, &transfer_runs),
@@ -139,13 +140,8 @@ fn transferring(w: &[u32], tables: &[u32], runs: &[u32]) -> bool {
 
 // Are the answers of all four calls those on the line?
 pub fn built(w: &[u32]) -> bool {
-    let mut tables = [0u32; 141];
-    let mut runs = [0u32; 6];
-    copy_words(w, 10, &mut tables);
-    copy_words(w, 151, &mut runs);
-    let one = both(sorting(w, &tables, &runs), grouping(w, &tables));
     both(
-        one,
-        both(laying_out(w, &tables), transferring(w, &tables, &runs)),
+        both(sorting(w), grouping(w)),
+        both(laying_out(w), transferring(w)),
     )
 }

@@ -7,6 +7,7 @@ mod building;
 mod cases;
 mod lines;
 mod queries;
+mod words;
 
 use libc::STDIN_FILENO;
 use libc::STDOUT_FILENO;

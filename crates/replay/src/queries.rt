@@ -1,29 +1,69 @@
 // Lines of `run_tbr` and `query`: a search as it is lent, and what each of the two calls must answer and leave.
-ghost use Prim.Native.Nat.{_+_, _≤_, _<_};
-use crate::cases::at;
-use crate::cases::both;
-use crate::cases::length_at;
-use exports::QuerySizes;
+ghost use Prim.Native.Nat.{_≤_, _<_};
+use crate::words::at;
+use crate::words::both;
+use crate::words::first_nine;
+use crate::words::length_at;
+use crate::words::part;
+use crate::words::rest;
+use crate::words::same_words;
 use replies::Reply;
+use sizes::QuerySizes;
 
 fn sizes(w: &[u32]) -> QuerySizes {
+    let a = first_nine(rest(w, 1));
+    let b = first_nine(rest(w, 10));
     QuerySizes {
-        trips: at(w, 1),
-        windows: at(w, 2),
-        times: at(w, 3),
-        edges: at(w, 4),
-        stops: at(w, 5),
-        cells: at(w, 6),
-        patterns: at(w, 7),
-        lines: at(w, 8),
-        entries: at(w, 9),
-        transfers: at(w, 10),
-        departures: at(w, 11),
-        delays: at(w, 12),
-        stop_rows: at(w, 13),
-        origins: at(w, 14),
-        egress: at(w, 15),
+        trips: a.0,
+        windows: a.1,
+        times: a.2,
+        edges: a.3,
+        stops: a.4,
+        cells: a.5,
+        patterns: a.6,
+        lines: a.7,
+        entries: a.8,
+        transfers: b.0,
+        departures: b.1,
+        delays: b.2,
+        stop_rows: b.3,
+        origins: b.4,
+        egress: b.5,
     }
+}
+
+// The sections of what is lent to be read, as they stand on the line from word 28 on: timetable, built, transfers, query, patterns,
+// distances. Which word says how long section k is: the query's is the last of them.
+fn length_place(k: usize) -> usize
+    requires { ⌜ k < 8 ⌝ }
+{
+    if k < 3 {
+        return 16 + k;
+    }
+    if k == 3 {
+        return 21;
+    }
+    15 + k
+}
+
+// Where section k begins; with 6, where what the calls must answer begins.
+fn section_at(w: &[u32], k: usize) -> usize
+    requires { ⌜ k < 8 ⌝ }
+    ensures { λ r. ⌜ r < 65536 ⌝ }
+{
+    let mut at: usize = 28;
+    let mut i: usize = 0;
+    while i < k {
+        at += length_at(w, length_place(i));
+        i += 1;
+    }
+    at
+}
+
+fn section(w: &[u32], k: usize) -> &[u32]
+    requires { ⌜ k < 8 ⌝ }
+{
+    part(w, section_at(w, k), length_at(w, length_place(k)))
 }
 
 // Word i as a length, at most so many: where that is fewer, the call refuses what it is lent, and the line differs.
@@ -63,14 +103,14 @@ fn take_word(a: &mut [u32], k: usize, word: u32) -> bool {
     false
 }
 
-// Are the n words of `a` from `from` on those of the line from `p` on? They become 0.
-fn take_words(a: &mut [u32], from: usize, n: usize, w: &[u32], p: usize) -> bool
-    requires { ⌜ (from < 65536) × (n < 4096) × (p < 1000000) ⌝ }
+// Are the n words of `a` from `from` on the first ones of `w`? They become 0.
+fn take_words(a: &mut [u32], from: usize, n: usize, w: &[u32]) -> bool
+    requires { ⌜ (from < 65536) × (n < 4096) ⌝ }
 {
     let mut right = true;
     let mut i: usize = 0;
     while i < n {
-        right = both(right, take_word(a, from + i, at(w, p + i)));
+        right = both(right, take_word(a, from + i, at(w, i)));
         i += 1;
     }
     right
@@ -85,18 +125,23 @@ fn take_distance(a: &mut [f64], k: usize, distance: f64) -> bool {
     false
 }
 
-// Are these the n labels of the line from `p` on? They become 0.
-fn take_labels(w: &[u32], p: usize, n: usize, labels: &mut [u32], distances: &mut [f64]) -> bool
-    requires { ⌜ (p < 100000) × (n < 1024) ⌝ }
+// Is the label of these words, its place first, among the labels? It becomes 0.
+fn take_label(w: &[u32], labels: &mut [u32], distances: &mut [f64]) -> bool {
+    let k = length_at(w, 0);
+    both(
+        take_words(labels, 8 * k, 8, rest(w, 1)),
+        take_distance(distances, k, at(w, 9) as f64),
+    )
+}
+
+// Are these the n labels of the words? They become 0.
+fn take_labels(w: &[u32], n: usize, labels: &mut [u32], distances: &mut [f64]) -> bool
+    requires { ⌜ n < 1024 ⌝ }
 {
     let mut right = true;
     let mut i: usize = 0;
     while i < n {
-        let q = p + 10 * i;
-        let k = length_at(w, q);
-        let words = take_words(labels, 8 * k, 8, w, q + 1);
-        let distance = take_distance(distances, k, at(w, q + 9) as f64);
-        right = both(right, both(words, distance));
+        right = both(right, take_label(rest(w, 10 * i), labels, distances));
         i += 1;
     }
     right
@@ -136,83 +181,47 @@ fn after(code: u32) -> u32 {
     7
 }
 
-// The outcome of one call stands on the line from `from` on.
-fn reply_right(r: Reply, w: &[u32], from: usize) -> bool
-    requires { ⌜ from < 65536 ⌝ }
-{
-    let one = both(r.code == at(w, from), r.total == at(w, from + 1));
-    let two = both(r.stop == at(w, from + 2), r.candidates == at(w, from + 3));
-    both(one, two)
-}
-
-// Where its labels begin: their number, then each.
-fn labels_from(w: &[u32], from: usize) -> usize
-    requires { ⌜ from < 65536 ⌝ }
-    ensures { λ r. ⌜ r < from + 3076 ⌝ }
-{
-    let n = length_at(w, from + 3);
-    from + 4 + 3 * n
-}
-
-// Where the outcome of a call begins: that of `run_tbr` (call 0) after the words of what is lent, that of `query` after it.
-fn outcome_from(w: &[u32], call: u32) -> usize
-    ensures { λ r. ⌜ r < 65536 ⌝ }
-{
-    let a = 28 + length_at(w, 16) + length_at(w, 17) + length_at(w, 18);
-    let b = a + length_at(w, 19) + length_at(w, 20) + length_at(w, 21);
-    if call == 0 {
-        return b;
+// The same of a word of the candidates: a queue that is too short leaves them as they came.
+fn candidates_after(code: u32) -> u32 {
+    if code == 0 {
+        return 0;
     }
-    let p = labels_from(w, b);
-    p + 1 + 10 * length_at(w, p)
+    7
 }
 
-fn candidates_right(w: &[u32], from: usize, candidates: &mut [u32]) -> bool
-    requires { ⌜ from < 65536 ⌝ }
-{
-    let n = length_at(w, from + 3);
-    let right = take_words(candidates, 0, 3 * n, w, from + 4);
-    if at(w, from) == 0 {
-        return both(right, all_are(candidates, 0));
-    }
-    both(right, all_are(candidates, 7))
+// The words of an outcome, `o`: code, total, stop, how many candidates; those; how many labels; those.
+fn reply_right(r: Reply, o: &[u32]) -> bool {
+    same_words(o, 0, &[r.code, r.total, r.stop, r.candidates])
 }
 
-fn labels_right(w: &[u32], from: usize, labels: &mut [u32], distances: &mut [f64]) -> bool
-    requires { ⌜ from < 65536 ⌝ }
-{
-    let p = labels_from(w, from);
-    let n = length_at(w, p);
-    let v = after(at(w, from));
-    let right = take_labels(w, p + 1, n, labels, distances);
+fn candidates_right(o: &[u32], candidates: &mut [u32]) -> bool {
+    let right = take_words(candidates, 0, 3 * length_at(o, 3), rest(o, 4));
+    both(right, all_are(candidates, candidates_after(at(o, 0))))
+}
+
+// The labels' number and the labels.
+fn labels_of(o: &[u32]) -> &[u32] {
+    rest(o, 4 + 3 * length_at(o, 3))
+}
+
+fn labels_right(o: &[u32], labels: &mut [u32], distances: &mut [f64]) -> bool {
+    let l = labels_of(o);
+    let v = after(at(o, 0));
+    let right = take_labels(rest(l, 1), length_at(l, 0), labels, distances);
     both(
         right,
         both(all_are(labels, v), distances_are(distances, v as f64)),
     )
 }
 
-// Puts the search to `run_tbr` (call 0) or `query`. To read: timetable, built, transfers, patterns, distances, query; to write: labels, their
-// distances, workspace, the queue halves, candidates.
-fn ask(
-    call: u32,
-    n: QuerySizes,
-    t: &[u32],
-    b: &[u32],
-    x: &[u32],
-    p: &[u8],
-    d: &[f64],
-    q: &[u32],
-    l: &mut [u32],
-    m: &mut [f64],
-    k: &mut [u32],
-    u: &mut [u32],
-    v: &mut [u32],
-    c: &mut [u32],
-) -> Reply {
+// The outcome of `run_tbr` (call 0), after the words of what is lent, or of `query`, after that.
+fn outcome(w: &[u32], call: u32) -> &[u32] {
+    let o = rest(w, section_at(w, 6));
     if call == 0 {
-        return exports::savoiky_run_tbr(n, t, b, x, p, d, q, l, m, k, u, v, c);
+        return o;
     }
-    exports::savoiky_query(n, t, b, x, p, d, q, l, m, k, u, v, c)
+    let l = labels_of(o);
+    rest(l, 1 + 10 * length_at(l, 0))
 }
 
 // Is every word of workspace and queue the one that must be there after this code?
@@ -221,11 +230,10 @@ fn cleared(code: u32, k: &[u32], u: &[u32], v: &[u32]) -> bool {
     both(all_are(k, word), both(all_are(u, word), all_are(v, word)))
 }
 
-// Is the call's reply, and every word of what it was lent to write, what the line says?
+// Is the call's reply, and every word of what it was lent to write, what the outcome says?
 fn left(
-    call: u32,
     reply: Reply,
-    w: &[u32],
+    o: &[u32],
     l: &mut [u32],
     m: &mut [f64],
     k: &[u32],
@@ -233,21 +241,42 @@ fn left(
     v: &[u32],
     c: &mut [u32],
 ) -> bool {
-    let from = outcome_from(w, call);
-    let one = both(reply_right(reply, w, from), candidates_right(w, from, c));
-    let two = cleared(at(w, from), k, u, v);
-    both(one, both(two, labels_right(w, from, l, m)))
+    both(
+        both(reply_right(reply, o), candidates_right(o, c)),
+        both(cleared(at(o, 0), k, u, v), labels_right(o, l, m)),
+    )
+}
+
+// Puts the search to `run_tbr` (call 0) or `query`. To read: the line, patterns, distances; to write: labels, their distances, workspace, the
+// queue halves, candidates.
+fn ask(
+    call: u32,
+    w: &[u32],
+    p: &[u8],
+    d: &[f64],
+    l: &mut [u32],
+    m: &mut [f64],
+    k: &mut [u32],
+    u: &mut [u32],
+    v: &mut [u32],
+    c: &mut [u32],
+) -> Reply {
+    let n = sizes(w);
+    let t = section(w, 0);
+    let b = section(w, 1);
+    let x = section(w, 2);
+    let q = section(w, 3);
+    if call == 0 {
+        return exports::savoiky_run_tbr(n, t, b, x, p, d, q, l, m, k, u, v, c);
+    }
+    exports::savoiky_query(n, t, b, x, p, d, q, l, m, k, u, v, c)
 }
 
 fn asked(
     call: u32,
     w: &[u32],
-    t: &[u32],
-    b: &[u32],
-    x: &[u32],
     p: &[u8],
     d: &[f64],
-    q: &[u32],
     l: &mut [u32],
     m: &mut [f64],
     k: &mut [u32],
@@ -255,21 +284,12 @@ fn asked(
     v: &mut [u32],
     c: &mut [u32],
 ) -> bool {
-    let reply = ask(call, sizes(w), t, b, x, p, d, q, l, m, k, u, v, c);
-    left(call, reply, w, l, m, k, u, v, c)
+    let reply = ask(call, w, p, d, l, m, k, u, v, c);
+    left(reply, outcome(w, call), l, m, k, u, v, c)
 }
 
 // What is lent to be written holds 7 in every word.
-fn one_call(
-    call: u32,
-    w: &[u32],
-    t: &[u32],
-    b: &[u32],
-    x: &[u32],
-    p: &[u8],
-    d: &[f64],
-    q: &[u32],
-) -> bool {
+fn one_call(call: u32, w: &[u32], p: &[u8], d: &[f64]) -> bool {
     let mut labels = [7u32; 840];
     let mut distances = [7.0f64; 105];
     let mut work = [7u32; 384];
@@ -279,12 +299,8 @@ fn one_call(
     asked(
         call,
         w,
-        t,
-        b,
-        x,
         p,
         d,
-        q,
         &mut labels[..part_at(w, 22, 840)],
         &mut distances[..part_at(w, 23, 105)],
         &mut work[..part_at(w, 24, 384)],
@@ -294,48 +310,18 @@ fn one_call(
     )
 }
 
-// Patterns and distances out of their words; then both calls.
-fn both_calls(
-    w: &[u32],
-    t: &[u32],
-    b: &[u32],
-    x: &[u32],
-    bytes: &[u32],
-    far: &[u32],
-    q: &[u32],
-) -> bool {
+// Are the answers of both calls those on the line? Patterns and distances are made of their words.
+pub fn searched(w: &[u32]) -> bool {
     let mut patterns = [0u8; 256];
     let mut distances = [0.0f64; 64];
-    put_bytes(bytes, &mut patterns);
-    put_distances(far, &mut distances);
+    if w.len() < section_at(w, 6) {
+        return false;
+    }
+    put_bytes(section(w, 4), &mut patterns);
+    put_distances(section(w, 5), &mut distances);
     let n = part_at(w, 19, 256);
     let m = part_at(w, 20, 64);
     let p = &patterns[..n];
     let d = &distances[..m];
-    both(
-        one_call(0, w, t, b, x, p, d, q),
-        one_call(1, w, t, b, x, p, d, q),
-    )
-}
-
-// Are the answers of both calls those on the line?
-pub fn searched(w: &[u32]) -> bool {
-    let a = 28 + length_at(w, 16);
-    let b = a + length_at(w, 17);
-    let c = b + length_at(w, 18);
-    let d = c + length_at(w, 21);
-    let e = d + length_at(w, 19);
-    let f = e + length_at(w, 20);
-    if w.len() < f {
-        return false;
-    }
-    both_calls(
-        w,
-        &w[28..a],
-        &w[a..b],
-        &w[b..c],
-        &w[d..e],
-        &w[e..f],
-        &w[c..d],
-    )
+    both(one_call(0, w, p, d), one_call(1, w, p, d))
 }

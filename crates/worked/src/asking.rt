@@ -9,8 +9,8 @@ use crate::words::say;
 use crate::words::say_number;
 use crate::words::say_time;
 use crate::words::wide;
-use exports::QuerySizes;
 use replies::Reply;
+use sizes::QuerySizes;
 
 // The total of "no way".
 const NEVER: u32 = 4294967295;

@@ -8,7 +8,7 @@ use crate::words::say;
 use crate::words::say_number;
 use crate::words::wide;
 use door::Answer;
-use exports::QuerySizes;
+use sizes::QuerySizes;
 
 // What was built: the question that refused it, or 0; the counts, of lines, entries and transfers too; how many words of
 // `built` it takes.

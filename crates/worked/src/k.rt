@@ -9,7 +9,7 @@ use crate::words::refused;
 use crate::words::say;
 use crate::words::say_number;
 use crate::words::say_time;
-use exports::QuerySizes;
+use sizes::QuerySizes;
 
 // Three stops, three trips, five listed departures, an origin and an egress stop.
 fn sizes() -> QuerySizes {

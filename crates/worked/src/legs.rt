@@ -5,8 +5,8 @@ use crate::words::say;
 use crate::words::say_number;
 use crate::words::say_time;
 use crate::words::wide;
-use exports::QuerySizes;
 use label::LabelRow;
+use sizes::QuerySizes;
 
 // The label of a stop in this row, or in the next lower row that has one.
 pub fn label_at(stops: u32, stop: u32, row: u32, labels: &[u32], distances: &[f64]) -> LabelRow {

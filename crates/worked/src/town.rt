@@ -6,7 +6,7 @@ use crate::building::show_lines;
 use crate::words::part;
 use crate::words::refused;
 use crate::words::say;
-use exports::QuerySizes;
+use sizes::QuerySizes;
 
 fn sizes() -> QuerySizes {
     QuerySizes {

@@ -7,16 +7,13 @@ use Rattle.replay.proofs.building.copy_words.Statement.{statement}
 use Rattle.replay.proofs.building.copy_words.Tie as tie
 
 abbrev Inv-loop : tie.InvT-loop
-Inv-loop w from to₀ i₀ to i = (i ≤ length to) × (length to ≡ length to₀)
+Inv-loop w to₀ i₀ to i = (i ≤ length to) × (length to ≡ length to₀)
 
 abbrev μ-loop : tie.MeasureT-loop
-μ-loop w from to₀ i₀ to i = length to - i
+μ-loop w to₀ i₀ to i = length to - i
 
 loop-holds : tie.Need-loop-holds Inv-loop μ-loop
 loop-holds c = search needs
-
-add-at : tie.Need-add-at Inv-loop μ-loop
-add-at c = search needs
 
 at-requires : tie.Need-at-requires Inv-loop μ-loop
 at-requires c κs = search needs
@@ -49,7 +46,6 @@ copy-words-spec =
     Inv-loop
     μ-loop
     loop-holds
-    add-at
     at-requires
     mul-to
     slice-write-to

@@ -4,16 +4,13 @@ use Rattle.replay.proofs.cases.with_cells.Statement.{statement}
 use Rattle.replay.proofs.cases.with_cells.Tie as tie
 
 abbrev Inv-loop : tie.InvT-loop
-Inv-loop w from n s₀ i₀ s i = i ≤ n
+Inv-loop w n s₀ i₀ s i = i ≤ n
 
 abbrev μ-loop : tie.MeasureT-loop
-μ-loop w from n s₀ i₀ s i = n - i
+μ-loop w n s₀ i₀ s i = n - i
 
 loop-holds : tie.Need-loop-holds Inv-loop μ-loop
 loop-holds c = search needs
-
-add-at : tie.Need-add-at Inv-loop μ-loop
-add-at c = search needs
 
 at-requires : tie.Need-at-requires Inv-loop μ-loop
 at-requires c κs = search needs
@@ -41,7 +38,6 @@ with-cells-spec =
     Inv-loop
     μ-loop
     loop-holds
-    add-at
     at-requires
     savoiky-cell-bitset-set-bit-requires
     add-i

@@ -1,6 +1,6 @@
-use borrow.Author.Needs.{needs}
 use lib.Seq.{length-take-le}
 use mathlib.Core.Path.{sym}
+use borrow.Author.Needs.{needs}
 use Rattle.replay.proofs.queries.one_call.Statement.{statement}
 use Rattle.replay.proofs.queries.one_call.Tie as tie
 

@@ -1,54 +1,30 @@
-use borrow.Author.Needs.{needs}
 use Prim.Native.Nat.{_-_, _≤_}
 use lib.ListN.{length}
 use mathlib.Core.Path.{_≡_}
+use borrow.Author.Needs.{needs}
 use Rattle.replay.proofs.queries.take_labels.Statement.{statement}
 use Rattle.replay.proofs.queries.take_labels.Tie as tie
 
 abbrev Inv-loop : tie.InvT-loop
-Inv-loop w p n labels₀ distances₀ right₀ i₀ labels distances right i = (i ≤ n) × (length labels ≡ length labels₀) × (length distances ≡ length distances₀)
+Inv-loop w n labels₀ distances₀ right₀ i₀ labels distances right i = (i ≤ n) × (length labels ≡ length labels₀) × (length distances ≡ length distances₀)
 
 abbrev μ-loop : tie.MeasureT-loop
-μ-loop w p n labels₀ distances₀ right₀ i₀ labels distances right i = n - i
+μ-loop w n labels₀ distances₀ right₀ i₀ labels distances right i = n - i
 
 loop-holds : tie.Need-loop-holds Inv-loop μ-loop
 loop-holds c = search needs
 
-mul-q : tie.Need-mul-q Inv-loop μ-loop
-mul-q c = search needs
+mul-rest : tie.Need-mul-rest Inv-loop μ-loop
+mul-rest c = search needs
 
-add-q : tie.Need-add-q Inv-loop μ-loop
-add-q c = search needs
+rest-requires : tie.Need-rest-requires Inv-loop μ-loop
+rest-requires c κs = search needs
 
-length-at-requires : tie.Need-length-at-requires Inv-loop μ-loop
-length-at-requires c κs = search needs
-
-mul-take-words : tie.Need-mul-take-words Inv-loop μ-loop
-mul-take-words c = search needs
-
-add-take-words : tie.Need-add-take-words Inv-loop μ-loop
-add-take-words c = search needs
-
-take-words-requires : tie.Need-take-words-requires Inv-loop μ-loop
-take-words-requires c κs = search needs
-
-add-at : tie.Need-add-at Inv-loop μ-loop
-add-at c = search needs
-
-at-requires : tie.Need-at-requires Inv-loop μ-loop
-at-requires c κs = search needs
-
-int-to-float-take-distance : tie.Need-int-to-float-take-distance Inv-loop μ-loop
-int-to-float-take-distance c = search needs
-
-take-distance-requires : tie.Need-take-distance-requires Inv-loop μ-loop
-take-distance-requires c κs = search needs
+take-label-requires : tie.Need-take-label-requires Inv-loop μ-loop
+take-label-requires c κs = search needs
 
 both-requires : tie.Need-both-requires Inv-loop μ-loop
 both-requires c κs = search needs
-
-both-requires-2 : tie.Need-both-requires-2 Inv-loop μ-loop
-both-requires-2 c κs = search needs
 
 add-i : tie.Need-add-i Inv-loop μ-loop
 add-i c = search needs
@@ -75,18 +51,10 @@ take-labels-spec =
     Inv-loop
     μ-loop
     loop-holds
-    mul-q
-    add-q
-    length-at-requires
-    mul-take-words
-    add-take-words
-    take-words-requires
-    add-at
-    at-requires
-    int-to-float-take-distance
-    take-distance-requires
+    mul-rest
+    rest-requires
+    take-label-requires
     both-requires
-    both-requires-2
     add-i
     loop-less
     loop-again

@@ -6,19 +6,16 @@ use Rattle.replay.proofs.queries.take_words.Statement.{statement}
 use Rattle.replay.proofs.queries.take_words.Tie as tie
 
 abbrev Inv-loop : tie.InvT-loop
-Inv-loop a₀ from n w p right₀ i₀ a right i = (i ≤ n) × (length a ≡ length a₀)
+Inv-loop a₀ from n w right₀ i₀ a right i = (i ≤ n) × (length a ≡ length a₀)
 
 abbrev μ-loop : tie.MeasureT-loop
-μ-loop a₀ from n w p right₀ i₀ a right i = n - i
+μ-loop a₀ from n w right₀ i₀ a right i = n - i
 
 loop-holds : tie.Need-loop-holds Inv-loop μ-loop
 loop-holds c = search needs
 
 add-take-word : tie.Need-add-take-word Inv-loop μ-loop
 add-take-word c = search needs
-
-add-at : tie.Need-add-at Inv-loop μ-loop
-add-at c = search needs
 
 at-requires : tie.Need-at-requires Inv-loop μ-loop
 at-requires c κs = search needs
@@ -52,7 +49,6 @@ take-words-spec =
     μ-loop
     loop-holds
     add-take-word
-    add-at
     at-requires
     take-word-requires
     both-requires

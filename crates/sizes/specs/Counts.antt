@@ -2,7 +2,7 @@
 use Prim.Native.Nat.{ℕ}
 use Rattle.tables.specs.declared.Counts.{Counts}
 use Rattle.asking.specs.declared.QueryCounts.{QueryCounts}
-use Rattle.exports.specs.declared.QuerySizes.{QuerySizes}
+use Rattle.sizes.specs.declared.QuerySizes.{QuerySizes}
 
 abbrev pub countsOf : ℕ → ℕ → ℕ → ℕ → ℕ → Counts
 countsOf stops trips times windows edges = record { stops = stops; trips = trips; times = times; windows = windows; edges = edges }

@@ -1,14 +1,26 @@
-use borrow.Author.Needs.{needs}
 use lib.Seq.{length-take-le}
 use mathlib.Core.Path.{sym}
-use Rattle.replay.proofs.queries.both_calls.Statement.{statement}
-use Rattle.replay.proofs.queries.both_calls.Tie as tie
+use borrow.Author.Needs.{needs}
+use Rattle.replay.proofs.queries.searched.Statement.{statement}
+use Rattle.replay.proofs.queries.searched.Tie as tie
+
+section-at-requires : tie.Need-section-at-requires
+section-at-requires c κs = search needs
+
+returns : tie.Need-returns
+returns c = search needs
+
+section-requires : tie.Need-section-requires
+section-requires c κs = search needs
 
 slice-aggregate-put-bytes : tie.Need-slice-aggregate-put-bytes
 slice-aggregate-put-bytes c = search needs
 
 put-bytes-requires : tie.Need-put-bytes-requires
 put-bytes-requires c κs = search needs
+
+section-requires-2 : tie.Need-section-requires-2
+section-requires-2 c κs = search needs
 
 slice-aggregate-put-distances : tie.Need-slice-aggregate-put-distances
 slice-aggregate-put-distances c = search needs
@@ -43,15 +55,19 @@ one-call-requires-2 c κs = search needs
 both-requires : tie.Need-both-requires
 both-requires c κs = search needs
 
-returns : tie.Need-returns
-returns c = search needs
+returns-2 : tie.Need-returns-2
+returns-2 c = search needs
 
-pub both-calls-spec : {M : Type 1} → statement M
-both-calls-spec =
+pub searched-spec : {M : Type 1} → statement M
+searched-spec =
     tie.close
     (tie.spec
+    section-at-requires
+    returns
+    section-requires
     slice-aggregate-put-bytes
     put-bytes-requires
+    section-requires-2
     slice-aggregate-put-distances
     put-distances-requires
     part-at-requires
@@ -63,4 +79,4 @@ both-calls-spec =
     one-call-requires
     one-call-requires-2
     both-requires
-    returns)
+    returns-2)

@@ -1,13 +1,13 @@
 use mathlib.Core.Path.{ap, _∙_}
 use Rattle.tables.specs.declared.Counts.{Counts}
-use Rattle.exports.specs.Counts.{gathered}
+use Rattle.sizes.specs.Counts.{gathered}
 use borrow.Author.Needs.{needs}
-use Rattle.exports.proofs.query_counts.Statement.{statement}
-use Rattle.exports.proofs.query_counts.Tie as tie
-use Rattle.exports.proofs.query_counts.Reads as reads
-use Rattle.exports.proofs.query_counts.Lts as lts
-use Rattle.exports.proofs.counts.Reads as counts-reads
-use Rattle.exports.proofs.gather.Reads as gather-reads
+use Rattle.sizes.proofs.query_counts.Statement.{statement}
+use Rattle.sizes.proofs.query_counts.Tie as tie
+use Rattle.sizes.proofs.query_counts.Reads as reads
+use Rattle.sizes.proofs.query_counts.Lts as lts
+use Rattle.sizes.proofs.counts.Reads as counts-reads
+use Rattle.sizes.proofs.gather.Reads as gather-reads
 
 counts-requires : tie.Need-counts-requires
 counts-requires c κs = search needs

@@ -2,8 +2,8 @@ use borrow.Author.Needs.{needs}
 use Prim.Native.Nat.{_-_, _≤_}
 use lib.ListN.{length}
 use mathlib.Core.Path.{_≡_}
-use Rattle.replay.proofs.building.same_words.Statement.{statement}
-use Rattle.replay.proofs.building.same_words.Tie as tie
+use Rattle.replay.proofs.words.same_words.Statement.{statement}
+use Rattle.replay.proofs.words.same_words.Tie as tie
 
 abbrev Inv-loop : tie.InvT-loop
 Inv-loop w from a i₀ i = i ≤ length a
