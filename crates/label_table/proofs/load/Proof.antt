@@ -1,5 +1,6 @@
+use Rattle.label.specs.Label.{rowOf}
 use borrow.Author.Needs.{needs}
-use mathlib.Core.Path.{_∙_, sym}
+use mathlib.Core.Path.{_∙_, sym, ap}
 use native.Mathlib.Omega.{arith}
 use Rattle.label_table.proofs.Calls.{in-table, load-refused, load-made, load-no-kind}
 use Rattle.label_table.proofs.load.Statement.{statement}
@@ -33,7 +34,7 @@ row-of-requires : tie.Need-row-of-requires
 row-of-requires c κs = search needs
 
 returns-3 : tie.Need-returns-3
-returns-3 c = (cc) ∙ load-made _ _ _ _ _ (sym (c .before .before .before .before .before .before .before .place .ensures) ∙ c .before .before .before .before .before .before .if1 .left) _ (c .before .before .before .before .before .record-of .ensures) (c .before .before .before .before .get-row .result) (c .before .before .before .before .get-row .ensures) (omega arith)
+returns-3 c = (λ p. record { code = 0; row = (c .row-of .ensures ∙ ap rowOf (c .before .label-of .ensures)) p }) ∙ load-made _ _ _ _ _ (sym (c .before .before .before .before .before .before .before .place .ensures) ∙ c .before .before .before .before .before .before .if1 .left) _ (c .before .before .before .before .before .record-of .ensures) (c .before .before .before .before .get-row .result) (c .before .before .before .before .get-row .ensures) (omega arith)
 
 pub load-spec : {M : Type 1} → statement M
 load-spec =

@@ -6,7 +6,7 @@ empty-row-requires : tie.Need-empty-row-requires
 empty-row-requires c κs = search needs
 
 returns : tie.Need-returns
-returns c = cc
+returns c = λ p. record { code = c .before .args .code; row = c .empty-row .ensures p }
 
 pub refused-label-spec : {M : Type 1} → statement M
 refused-label-spec = tie.close (tie.spec empty-row-requires returns)
