@@ -10,7 +10,7 @@ ghost use Rattle.walk.specs.Walk.{walkDuration, roundCount};
 ghost use Rattle.frequency.specs.Entry.{freqOutcome};
 ghost use Rattle.realtime.specs.Door.{departureOutcome, arrivalOutcome, skippedOutcome};
 ghost use Rattle.delay_tables.specs.Door.{marginOutcome, delayAtOutcome};
-ghost use Rattle.label_table.specs.Calls.{outcome, storeOutcome, loadAnswer};
+ghost use Rattle.label_calls.specs.Calls.{outcome, storeOutcome, loadAnswer};
 ghost use Rattle.label.specs.declared.Label.the-variants.{Access, Transit, Walk};
 ghost use Rattle.clock.specs.Clock.{serviceSecond};
 ghost use Rattle.departures.specs.Call.{areas as departureAreas, outcomeOf as departureOutcomeOf, outcome as sortOutcome};
@@ -28,7 +28,7 @@ use cell_bitset::CellSetAnswer;
 use delay_tables::DelayAt;
 use door::Answer;
 use frequency::FreqAnswer;
-use label_table::LabelAnswer;
+use label_calls::LabelAnswer;
 use lines::Grouped;
 use replies::Reply;
 use tables::Counts;
@@ -280,7 +280,7 @@ pub extern "C" fn savoiky_label_store_access(
 ) -> u32
     ensures { λ r. ⌜ outcome r (now (labels .exit)) (now (distances .exit)) ≡ storeOutcome (Access «stop_idx» «arrival_s» «walk_duration» «walk_distance») stops stop row (now (labels .entry)) (now (distances .entry)) ⌝ }
 {
-    label_table::store_access(
+    label_calls::store_access(
         stops,
         stop,
         row,
@@ -311,7 +311,7 @@ pub extern "C" fn savoiky_label_store_transit(
 ) -> u32
     ensures { λ r. ⌜ outcome r (now (labels .exit)) (now (distances .exit)) ≡ storeOutcome (Transit «arrival_s» «trip_idx» «board_stop» «board_off» «alight_off» «prev_round» «time_shift_s») stops stop row (now (labels .entry)) (now (distances .entry)) ⌝ }
 {
-    label_table::store_transit(
+    label_calls::store_transit(
         stops,
         stop,
         row,
@@ -344,7 +344,7 @@ pub extern "C" fn savoiky_label_store_walk(
 ) -> u32
     ensures { λ r. ⌜ outcome r (now (labels .exit)) (now (distances .exit)) ≡ storeOutcome (Walk «arrival_s» «from_stop» «to_stop» «duration_s» «distance_m» «prev_round») stops stop row (now (labels .entry)) (now (distances .entry)) ⌝ }
 {
-    label_table::store_walk(
+    label_calls::store_walk(
         stops,
         stop,
         row,
@@ -370,7 +370,7 @@ pub extern "C" fn savoiky_label_load(
 ) -> LabelAnswer
     ensures { λ r. ⌜ r ≡ loadAnswer stops stop row (now (labels .entry)) (now (distances .entry)) ⌝ }
 {
-    label_table::load(stops, stop, row, labels, distances)
+    label_calls::load(stops, stop, row, labels, distances)
 }
 
 fn counts(stops: u32, trips: u32, times: u32, windows: u32, edges: u32) -> Counts

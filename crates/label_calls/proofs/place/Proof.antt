@@ -2,9 +2,9 @@ use borrow.Author.Needs.{needs}
 use borrow.Author.Tests.{le-leb, le-ltb, lt-leb, lt-ltb, not-false, not-true}
 use mathlib.Core.Path.{_∙_, sym}
 use native.Mathlib.Omega.{arith}
-use Rattle.label_table.specs.Calls.{placeCode}
-use Rattle.label_table.proofs.place.Statement.{statement}
-use Rattle.label_table.proofs.place.Tie as tie
+use Rattle.label_calls.specs.Calls.{placeCode}
+use Rattle.label_calls.proofs.place.Statement.{statement}
+use Rattle.label_calls.proofs.place.Tie as tie
 
 returns : tie.Need-returns
 unfolding placeCode

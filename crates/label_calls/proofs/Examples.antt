@@ -10,8 +10,8 @@ use lib.Ieee.{Float, fin, nan}
 use lib.Ieee
 use Rattle.label.specs.declared.Label.{Label}
 use Rattle.label.specs.declared.Label.the-variants.{Empty, Access, Transit, Walk}
 use Rattle.label_table.specs.Table.{putWords, putDistance, loaded, wordsOf}
-use Rattle.label_table.specs.Calls.{placeCode, storeOutcome, loadAnswer}
+use Rattle.label_calls.specs.Calls.{placeCode, storeOutcome, loadAnswer}
 
 pub same : List ℕ → List ℕ → Bool
 same [] [] = true

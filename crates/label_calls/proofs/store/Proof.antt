@@ -1,8 +1,8 @@
 use borrow.Author.Needs.{needs}
 use mathlib.Core.Path.{_∙_, sym}
-use Rattle.label_table.proofs.Calls.{in-table, store-refused, store-made}
-use Rattle.label_table.proofs.store.Statement.{statement}
-use Rattle.label_table.proofs.store.Tie as tie
+use Rattle.label_calls.proofs.Calls.{in-table, store-refused, store-made}
+use Rattle.label_calls.proofs.store.Statement.{statement}
+use Rattle.label_calls.proofs.store.Tie as tie
 
 place-requires : tie.Need-place-requires
 place-requires c κs = search needs

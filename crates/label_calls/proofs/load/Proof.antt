@@ -2,9 +2,9 @@ use Rattle.label.specs.Label.{rowOf}
 use borrow.Author.Needs.{needs}
 use mathlib.Core.Path.{_∙_, sym, ap}
 use native.Mathlib.Omega.{arith}
-use Rattle.label_table.proofs.Calls.{in-table, load-refused, load-made, load-no-kind}
-use Rattle.label_table.proofs.load.Statement.{statement}
-use Rattle.label_table.proofs.load.Tie as tie
+use Rattle.label_calls.proofs.Calls.{in-table, load-refused, load-made, load-no-kind}
+use Rattle.label_calls.proofs.load.Statement.{statement}
+use Rattle.label_calls.proofs.load.Tie as tie
 
 place-requires : tie.Need-place-requires
 place-requires c κs = search needs

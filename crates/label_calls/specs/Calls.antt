@@ -7,9 +7,9 @@ use lib.Ieee.{Float}
 use Rattle.door.specs.Door.{ask}
 use Rattle.label.specs.declared.Label.{Label}
 use Rattle.label.specs.declared.Label.the-variants.{Empty}
-use Rattle.label_table.specs.declared.LabelAnswer.{LabelAnswer}
+use Rattle.label_calls.specs.declared.LabelAnswer.{LabelAnswer}
 use Rattle.label.specs.Label.{rowOf}
 use Rattle.label_table.specs.Table.{recordOf, putWords, putDistance, kindAt, loaded, lengthsRight}
 
 -- the questions about a stop's row in slices of these lengths: 1 at most 4,096 stops, 2 the slices' lengths, 4 the stop,
 -- 5 the row

@@ -1,6 +1,6 @@
 use borrow.Author.Needs.{needs}
-use Rattle.label_table.proofs.refused_label.Statement.{statement}
-use Rattle.label_table.proofs.refused_label.Tie as tie
+use Rattle.label_calls.proofs.refused_label.Statement.{statement}
+use Rattle.label_calls.proofs.refused_label.Tie as tie
 
 empty-row-requires : tie.Need-empty-row-requires
 empty-row-requires c κs = search needs

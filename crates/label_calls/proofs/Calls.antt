@@ -14,9 +14,9 @@ use Rattle.label.specs.declared.Label.{Label}
 use Rattle.label.specs.declared.LabelRow.{LabelRow}
 use Rattle.label.specs.declared.Label.the-variants.{Empty, Access, Transit, Walk}
 use Rattle.label.specs.Label.{rowOf, labelOf}
 use Rattle.label_table.specs.Table.{InTable, recordOf, putWords, putDistance, kindAt, rowAt, loaded, lengthsRight}
-use Rattle.label_table.specs.Calls.{placeCode, Outcome, outcome, settle, storeOutcome, refusedLabel, givenLabel, answerLabel, andThen, loadAnswer}
+use Rattle.label_calls.specs.Calls.{placeCode, Outcome, outcome, settle, storeOutcome, refusedLabel, givenLabel, answerLabel, andThen, loadAnswer}
 use Rattle.label_table.proofs.Laws.{table-record, load-store, load-other, row-back, other-kind, put-words-length, put-distance-length}
 
 module _ (stops stop row : ℕ) (l : List ℕ) (d : List Float) where
   -- where all questions are answered yes, the record lies in both slices
