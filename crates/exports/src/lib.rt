@@ -13,7 +13,7 @@ ghost use Rattle.delay_tables.specs.Door.{marginOutcome, delayAtOutcome};
 ghost use Rattle.label_calls.specs.Calls.{outcome, storeOutcome, loadAnswer};
 ghost use Rattle.label.specs.declared.Label.the-variants.{Access, Transit, Walk};
 ghost use Rattle.clock.specs.Clock.{serviceSecond};
-ghost use Rattle.departures.specs.Call.{areas as departureAreas, outcomeOf as departureOutcomeOf, outcome as sortOutcome};
+ghost use Rattle.departure_sorting.specs.Call.{areas as departureAreas, outcomeOf as departureOutcomeOf, outcome as sortOutcome};
 ghost use Rattle.lines.specs.Call.{areas as lineAreas, outcome as linesOutcome};
 ghost use Rattle.line_layout.specs.Call.{areas as layoutAreas, outcomeOf as layoutOutcomeOf, outcome as layoutOutcome};
 ghost use Rattle.transfers.specs.Call.{areas as transferAreas, lent, outcome as transfersOutcome};
@@ -419,7 +419,7 @@ pub extern "C" fn savoiky_sort_stop_departures(
     ensures { λ r. ⌜ departureOutcomeOf r (departureAreas (now (rows .exit)) (now (marks .exit)) (now (work .exit)) (now (other .exit))) ≡ sortOutcome (now (tables .entry)) (countsOf stops trips times windows edges) departures (now (runs .entry)) (departureAreas (now (rows .entry)) (now (marks .entry)) (now (work .entry)) (now (other .entry))) ⌝ }
 {
     let c = counts(stops, trips, times, windows, edges);
-    departures::sort_stop_departures(
+    departure_sorting::sort_stop_departures(
         tables,
         c,
         departures as usize,
