@@ -16,7 +16,7 @@ ghost use Rattle.label.specs.declared.Label.the-variants.{Access, Transit, Walk
 ghost use Rattle.clock.specs.Clock.{serviceSecond};
 ghost use Rattle.departure_sorting.specs.Call.{areas as departureAreas, outcomeOf as departureOutcomeOf, outcome as sortOutcome};
 ghost use Rattle.lines.specs.Call.{areas as lineAreas, outcome as linesOutcome};
-ghost use Rattle.line_layout.specs.Call.{areas as layoutAreas, outcomeOf as layoutOutcomeOf, outcome as layoutOutcome};
+ghost use Rattle.layout_call.specs.Call.{areas as layoutAreas, outcomeOf as layoutOutcomeOf, outcome as layoutOutcome};
 ghost use Rattle.transfers.specs.Call.{areas as transferAreas, lent, outcome as transfersOutcome};
 ghost use Rattle.asking.specs.Lent.{lent as lentForQuery};
 ghost use Rattle.asking.specs.Door.{workspaceAnswer};
@@ -479,7 +479,7 @@ pub extern "C" fn savoiky_line_layout(
     ensures { λ r. ⌜ layoutOutcomeOf r (layoutAreas (now (positions .exit)) (now (fifo .exit))) ≡ layoutOutcome (now (tables .entry)) (countsOf stops trips times windows edges) lines «entry_count» (now (runs .entry)) (now (entries .entry)) (layoutAreas (now (positions .entry)) (now (fifo .entry))) ⌝ }
 {
     let c = counts(stops, trips, times, windows, edges);
-    line_layout::line_layout(
+    layout_call::line_layout(
         tables,
         c,
         lines as usize,

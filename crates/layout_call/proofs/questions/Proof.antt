@@ -1,17 +1,18 @@
-use Rattle.line_layout.specs.Call.{sizesOk, verdict}
+use Rattle.layout_call.specs.Call.{sizesOk, verdict}
 use denote.Ref.{now}
 use borrow.Author.Needs.{needs}
 use lib.ListN.{length}
 use lib.Dec.{leb}
 use Rattle.line_layout.specs.Listed.{entriesOk, lineRunsOk}
 use Rattle.tables.specs.Door.{countsOk, numbersOk, rangesOk, runsOk, slicesOk}
 use Rattle.tables.proofs.Yes.{second-no, two}
 use Rattle.door.proofs.Laws.{ask-no, ask-on}
 use mathlib.Core.Path.{_∙_, _≡_, ap₂, refl, sym}
 use mathlib.Core.Bool.{Bool, _&&_, true}
-use Rattle.line_layout.proofs.Yes.{Limits, Sizes, found-no, found-yes, limits-yes, sizes-yes}
-use Rattle.line_layout.proofs.questions.Statement.{statement}
-use Rattle.line_layout.proofs.questions.Tie as tie
+use Rattle.line_layout.proofs.Yes.{found-no, found-yes}
+use Rattle.layout_call.proofs.Outcome.{Limits, Sizes, limits-yes, sizes-yes}
+use Rattle.layout_call.proofs.questions.Statement.{statement}
+use Rattle.layout_call.proofs.questions.Tie as tie
 
 -- the questions as the code asks them, and that those before are answered yes
 abbrev asked1 : tie.Start → Bool

@@ -1,9 +1,9 @@
 use mathlib.Core.Bool.{_&&_}
 use mathlib.Core.Path.{_∙_, ap₂}
-use Rattle.line_layout.specs.Call.{sizesOk}
+use Rattle.layout_call.specs.Call.{sizesOk}
 use borrow.Author.Needs.{needs}
-use Rattle.line_layout.proofs.sizes_ok.Statement.{statement}
-use Rattle.line_layout.proofs.sizes_ok.Tie as tie
+use Rattle.layout_call.proofs.sizes_ok.Statement.{statement}
+use Rattle.layout_call.proofs.sizes_ok.Tie as tie
 
 mul-both : tie.Need-mul-both
 mul-both c = search needs

@@ -1,11 +1,11 @@
 use native.Mathlib.Omega.{arith}
 use denote.Ref.{now}
-use Rattle.line_layout.specs.Call.{areas}
-use Rattle.line_layout.proofs.Yes.{admitted, answered, refused}
+use Rattle.layout_call.specs.Call.{areas}
+use Rattle.layout_call.proofs.Outcome.{admitted, answered, refused}
 use mathlib.Core.Path.{_∙_, sym, _≡_}
 use borrow.Author.Needs.{needs}
-use Rattle.line_layout.proofs.line_layout.Statement.{statement}
-use Rattle.line_layout.proofs.line_layout.Tie as tie
+use Rattle.layout_call.proofs.line_layout.Statement.{statement}
+use Rattle.layout_call.proofs.line_layout.Tie as tie
 
 questions-requires : tie.Need-questions-requires
 questions-requires c κs = search needs

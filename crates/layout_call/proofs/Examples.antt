@@ -9,9 +9,9 @@ use Rattle.loops.specs.Count.{tabFrom}
 use Rattle.tables.specs.declared.Counts.{Counts}
 use Rattle.tables.specs.Tables.{timeOf, tripOf, windowOf, edgeOf}
 use Rattle.tables.specs.Door.{countsOk, slicesOk, tripRuns, stopTimeNumbers, edgeNumbers, stopTimeRanges, tripRanges, windowRanges, edgeRanges, runsOk, numbersOk, rangesOk}
 use Rattle.line_layout.specs.Layout.{inOrder, neighbours, fifoLine, lastIn, positionIn, unlisted}
 use Rattle.line_layout.specs.Listed.{runIn, lineRunsOk, entriesOk}
-use Rattle.line_layout.specs.Call.{areas, sizesOk, verdict, outcome}
+use Rattle.layout_call.specs.Call.{areas, sizesOk, verdict, outcome}
 
 -- two lists of numbers are the same
 unfoldable pub same : List ℕ → List ℕ → Bool

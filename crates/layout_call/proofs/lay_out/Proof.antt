@@ -1,8 +1,8 @@
-use Rattle.line_layout.specs.Call.{areas}
+use Rattle.layout_call.specs.Call.{areas}
 use mathlib.Core.Path.{ap₂}
 use borrow.Author.Needs.{needs}
-use Rattle.line_layout.proofs.lay_out.Statement.{statement}
-use Rattle.line_layout.proofs.lay_out.Tie as tie
+use Rattle.layout_call.proofs.lay_out.Statement.{statement}
+use Rattle.layout_call.proofs.lay_out.Tie as tie
 
 line-positions-requires : tie.Need-line-positions-requires
 line-positions-requires c κs = search needs
