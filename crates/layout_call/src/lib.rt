@@ -47,7 +47,10 @@ fn questions(
     ) {
         return 2;
     }
-    if !door::both(tables::runs_ok(t, c), line_layout::line_runs_ok(runs, lines, n)) {
+    if !door::both(
+        tables::runs_ok(t, c),
+        line_layout::line_runs_ok(runs, lines, n),
+    ) {
         return 3;
     }
     let known = line_layout::entries_ok(c, entries, n);
