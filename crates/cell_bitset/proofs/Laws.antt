@@ -1,7 +1,6 @@
 -- Which cells the sets hold.
 use Prim.Native.Nat.{ℕ, zero, suc, _*_, _/_, _%_, _^_, _<_, _≤_, min, max}
 use mathlib.Core.Path.{_≡_, refl, ap, ap₂, sym, _∙_}
-use mathlib.Core.List.{List}
 use mathlib.Core.Bool.{Bool, true, false, not, _&&_, _||_, cond, and-true, and-false, or-false, true≢false}
 use native.Mathlib.Omega.{arith}
 use lib.ListN.{getD, length, set, getD-replicate}
@@ -12,19 +11,13 @@ use mathlib.Core.Logic.{⊎-elim}
 use Rattle.loops.specs.Iter.{range, some, someIn}
 use Rattle.loops.proofs.Iter.{some-at, some-none, some-found, and-left, and-right}
 use Rattle.loops.specs.Count.{tab}
-use Rattle.loops.proofs.Count.{getD-tab}
+use Rattle.loops.proofs.Count.{getD-tab, tab-ext}
 use Rattle.loops.proofs.Search.{split}
 use Rattle.cell_bitset.proofs.Bits.{same-truth, bit-or, bit-and, bit-pow, bit-zero, orWith, cellOf, gathered}
+use Rattle.cell_bitset.proofs.Fill.{byte-in, byte-out}
 use borrow.Author.Tests.{lt-ltb, le-ltb, ltb-true, eqb-true, eqb-false, eq-eqb, ne-eqb, not-true}
 use Rattle.cell_bitset.specs.declared.CellBitSet.{CellBitSet}
 use Rattle.cell_bitset.specs.CellSet.{bit, held, kept, reservedOf, byteUpto, byteOf, withCell, union, sized, emptySet, groups, meets, holdsNone, InBoth}
-
--- a byte that is one of the first n, and one that is not
-pub byte-in : (n : ℕ) (l : List ℕ) (i : ℕ) → i < n → byteUpto n l i ≡ getD l i 0
-byte-in n l i h = ap (λ (b : Bool). cond b (getD l i 0) 0) (lt-ltb i n h)
-
-pub byte-out : (n : ℕ) (l : List ℕ) (i : ℕ) → n ≤ i → byteUpto n l i ≡ 0
-byte-out n l i h = ap (λ (b : Bool). cond b (getD l i 0) 0) (le-ltb i n h)
 
 pub held-in : (s : CellBitSet) (c : ℕ) → c / 8 < reservedOf s → held s c ≡ bit (getD (s .bytes) (c / 8) 0) (c % 8)
 held-in s c h = ap (λ (b : Bool). b && bit (getD (s .bytes) (c / 8) 0) (c % 8)) (lt-ltb (c / 8) (reservedOf s) h)
@@ -211,3 +204,9 @@ none-at s e c = go (held s c) refl
 
 pub none-all : (s : CellBitSet) → ((c : ℕ) → held s c ≡ false) → holdsNone s ≡ true
 none-all s h = ap not (some-none (held s) 0 512 (λ c l u. h c))
+
+-- what `union_with` makes of the parts
+pub union-made : (s t : CellBitSet) → tab (λ i. bitOr (getD (tab (byteOf s) 64) i 0) (byteOf t i)) 64 ≡ union s t .bytes
+union-made s t =
+    tab-ext (λ i. bitOr (getD (tab (byteOf s) 64) i 0) (byteOf t i)) (λ i. bitOr (byteOf s i) (byteOf t i)) 64
+    (λ i u. ap (λ (x : ℕ). bitOr x (byteOf t i)) (getD-tab (byteOf s) 64 i 0 u))

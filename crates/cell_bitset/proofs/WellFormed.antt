@@ -14,7 +14,8 @@ use Rattle.loops.proofs.Count.{length-tabFrom, getD-tab, tab-is}
 use Rattle.loops.proofs.Search.{split}
 use Rattle.cell_bitset.specs.declared.CellBitSet.{CellBitSet}
 use Rattle.cell_bitset.specs.CellSet.{emptySet, withCell, union, sized, groups, kept, reservedOf, byteOf, WellFormed}
-use Rattle.cell_bitset.proofs.Laws.{added, byte-in, byte-out}
+use Rattle.cell_bitset.proofs.Fill.{byte-in, byte-out}
+use Rattle.cell_bitset.proofs.Laws.{added}
 
 -- 64 bytes f 0, f 1, .. are 0 where f is
 tab-past : (f : ℕ → ℕ) (i : ℕ) → f i ≡ 0 → getD (tab f 64) i 0 ≡ 0

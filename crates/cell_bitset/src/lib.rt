@@ -1,15 +1,20 @@
-// cell_bitset: the cell set of the arc flags (CellBitSet of the Rust), by value: at most 512 cells, as bytes. What a query uses of it; sets
-// that grow, and the calls that ask question 1, are in cell_calls.
+// cell_bitset: the cell set of the arc flags (CellBitSet of the Rust), by value: at most 512 cells, as bytes.
 // Specs: when a cell is in a set (`held`), the set with one cell more (`withCell`), that two sets share a cell
-// (`meets`), their union, a set with room for more cells (`sized`).
+// (`meets`), their union, a set with room for more cells (`sized`), and the two calls that ask question 1 of a count.
 // Proves: each call equal to its definition for every value of the struct, also one whose `reserved` is past the 64
 // bytes or no multiple of 8, or whose bytes past the reserved ones are not zero; in proofs/Laws which cells the sets so
 // made hold and keep; in proofs/WellFormed that whole groups stay whole groups with nothing past them; in
 // proofs/Examples the worked examples.
 // Assumes nothing.
 ghost use mathlib.Core.Path.{_≡_};
-ghost use Prim.Native.Nat.{_≤_, min};
-ghost use Rattle.cell_bitset.specs.CellSet.{cellLimit, emptySet, held, withCell, meets, holdsNone};
+ghost use Prim.Native.Nat.{_≤_, min, max};
+ghost use lib.ListN.{getD};
+ghost use lib.Bits.{bitOr};
+ghost use Rattle.loops.specs.Count.{tab};
+ghost use Rattle.cell_bitset.specs.CellSet.{cellLimit, emptySet, held, withCell, meets, holdsNone, byteUpto, union, sized, created, resized};
+
+// The most cells that a set has room for.
+pub const CELL_LIMIT: u32 = 512;
 
 #[repr(C)]
 pub struct CellBitSet {
@@ -19,8 +24,15 @@ pub struct CellBitSet {
     pub reserved: u32,
 }
 
+// The answer of a call that takes a number of cells: 0 and the set made, or the number of the first no.
+#[repr(C)]
+pub struct CellSetAnswer {
+    pub code: u32,
+    pub set: CellBitSet,
+}
+
 // The reserved bytes of a set, of which there are at most 64.
-pub fn reserved_bytes(reserved: u32) -> usize
+fn reserved_bytes(reserved: u32) -> usize
     ensures { λ r. ⌜ r ≡ min reserved 64 ⌝ }
 {
     if reserved < 64 {
@@ -33,6 +45,39 @@ fn smaller(a: usize, b: usize) -> usize
     ensures { λ r. ⌜ r ≡ min a b ⌝ }
 {
     if a < b { a } else { b }
+}
+
+fn larger(a: usize, b: usize) -> usize
+    ensures { λ r. ⌜ r ≡ max a b ⌝ }
+{
+    if a < b { b } else { a }
+}
+
+// The first n bytes as they are, the others 0.
+fn cleared(mut bytes: [u8; 64], n: usize) -> [u8; 64]
+    ensures { λ r. ⌜ r ≡ tab (byteUpto n bytes) 64 ⌝ }
+{
+    let mut i: usize = n;
+    while i < 64 {
+        bytes[i] = 0;
+        i += 1;
+    }
+    bytes
+}
+
+// The bits of the first n bytes of `from` set in `bytes` too.
+fn merged(mut bytes: [u8; 64], from: [u8; 64], n: usize) -> [u8; 64]
+    requires { ⌜ n ≤ 64 ⌝ }
+    ensures { λ r. ⌜ r ≡ tab (λ i. bitOr (getD bytes i 0) (byteUpto n from i)) 64 ⌝ }
+{
+    let mut i: usize = 0;
+    while i < n {
+        let x = bytes[i];
+        let y = from[i];
+        bytes[i] = x | y;
+        i += 1;
+    }
+    bytes
 }
 
 impl CellBitSet {
@@ -48,6 +93,21 @@ impl CellBitSet {
             bytes: [0u8; 64],
             reserved: 8 * groups,
         }
+    }
+
+    // Grows, and never shrinks.
+    pub fn ensure_sized(mut self, num_cells: u32) -> Self
+        requires { ⌜ «num_cells» ≤ cellLimit ⌝ }
+        ensures { λ r. ⌜ r ≡ sized self «num_cells» ⌝ }
+    {
+        let a = reserved_bytes(self.reserved);
+        let wanted = CellBitSet::new(num_cells);
+        let n = larger(a, wanted.reserved as usize);
+        let old = self.bytes;
+        let bytes = cleared(old, a);
+        self.bytes = bytes;
+        self.reserved = n as u32;
+        self
     }
 
     // A cell past the reserved groups is dropped.
@@ -94,6 +154,19 @@ impl CellBitSet {
         found != 0
     }
 
+    pub fn union_with(mut self, other: CellBitSet) -> Self
+        ensures { λ r. ⌜ r ≡ union self other ⌝ }
+    {
+        let a = reserved_bytes(self.reserved);
+        let b = reserved_bytes(other.reserved);
+        let own = self.bytes;
+        let its = other.bytes;
+        let bytes = merged(cleared(own, a), its, b);
+        self.bytes = bytes;
+        self.reserved = larger(a, b) as u32;
+        self
+    }
+
     pub fn is_empty(self) -> bool
         ensures { λ r. ⌜ r ≡ holdsNone self ⌝ }
     {
@@ -106,5 +179,34 @@ impl CellBitSet {
             at += 1;
         }
         found == 0
+    }
+}
+
+// A new set, behind question 1.
+pub fn create(num_cells: u32) -> CellSetAnswer
+    ensures { λ r. ⌜ r ≡ created «num_cells» ⌝ }
+{
+    if CELL_LIMIT < num_cells {
+        return CellSetAnswer {
+            code: 1,
+            set: CellBitSet::new(0),
+        };
+    }
+    CellSetAnswer {
+        code: 0,
+        set: CellBitSet::new(num_cells),
+    }
+}
+
+// A set with room for more cells, behind question 1.
+pub fn resize(set: CellBitSet, num_cells: u32) -> CellSetAnswer
+    ensures { λ r. ⌜ r ≡ resized set «num_cells» ⌝ }
+{
+    if CELL_LIMIT < num_cells {
+        return CellSetAnswer { code: 1, set: set };
+    }
+    CellSetAnswer {
+        code: 0,
+        set: set.ensure_sized(num_cells),
     }
 }

@@ -5,8 +5,7 @@
 // Proves: each call's whole outcome is the leaf's definition of it.
 // Assumes nothing.
 ghost use mathlib.Core.Path.{_≡_};
-ghost use Rattle.cell_bitset.specs.CellSet.{withCell, held, meets, union, holdsNone};
-ghost use Rattle.cell_calls.specs.Calls.{created, resized};
+ghost use Rattle.cell_bitset.specs.CellSet.{created, resized, withCell, held, meets, union, holdsNone};
 ghost use Rattle.walk.specs.Walk.{walkDuration, roundCount};
 ghost use Rattle.frequency.specs.Entry.{freqOutcome};
 ghost use Rattle.realtime.specs.Door.{departureOutcome, arrivalOutcome, skippedOutcome};
@@ -25,7 +24,7 @@ ghost use Rattle.exports.specs.Counts.{countsOf, gathered, queryCountsOf
 ghost use Rattle.exports.specs.Shown.{shown, shownOf, shownTransfers, shownTransfersOf};
 use asking::QueryCounts;
 use cell_bitset::CellBitSet;
-use cell_calls::CellSetAnswer;
+use cell_bitset::CellSetAnswer;
 use delay_tables::DelayAt;
 use door::Answer;
 use frequency::FreqAnswer;
@@ -73,7 +72,7 @@ const TRANSFER_TIME: usize = 120;
 pub extern "C" fn savoiky_cell_bitset_new(num_cells: u32) -> CellSetAnswer
     ensures { λ r. ⌜ r ≡ created «num_cells» ⌝ }
 {
-    cell_calls::create(num_cells)
+    cell_bitset::create(num_cells)
 }
 
 // The set with at least the groups of so many cells reserved; it holds the same cells. Question 1: at most 512 cells; refused, the
@@ -82,7 +81,7 @@ pub extern "C" fn savoiky_cell_bitset_new(num_cells: u32) -> CellSetAnswer
 pub extern "C" fn savoiky_cell_bitset_ensure_sized(set: CellBitSet, num_cells: u32) -> CellSetAnswer
     ensures { λ r. ⌜ r ≡ resized set «num_cells» ⌝ }
 {
-    cell_calls::resize(set, num_cells)
+    cell_bitset::resize(set, num_cells)
 }
 
 // The set with this cell; a cell past the reserved groups is dropped.
@@ -114,7 +113,7 @@ pub extern "C" fn savoiky_cell_bitset_intersects(set: CellBitSet, other: CellBit
 pub extern "C" fn savoiky_cell_bitset_union_with(set: CellBitSet, other: CellBitSet) -> CellBitSet
     ensures { λ r. ⌜ r ≡ union set other ⌝ }
 {
-    cell_calls::union_with(set, other)
+    set.union_with(other)
 }
 
 // Does the set hold no cell?

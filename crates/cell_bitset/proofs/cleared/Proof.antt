@@ -3,11 +3,10 @@ use mathlib.Core.Path.{sym, refl, ap}
 use borrow.Author.Needs.{needs}
 use native.Mathlib.Omega.{arith}
 use lib.ListN.{getD, set}
 use Rattle.cell_bitset.specs.CellSet.{byteUpto}
-use Rattle.cell_calls.proofs.Fill.{Filled, filled-again, filled-done}
-use Rattle.cell_bitset.proofs.Laws.{byte-in, byte-out}
-use Rattle.cell_calls.proofs.cleared.Statement.{statement}
-use Rattle.cell_calls.proofs.cleared.Tie as tie
+use Rattle.cell_bitset.proofs.Fill.{Filled, filled-again, filled-done, byte-in, byte-out}
+use Rattle.cell_bitset.proofs.cleared.Statement.{statement}
+use Rattle.cell_bitset.proofs.cleared.Tie as tie
 
 abbrev Inv-loop : tie.InvT-loop
 Inv-loop n bytes₀ i₀ bytes i = (n ≤ i) × Filled (byteUpto n bytes₀) (λ k. getD bytes₀ k 0) i bytes

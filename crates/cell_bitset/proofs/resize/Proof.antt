@@ -1,7 +1,7 @@
 use borrow.Author.Tests.{le-leb, lt-leb}
 use borrow.Author.Needs.{needs}
-use Rattle.cell_calls.proofs.resize.Statement.{statement}
-use Rattle.cell_calls.proofs.resize.Tie as tie
+use Rattle.cell_bitset.proofs.resize.Statement.{statement}
+use Rattle.cell_bitset.proofs.resize.Tie as tie
 
 returns : tie.Need-returns
 returns c = simp (lt-leb _ _ (c .if1 .taken))

@@ -1,7 +1,7 @@
-use Rattle.cell_calls.proofs.Laws.{union-made}
+use Rattle.cell_bitset.proofs.Laws.{union-made}
 use borrow.Author.Needs.{needs}
-use Rattle.cell_calls.proofs.union_with.Statement.{statement}
-use Rattle.cell_calls.proofs.union_with.Tie as tie
+use Rattle.cell_bitset.proofs.CellBitSet.union_with.Statement.{statement}
+use Rattle.cell_bitset.proofs.CellBitSet.union_with.Tie as tie
 
 reserved-bytes-requires : tie.Need-reserved-bytes-requires
 reserved-bytes-requires c κs = search needs
@@ -18,8 +18,8 @@ merged-requires c κs = search needs
 larger-requires : tie.Need-larger-requires
 larger-requires c κs = search needs
 
-cast-set : tie.Need-cast-set
-cast-set c = search needs
+cast-self : tie.Need-cast-self
+cast-self c = search needs
 
 returns : tie.Need-returns
 returns c = simp (c .larger .ensures, c .before .merged .ensures, c .before .before .cleared .ensures, c .before .before .before .before .before .before .reserved-bytes .ensures, c .before .before .before .before .before .reserved-bytes2 .ensures, union-made)
@@ -33,5 +33,5 @@ union-with-spec =
     cleared-requires
     merged-requires
     larger-requires
-    cast-set
+    cast-self
     returns)

@@ -1,6 +1,6 @@
 use borrow.Author.Needs.{needs}
-use Rattle.cell_calls.proofs.ensure_sized.Statement.{statement}
-use Rattle.cell_calls.proofs.ensure_sized.Tie as tie
+use Rattle.cell_bitset.proofs.CellBitSet.ensure_sized.Statement.{statement}
+use Rattle.cell_bitset.proofs.CellBitSet.ensure_sized.Tie as tie
 
 reserved-bytes-requires : tie.Need-reserved-bytes-requires
 reserved-bytes-requires c κs = search needs
@@ -17,8 +17,8 @@ larger-requires c κs = search needs
 cleared-requires : tie.Need-cleared-requires
 cleared-requires c κs = search needs
 
-cast-set : tie.Need-cast-set
-cast-set c = search needs
+cast-self : tie.Need-cast-self
+cast-self c = search needs
 
 returns : tie.Need-returns
 returns c = simp (c .cleared .ensures, c .before .before .larger .ensures, c .before .before .before .before .new .ensures, c .before .before .before .before .before .reserved-bytes .ensures)
@@ -32,5 +32,5 @@ ensure-sized-spec =
     cast-larger
     larger-requires
     cleared-requires
-    cast-set
+    cast-self
     returns)

@@ -1,7 +1,7 @@
 use borrow.Author.Tests.{le-leb, lt-leb}
 use borrow.Author.Needs.{needs}
-use Rattle.cell_calls.proofs.create.Statement.{statement}
-use Rattle.cell_calls.proofs.create.Tie as tie
+use Rattle.cell_bitset.proofs.create.Statement.{statement}
+use Rattle.cell_bitset.proofs.create.Tie as tie
 
 new-requires : tie.Need-new-requires
 new-requires c κs = search needs

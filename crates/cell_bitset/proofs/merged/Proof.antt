@@ -4,11 +4,10 @@ use borrow.Author.Needs.{needs}
 use native.Mathlib.Omega.{arith}
 use lib.ListN.{getD, set}
 use lib.Bits.{bitOr, or-zero-r}
 use Rattle.cell_bitset.specs.CellSet.{byteUpto}
-use Rattle.cell_calls.proofs.Fill.{Filled, filled-again, filled-done}
-use Rattle.cell_bitset.proofs.Laws.{byte-in, byte-out}
-use Rattle.cell_calls.proofs.merged.Statement.{statement}
-use Rattle.cell_calls.proofs.merged.Tie as tie
+use Rattle.cell_bitset.proofs.Fill.{Filled, filled-again, filled-done, byte-in, byte-out}
+use Rattle.cell_bitset.proofs.merged.Statement.{statement}
+use Rattle.cell_bitset.proofs.merged.Tie as tie
 
 abbrev Inv-loop : tie.InvT-loop
 Inv-loop n bytes₀ from i₀ bytes i = (i ≤ n) × Filled (λ k. bitOr (getD bytes₀ k 0) (byteUpto n from k)) (λ k. getD bytes₀ k 0) i bytes

@@ -6,9 +6,19 @@ use native.Mathlib.Omega.{arith}
 use mathlib.Core.Logic.{⊎-elim}
 use Rattle.loops.proofs.Search.{split}
 use lib.ListN.{length, getD, set, length-set}
+use mathlib.Core.Bool.{Bool, cond}
+use borrow.Author.Tests.{lt-ltb, le-ltb}
+use Rattle.cell_bitset.specs.CellSet.{byteUpto}
 use lib.Seq.{getD-set-other}
 use Rattle.loops.specs.Count.{tab}
 use Rattle.loops.proofs.Count.{tab-is, fill-again}
+
+-- a byte that is one of the first n, and one that is not
+pub byte-in : (n : ℕ) (l : List ℕ) (i : ℕ) → i < n → byteUpto n l i ≡ getD l i 0
+byte-in n l i h = ap (λ (b : Bool). cond b (getD l i 0) 0) (lt-ltb i n h)
+
+pub byte-out : (n : ℕ) (l : List ℕ) (i : ℕ) → n ≤ i → byteUpto n l i ≡ 0
+byte-out n l i h = ap (λ (b : Bool). cond b (getD l i 0) 0) (le-ltb i n h)
 
 pub record Filled (f g : ℕ → ℕ) (i : ℕ) (l : List ℕ) : Type 0 where
   pub long : length l ≡ 64

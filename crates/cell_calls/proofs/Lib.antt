@@ -1,3 +1,0 @@
-pub mod Fill
-pub mod Laws
-pub mod Examples
