@@ -1,10 +1,6 @@
 pub mod Parts
 pub mod Yes
-pub mod Some
-pub mod Sorting
-pub mod Writing
-pub mod Outcome
-pub mod Apart
+pub mod All
 pub mod Flat
+pub mod Apart
 pub mod Laws
-pub mod Examples

@@ -1,7 +1,7 @@
 -- What a yes to each question on the departures gives, and that a list with those facts is answered yes.
 use Prim.Native.Nat.{_*_, _+_, _-_, _<_, _≤_, ℕ}
 use mathlib.Core.Path.{_≡_, _∙_, ap, ap₂, sym}
-use mathlib.Core.Bool.{true, _&&_}
+use mathlib.Core.Bool.{Bool, true, _&&_}
 use mathlib.Core.List.{List}
 use native.Mathlib.Omega.{arith}
 use lib.ListN.{length}
@@ -14,30 +14,11 @@ use Rattle.tables.specs.Sane.{CountsOk, RunsOk, SlicesOk}
 use Rattle.departures.specs.declared.DepartureRow.{DepartureRow}
 use Rattle.departures.specs.Departures.{departuresOf, rowAt, runAt, runEnd, runFirst, runLength}
 use Rattle.departures.specs.Listed.{RowKnown, RowsKnown, RowsListed, RunsListed, atStop, atStopsOk, listedOk, rowAtStop, rowNumbers, rowsOk, runIn, stopRowsOk, stopRunsOk}
-use Rattle.departures.specs.Call.{sizesOk}
 use Rattle.departures.proofs.Parts.{part-row}
 
--- 2
-pub record Sizes (c : Counts) (d runs rows marks work other : ℕ) : Type 0 where
-  pub runsIs : runs ≡ c .stops * 2
-  pub rowsIs : rows ≡ d * 2
-  pub marksIs : marks ≡ c .stops
-  pub workIs : work ≡ d
-  pub otherIs : other ≡ d
-
-pub sizes-yes : (c : Counts) (d runs rows marks work other : ℕ) → sizesOk c d runs rows marks work other ≡ true → Sizes c d runs rows marks work other
-unfolding sizesOk
-sizes-yes c d runs rows marks work other h =
-    let h1 = and-right (eqb runs (c .stops * 2)) (eqb rows (d * 2) && (eqb marks (c .stops) && (eqb work d && eqb other d))) h in
-    let h2 = and-right (eqb rows (d * 2)) (eqb marks (c .stops) && (eqb work d && eqb other d)) h1 in
-    let h3 = and-right (eqb marks (c .stops)) (eqb work d && eqb other d) h2 in
-    record {
-      runsIs = eqb-true runs (c .stops * 2) (and-left (eqb runs (c .stops * 2)) (eqb rows (d * 2) && (eqb marks (c .stops) && (eqb work d && eqb other d))) h);
-      rowsIs = eqb-true rows (d * 2) (and-left (eqb rows (d * 2)) (eqb marks (c .stops) && (eqb work d && eqb other d)) h1);
-      marksIs = eqb-true marks (c .stops) (and-left (eqb marks (c .stops)) (eqb work d && eqb other d) h2);
-      workIs = eqb-true work d (and-left (eqb work d) (eqb other d) h3);
-      otherIs = eqb-true other d (and-right (eqb work d) (eqb other d) h3);
-    }
+-- two tests joined, by their definitions
+pub joined : {a b r x y z : Bool} → r ≡ a && b → a ≡ x → b ≡ y → r ≡ z → x && y ≡ z
+joined p q s e = sym (ap₂ _&&_ q s) ∙ sym p ∙ e
 
 -- 3
 pub runs-listed : (c : Counts) (runs : List ℕ) (d : ℕ) → CountsOk c → d ≤ 65536 → length runs ≡ c .stops * 2 → stopRunsOk runs c d ≡ true → RunsListed c runs d

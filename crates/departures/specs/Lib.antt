@@ -1,4 +1,3 @@
 pub mod Departures
 pub mod Listed
 pub mod Packed
-pub mod Call

@@ -10,12 +10,12 @@ ghost use Rattle.walk.specs.Walk.{walkDuration, roundCount};
 ghost use Rattle.frequency.specs.Entry.{freqOutcome};
 ghost use Rattle.realtime.specs.Door.{departureOutcome, arrivalOutcome, skippedOutcome};
 ghost use Rattle.delay_tables.specs.Door.{marginOutcome, delayAtOutcome};
-ghost use Rattle.label_table.specs.Calls.{outcome, storeOutcome, loadAnswer};
+ghost use Rattle.label_calls.specs.Calls.{outcome, storeOutcome, loadAnswer};
 ghost use Rattle.label.specs.declared.Label.the-variants.{Access, Transit, Walk};
 ghost use Rattle.clock.specs.Clock.{serviceSecond};
-ghost use Rattle.departures.specs.Call.{areas as departureAreas, outcomeOf as departureOutcomeOf, outcome as sortOutcome};
+ghost use Rattle.departure_sorting.specs.Call.{areas as departureAreas, outcomeOf as departureOutcomeOf, outcome as sortOutcome};
 ghost use Rattle.lines.specs.Call.{areas as lineAreas, answerOf as linesAnswer, outcome as linesOutcome};
-ghost use Rattle.line_layout.specs.Call.{areas as layoutAreas, outcomeOf as layoutOutcomeOf, outcome as layoutOutcome};
+ghost use Rattle.layout_call.specs.Call.{areas as layoutAreas, outcomeOf as layoutOutcomeOf, outcome as layoutOutcome};
 ghost use Rattle.transfers.specs.Call.{areas as transferAreas, answerOf as transfersAnswer, lent, outcome as transfersOutcome};
 ghost use Rattle.asking.specs.Lent.{lent as lentForQuery};
 ghost use Rattle.asking.specs.Door.{workspaceAnswer};
@@ -27,7 +27,7 @@ use cell_bitset::CellSetAnswer;
 use delay_tables::DelayAt;
 use door::Answer;
 use frequency::FreqAnswer;
-use label_table::LabelAnswer;
+use label_calls::LabelAnswer;
 use lines::Grouped;
 use replies::Reply;
 use sizes::QuerySizes;
@@ -269,7 +269,7 @@ pub extern "C" fn savoiky_label_store_access(
 ) -> u32
     ensures { λ r. ⌜ outcome r (now (labels .exit)) (now (distances .exit)) ≡ storeOutcome (Access «stop_idx» «arrival_s» «walk_duration» «walk_distance») stops stop row (now (labels .entry)) (now (distances .entry)) ⌝ }
 {
-    label_table::store_access(
+    label_calls::store_access(
         stops,
         stop,
         row,
@@ -300,7 +300,7 @@ pub extern "C" fn savoiky_label_store_transit(
 ) -> u32
     ensures { λ r. ⌜ outcome r (now (labels .exit)) (now (distances .exit)) ≡ storeOutcome (Transit «arrival_s» «trip_idx» «board_stop» «board_off» «alight_off» «prev_round» «time_shift_s») stops stop row (now (labels .entry)) (now (distances .entry)) ⌝ }
 {
-    label_table::store_transit(
+    label_calls::store_transit(
         stops,
         stop,
         row,
@@ -333,7 +333,7 @@ pub extern "C" fn savoiky_label_store_walk(
 ) -> u32
     ensures { λ r. ⌜ outcome r (now (labels .exit)) (now (distances .exit)) ≡ storeOutcome (Walk «arrival_s» «from_stop» «to_stop» «duration_s» «distance_m» «prev_round») stops stop row (now (labels .entry)) (now (distances .entry)) ⌝ }
 {
-    label_table::store_walk(
+    label_calls::store_walk(
         stops,
         stop,
         row,
@@ -359,7 +359,7 @@ pub extern "C" fn savoiky_label_load(
 ) -> LabelAnswer
     ensures { λ r. ⌜ r ≡ loadAnswer stops stop row (now (labels .entry)) (now (distances .entry)) ⌝ }
 {
-    label_table::load(stops, stop, row, labels, distances)
+    label_calls::load(stops, stop, row, labels, distances)
 }
 
 // THE TIMETABLE, `tables`, is one slice of 6 times + 8 trips + 3 windows + 5 edges + stops words, in this order:
@@ -396,7 +396,7 @@ pub extern "C" fn savoiky_sort_stop_departures(
     ensures { λ r. ⌜ departureOutcomeOf r (departureAreas (now (rows .exit)) (now (marks .exit)) (now (work .exit)) (now (other .exit))) ≡ sortOutcome (now (tables .entry)) (countsOf stops trips times windows edges) departures (now (runs .entry)) (departureAreas (now (rows .entry)) (now (marks .entry)) (now (work .entry)) (now (other .entry))) ⌝ }
 {
     let c = sizes::counts(stops, trips, times, windows, edges);
-    departures::sort_stop_departures(
+    departure_sorting::sort_stop_departures(
         tables,
         c,
         departures as usize,
@@ -461,7 +461,7 @@ pub extern "C" fn savoiky_line_layout(
     ensures { λ r. ⌜ layoutOutcomeOf r (layoutAreas (now (positions .exit)) (now (fifo .exit))) ≡ layoutOutcome (now (tables .entry)) (countsOf stops trips times windows edges) lines «entry_count» (now (runs .entry)) (now (entries .entry)) (layoutAreas (now (positions .entry)) (now (fifo .entry))) ⌝ }
 {
     let c = sizes::counts(stops, trips, times, windows, edges);
-    line_layout::line_layout(
+    layout_call::line_layout(
         tables,
         c,
         lines as usize,

@@ -1,25 +1,17 @@
-// label_table: where a label lies in the lent tables, and the calls that store and load one (document 01, item 10, "Label rows").
+// label_table: where a label lies in the lent tables, and how it is put there and read (document 01, item 10, "Label rows").
 // A stop has 13 rows. The label of a stop's row is record 13 * stop + row: eight numbers from 8 * record on in `labels`, and one distance
 // at `record` in `distances`.
-// Specs: a record's place (Table); what the calls store_access, store_transit, store_walk and load answer and leave (Calls).
-// Proves: each call meets its definition for every input, refusals included; a label stored and loaded is the same
-// label, its distance with it; a store changes no other record; records of different stops or rows are different.
-// Distances are equal as the prover's floats are: it has one NaN.
-// Assumes nothing.
+// Specs: a record's place, what it holds, the tables with a row put at a record (Table).
+// Proves: in proofs/Laws that a label stored and loaded is the same label, its distance with it; that a store changes no other record; that
+// records of different stops or rows are different. Distances are equal as the prover's floats are: it has one NaN.
+// Assumes nothing. (That the record lies in both slices is required of a caller; the calls that ask it are in label_calls.)
 ghost use mathlib.Core.Path.{_≡_};
 ghost use Rattle.label.specs.Label.{rowOf};
-ghost use Rattle.label_table.specs.Table.{InTable, recordOf, rowAt, loaded, putWords, putDistance, lengthsRight};
-ghost use Rattle.label_table.specs.Calls.{placeCode, outcome, storeOutcome, refusedLabel, loadAnswer};
+ghost use Rattle.label_table.specs.Table.{InTable, recordOf, rowAt, loaded, putWords, putDistance};
 use label::Label;
 use label::LabelRow;
 
-// What `load` answers: code 0 with the row, or the number of the first no with an empty row.
-#[repr(C)]
-pub struct LabelAnswer {
-    pub code: u32,
-    pub row: LabelRow,
-}
-
+// A row is put at a record.
 fn put_row(r: LabelRow, labels: &mut [u32], distances: &mut [f64], record: usize)
     requires { ⌜ InTable (now labels) (now distances) «record» ⌝ }
     ensures { λ _. ⌜ (now (labels .exit) ≡ putWords r (now (labels .entry)) «record») × (now (distances .exit) ≡ putDistance r (now (distances .entry)) «record») ⌝ }
@@ -36,7 +28,8 @@ fn put_row(r: LabelRow, labels: &mut [u32], distances: &mut [f64], record: usize
     distances[record] = r.distance;
 }
 
-fn get_row(labels: &[u32], distances: &[f64], record: usize) -> LabelRow
+// The row of a record.
+pub fn get_row(labels: &[u32], distances: &[f64], record: usize) -> LabelRow
     requires { ⌜ InTable (now labels) (now distances) «record» ⌝ }
     ensures { λ r. ⌜ r ≡ rowAt (now (labels .entry)) (now (distances .entry)) «record» ⌝ }
 {
@@ -75,156 +68,4 @@ pub fn record_of(stop: u32, row: u32) -> usize
     ensures { λ r. ⌜ r ≡ recordOf stop row ⌝ }
 {
     13 * (stop as usize) + (row as usize)
-}
-
-// Has each slice a place for every record of the stops, and no more?
-fn lengths_right(stops: u32, words: usize, numbers: usize) -> bool
-    ensures { λ r. ⌜ r ≡ lengthsRight stops words numbers ⌝ }
-{
-    let records = (stops as usize) * 13;
-    door::both(words == records * 8, numbers == records)
-}
-
-// Questions 1, 2, 4 and 5 about the record of a stop's row, in slices of these lengths.
-fn place(stops: u32, stop: u32, row: u32, words: usize, numbers: usize) -> u32
-    ensures { λ r. ⌜ r ≡ placeCode stops stop row words numbers ⌝ }
-{
-    if 4096 < stops {
-        return 1;
-    }
-    if !lengths_right(stops, words, numbers) {
-        return 2;
-    }
-    if stops <= stop {
-        return 4;
-    }
-    if 12 < row {
-        return 5;
-    }
-    0
-}
-
-// A label is stored at its stop's row, or refused, and then nothing is written.
-pub fn store(
-    label: Label,
-    stops: u32,
-    stop: u32,
-    row: u32,
-    labels: &mut [u32],
-    distances: &mut [f64],
-) -> u32
-    ensures { λ r. ⌜ outcome r (now (labels .exit)) (now (distances .exit)) ≡ storeOutcome label stops stop row (now (labels .entry)) (now (distances .entry)) ⌝ }
-{
-    let code = place(stops, stop, row, labels.len(), distances.len());
-    if code != 0 {
-        return code;
-    }
-    store_label(label, labels, distances, record_of(stop, row));
-    0
-}
-
-// An access label is stored; the code is the answer.
-pub fn store_access(
-    stops: u32,
-    stop: u32,
-    row: u32,
-    stop_idx: u32,
-    arrival_s: u32,
-    walk_duration: u32,
-    walk_distance: f64,
-    labels: &mut [u32],
-    distances: &mut [f64],
-) -> u32
-    ensures { λ r. ⌜ outcome r (now (labels .exit)) (now (distances .exit)) ≡ storeOutcome (Label.Access «stop_idx» «arrival_s» «walk_duration» «walk_distance») stops stop row (now (labels .entry)) (now (distances .entry)) ⌝ }
-{
-    let label = Label::Access {
-        stop_idx,
-        arrival_s,
-        walk_duration,
-        walk_distance,
-    };
-    store(label, stops, stop, row, labels, distances)
-}
-
-// A ride's label is stored; the code is the answer.
-pub fn store_transit(
-    stops: u32,
-    stop: u32,
-    row: u32,
-    arrival_s: u32,
-    trip_idx: u32,
-    board_stop: u32,
-    board_off: u32,
-    alight_off: u32,
-    prev_round: u32,
-    time_shift_s: u32,
-    labels: &mut [u32],
-    distances: &mut [f64],
-) -> u32
-    ensures { λ r. ⌜ outcome r (now (labels .exit)) (now (distances .exit)) ≡ storeOutcome (Label.Transit «arrival_s» «trip_idx» «board_stop» «board_off» «alight_off» «prev_round» «time_shift_s») stops stop row (now (labels .entry)) (now (distances .entry)) ⌝ }
-{
-    let label = Label::Transit {
-        arrival_s,
-        trip_idx,
-        board_stop,
-        board_off,
-        alight_off,
-        prev_round,
-        time_shift_s,
-    };
-    store(label, stops, stop, row, labels, distances)
-}
-
-// A walk's label is stored; the code is the answer.
-pub fn store_walk(
-    stops: u32,
-    stop: u32,
-    row: u32,
-    arrival_s: u32,
-    from_stop: u32,
-    to_stop: u32,
-    duration_s: u32,
-    distance_m: f64,
-    prev_round: u32,
-    labels: &mut [u32],
-    distances: &mut [f64],
-) -> u32
-    ensures { λ r. ⌜ outcome r (now (labels .exit)) (now (distances .exit)) ≡ storeOutcome (Label.Walk «arrival_s» «from_stop» «to_stop» «duration_s» «distance_m» «prev_round») stops stop row (now (labels .entry)) (now (distances .entry)) ⌝ }
-{
-    let label = Label::Walk {
-        arrival_s,
-        from_stop,
-        to_stop,
-        duration_s,
-        distance_m,
-        prev_round,
-    };
-    store(label, stops, stop, row, labels, distances)
-}
-
-fn refused_label(code: u32) -> LabelAnswer
-    ensures { λ r. ⌜ r ≡ refusedLabel code ⌝ }
-{
-    let row = label::empty_row();
-    LabelAnswer { code, row }
-}
-
-// The label at a stop's row, as a row; 5 also for a kind above 3.
-pub fn load(stops: u32, stop: u32, row: u32, labels: &[u32], distances: &[f64]) -> LabelAnswer
-    ensures { λ r. ⌜ r ≡ loadAnswer stops stop row (now (labels .entry)) (now (distances .entry)) ⌝ }
-{
-    let code = place(stops, stop, row, labels.len(), distances.len());
-    if code != 0 {
-        return refused_label(code);
-    }
-    let record = record_of(stop, row);
-    let r = get_row(labels, distances, record);
-    if 3 < r.kind {
-        return refused_label(5);
-    }
-    let found = label::row_of(label::label_of(r));
-    LabelAnswer {
-        code: 0,
-        row: found,
-    }
 }

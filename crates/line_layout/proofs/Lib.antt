@@ -2,4 +2,3 @@ pub mod Placing
 pub mod Yes
 pub mod Last
 pub mod Laws
-pub mod Examples

@@ -1,4 +1,3 @@
 pub mod Layout
 pub mod Listed
-pub mod Call
 pub mod Claims

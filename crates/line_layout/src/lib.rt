@@ -1,8 +1,8 @@
-// line_layout: each line's FIFO flag and each trip's position in its line (document 01, item 7; the Rust's line_layout).
+// line_layout: each line's FIFO flag and each trip's position in its line (document 01, item 7). The call is in layout_call.
 // Specs: FIFO, neighbours and positions (Layout); the questions that concern the lines' table and what a yes gives (Listed);
-// the call, its questions in order and what it answers and writes (Call); what the laws speak of (Claims).
-// Proves: the call's outcome is the defined one on every input, on lines made by hand too. In proofs/Laws: a line is FIFO
-// exactly if no trip of it has windows and any two have equal stop counts and codes, the one at the earlier place nowhere later;
+// what the laws speak of (Claims).
+// Proves: positions and flags equal to their definitions, on lines made by hand too; each question answers exactly its definition. In
+// proofs/Laws: a line is FIFO exactly if no trip of it has windows and any two have equal stop counts and codes, the one at the earlier place nowhere later;
 // a trip's position is its place where it is listed last, 4,294,967,295 where no line lists it; where every trip is listed once,
 // in its line, its position is its place there.
 // Assumes nothing.
@@ -17,7 +17,6 @@ ghost use Rattle.tables.specs.Timetable.{timetable};
 ghost use Rattle.tables.specs.Sane.{Sane};
 ghost use Rattle.line_layout.specs.Layout.{runAt, tripsIn, inOrder, neighbours, fifoLine, fifoOf, unlisted, placed, positionsOf, fifosOf};
 ghost use Rattle.line_layout.specs.Listed.{runIn, lineRunsOk, entriesOk, EntriesListed, LinesListed};
-ghost use Rattle.line_layout.specs.Call.{areas, sizesOk, verdict, made, outcome, outcomeOf, Admitted};
 use tables::Counts;
 use tables::StopTimeRow;
 
@@ -247,105 +246,4 @@ pub fn line_fifo(
         fifo[l] = fifo_at(t, c, lines, runs, entries, l);
         l += 1;
     }
-}
-
-// Question 2: is each slice as long as the counts say?
-fn sizes_ok(
-    c: Counts,
-    lines: usize,
-    n: usize,
-    runs: usize,
-    entries: usize,
-    positions: usize,
-    fifo: usize,
-) -> bool
-    requires { ⌜ lines ≤ 4096 ⌝ }
-    ensures { λ r. ⌜ r ≡ sizesOk c lines n runs entries positions fifo ⌝ }
-{
-    let a = door::both(runs == lines * 2, entries == n);
-    door::both(a, door::both(positions == c.trips, fifo == lines))
-}
-
-// The questions: the number of the first that is answered no, or 0.
-fn questions(
-    t: &[u32],
-    c: Counts,
-    lines: usize,
-    n: usize,
-    runs: &[u32],
-    entries: &[u32],
-    positions: usize,
-    fifo: usize,
-) -> u32
-    ensures { λ r. ⌜ r ≡ verdict (now (t .entry)) c lines n (now (runs .entry)) (now (entries .entry)) (sizesOk c lines n (length (now (runs .entry))) (length (now (entries .entry))) positions fifo) ⌝ }
-{
-    if !door::both(tables::counts_ok(c), door::both(lines <= 4096, n <= 4096)) {
-        return 1;
-    }
-    if !door::both(
-        tables::slices_ok(t, c),
-        sizes_ok(c, lines, n, runs.len(), entries.len(), positions, fifo),
-    ) {
-        return 2;
-    }
-    if !door::both(tables::runs_ok(t, c), line_runs_ok(runs, lines, n)) {
-        return 3;
-    }
-    let known = entries_ok(c, entries, n);
-    if door::both(known, tables::rows_ok(t, c)) {
-        return 0;
-    }
-    if !door::both(tables::numbers_ok(t, c), known) {
-        return 4;
-    }
-    5
-}
-
-// What an admitted call writes.
-fn lay_out(
-    t: &[u32],
-    c: Counts,
-    lines: usize,
-    runs: &[u32],
-    entries: &[u32],
-    positions: &mut [u32],
-    fifo: &mut [u32],
-)
-    requires { ⌜ Admitted (now t) c lines (now runs) (now entries) (areas (now positions) (now fifo)) ⌝ }
-    ensures { λ _. ⌜ areas (now (positions .exit)) (now (fifo .exit)) ≡ made (now (t .entry)) c lines (now (runs .entry)) (now (entries .entry)) ⌝ }
-{
-    line_positions(c, lines, runs, entries, positions);
-    line_fifo(t, c, lines, runs, entries, fifo);
-}
-
-// Positions and FIFO flags. `runs` are pairs (first entry, count), one a line; `entries` are trip numbers; `positions` takes
-// one number a trip, `fifo` one a line, 1 or 0. The answer is the number of the first question that is answered no, or 0. A
-// refusal leaves both slices as they came.
-pub fn line_layout(
-    t: &[u32],
-    c: Counts,
-    lines: usize,
-    entry_count: usize,
-    runs: &[u32],
-    entries: &[u32],
-    positions: &mut [u32],
-    fifo: &mut [u32],
-) -> u32
-    ensures { λ r. ⌜ outcomeOf r (areas (now (positions .exit)) (now (fifo .exit))) ≡ outcome (now (t .entry)) c lines «entry_count» (now (runs .entry)) (now (entries .entry)) (areas (now (positions .entry)) (now (fifo .entry))) ⌝ }
-{
-    let v = questions(
-        t,
-        c,
-        lines,
-        entry_count,
-        runs,
-        entries,
-        positions.len(),
-        fifo.len(),
-    );
-    if v != 0 {
-        return v;
-    }
-    lay_out(t, c, lines, runs, entries, positions, fifo);
-    v
 }

@@ -1,5 +1,5 @@
 -- Laws of writing row by row.
-use Rattle.departures.proofs.Outcome.{joined}
+use Rattle.departures.proofs.Yes.{joined}
 use Rattle.loops.specs.Count.{count}
 use Prim.Native.Nat.{ℕ, zero, suc, _+_, _*_, _-_, _<_, _≤_, min}
 use mathlib.Core.Path.{_≡_, refl, sym, _∙_, ap, ap₂}

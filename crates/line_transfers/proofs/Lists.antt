@@ -2,7 +2,7 @@
 use lib.Dec.{leb, ltb}
 use borrow.Author.Tests.{le-leb, lt-leb, ltb-false, ltb-true}
 use Rattle.loops.proofs.Search.{halved-down, halved-start, halved-up, split}
-use Rattle.departures.proofs.Outcome.{joined}
+use Rattle.departures.proofs.Yes.{joined}
 use Prim.Native.Nat.{ℕ, zero, suc, _+_, _*_, _-_, _/_, _<_, _≤_}
 use mathlib.Core.Path.{_≡_, refl, sym, _∙_, ap, ap₂}
 use mathlib.Core.Bool.{Bool, true, false, not, cond}

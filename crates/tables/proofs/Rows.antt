@@ -1,6 +1,12 @@
--- Rows that agree field by field are the same.
-use Prim.Native.Nat.{ℕ}
-use mathlib.Core.Path.{_≡_}
+-- Rows that agree field by field are the same; a walk edge after the first.
+use Prim.Native.Nat.{ℕ, zero, suc, _-_}
+use mathlib.Core.Path.{_≡_, refl, ap}
+use native.Mathlib.Omega.{arith}
+use mathlib.Core.List.{List}
+use lib.Dec.{leb}
+use Rattle.tables.specs.declared.Counts.{Counts}
+use Rattle.tables.specs.Tables.{edgeOf}
+use Rattle.tables.specs.Door.{edgeRises}
 use Rattle.tables.specs.declared.StopTimeRow.{StopTimeRow}
 use Rattle.tables.specs.declared.TripRow.{TripRow}
 use Rattle.tables.specs.declared.WindowRow.{WindowRow}
@@ -24,3 +30,9 @@ pub same-edge : {a b c d e a′ b′ c′ d′ e′ : ℕ} → a ≡ a′ → b 
     → _≡_ {A = EdgeRow} (record { from = a; to = b; duration = c; pathway = d; pattern = e })
     (record { from = a′; to = b′; duration = c′; pathway = d′; pattern = e′ })
 same-edge p q r s t = cc
+
+-- question 6 of a walk edge that is not the first
+pub rises : (t : List ℕ) (c : Counts) (i : ℕ) → (i ≡ 0 → ⊥) → leb (edgeOf t c (i - 1) 0) (edgeOf t c i 0) ≡ edgeRises t c i
+unfolding edgeRises
+rises t c zero h = absurd (h refl)
+rises t c (suc i) h = let e : suc i - 1 ≡ i = omega arith in ap (λ (n : ℕ). leb (edgeOf t c n 0) (edgeOf t c (suc i) 0)) e

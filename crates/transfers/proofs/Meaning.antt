@@ -19,7 +19,7 @@ use Rattle.tables.specs.Tables.{arrivalOf, countOf, firstOf, stopOf, timeOf}
 use Rattle.departures.specs.declared.DepartureRow.{DepartureRow}
 use Rattle.departures.specs.Departures.{listedAt, rowDeparture, sorted}
 use Rattle.departures.specs.Packed.{unTrip}
-use Rattle.departures.proofs.Sorting.{all-tab}
+use Rattle.departures.proofs.All.{all-tab}
 use Rattle.line_transfers.specs.Transfers.{Input, allTransfers, builtTransfers, departuresOfLine, eventsOf, firstNotBefore, transferOf, transferTo, transfersOf}
 use Rattle.line_transfers.specs.Packed.{Prepared, alightKeys, allKeys, depX, eventKeys, lineX, prepared, targets, toGroup}
 use Rattle.transfers.specs.Call.{Admitted, Lent, inputOf}

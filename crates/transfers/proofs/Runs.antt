@@ -18,7 +18,7 @@ use Rattle.departures.proofs.Apart.{Apart, sorted-length, sorted-run}
 use Rattle.departures.proofs.Flat.{listed-slice}
 use Rattle.departures.proofs.Laws.{stops-apart}
 use Rattle.departures.proofs.Parts.{part-row, stop-known}
-use Rattle.departures.proofs.Sorting.{all-tab}
+use Rattle.departures.proofs.All.{all-tab}
 use Rattle.line_transfers.specs.Packed.{Keys, Lines, SortedRuns, lineX, packLine, packedAt}
 use Rattle.transfers.specs.Call.{Admitted, Lent, inputOf}
 use Rattle.line_transfers.proofs.Lists.{all-imp, all-map, map-slice, rising-at}

@@ -1,7 +1,6 @@
 use Rattle.tables.specs.Timetable.{timetable}
 use Rattle.asking.specs.Door.{readOk}
 use lib.Dec.{eqb}
-use Rattle.label_table.proofs.Examples.{distances}
 use mathlib.Core.Path.{_∙_, ap, ap₂}
 use Prim.Native.Nat.{_*_, _+_, ℕ}
 use mathlib.Core.Bool.{Bool, _&&_}

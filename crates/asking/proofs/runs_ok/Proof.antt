@@ -7,7 +7,6 @@ use Rattle.line_layout.specs.Listed.{lineRunsOk}
 use Rattle.asking.proofs.Parts.{line-runs-size, stop-runs-size}
 use lib.ListN.{length}
 use Rattle.delays.proofs.Examples.{entries}
-use Rattle.line_layout.proofs.Examples.{counts}
 use native.Mathlib.Omega.{arith}
 use mathlib.Core.Path.{_∙_, ap, ap₂}
 use mathlib.Core.Bool.{_&&_}

@@ -1,3 +1,7 @@
+use Rattle.realtime.specs.Times.{sizeOf}
+use Prim.Native.Nat.{max}
+use mathlib.Core.Bool.{Bool, cond}
+use mathlib.Core.Path.{_∙_, ap, ap₂}
 use borrow.Author.Needs.{needs}
 use Rattle.delays.proofs.given_size.Statement.{statement}
 use Rattle.delays.proofs.given_size.Tie as tie
@@ -18,7 +22,7 @@ larger-requires : tie.Need-larger-requires
 larger-requires c κs = search needs
 
 returns : tie.Need-returns
-returns c = cc
+returns c = c .larger .ensures ∙ ap₂ max (c .before .before .before .size-if .ensures ∙ ap (λ (b : Bool). cond b (sizeOf (c .before .before .before .before .before .args .row .«departure_delay»)) 0) (c .before .before .before .before .departure-given .ensures)) (c .before .size-if2 .ensures ∙ ap (λ (b : Bool). cond b (sizeOf (c .before .before .before .before .before .args .row .«arrival_delay»)) 0) (c .before .before .arrival-given .ensures))
 
 pub given-size-spec : {M : Type 1} → statement M
 given-size-spec =

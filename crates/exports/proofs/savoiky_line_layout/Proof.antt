@@ -1,4 +1,4 @@
-use Rattle.line_layout.specs.Call.{areas, outcome}
+use Rattle.layout_call.specs.Call.{areas, outcome}
 use denote.Ref.{now}
 use mathlib.Core.Path.{_∙_, ap, sym}
 use Rattle.tables.specs.declared.Counts.{Counts}

@@ -1,3 +1,7 @@
+use Rattle.label_table.specs.Table.{putWords, putDistance}
+use Rattle.label.specs.declared.LabelRow.{LabelRow}
+use denote.Ref.{now}
+use mathlib.Core.Path.{_∙_, ap}
 use borrow.Author.Needs.{needs}
 use Rattle.label_table.proofs.store_label.Statement.{statement}
 use Rattle.label_table.proofs.store_label.Tie as tie
@@ -15,7 +19,7 @@ same-length-2 : tie.Need-same-length-2
 same-length-2 c = search needs
 
 returns : tie.Need-returns
-returns c = (cc, cc)
+returns c = (c .before .before .before .before .put-row .ensures .0 ∙ ap (λ (r : LabelRow). putWords r (now (c .before .before .before .before .before .before .before .before .before .before .args .labels)) (c .before .before .before .before .before .before .before .before .before .before .args .«record»)) (c .before .before .before .before .before .before .before .row-of .ensures), c .before .before .before .before .put-row .ensures .1 ∙ ap (λ (r : LabelRow). putDistance r (now (c .before .before .before .before .before .before .before .before .before .before .args .distances)) (c .before .before .before .before .before .before .before .before .before .before .args .«record»)) (c .before .before .before .before .before .before .before .row-of .ensures))
 
 pub store-label-spec : {M : Type 1} → statement M
 store-label-spec =

@@ -5,7 +5,6 @@ use borrow.Author.Needs.{needs}
 use Rattle.asking.proofs.Parts.{marks-room, query-room, rows-size}
 use Rattle.departures.specs.Listed.{listedOk}
 use lib.ListN.{length}
-use Rattle.line_layout.proofs.Examples.{counts}
 use mathlib.Core.Path.{_∙_, ap, ap₂}
 use mathlib.Core.Bool.{_&&_}
 use mathlib.Core.List.{List}

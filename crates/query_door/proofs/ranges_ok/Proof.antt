@@ -1,7 +1,6 @@
 use Rattle.asking.specs.Door.{question5}
 use Rattle.asking.proofs.Parts.{query-room, runs-room}
 use borrow.Author.Needs.{needs}
-use Rattle.line_layout.proofs.Examples.{counts}
 use native.Mathlib.Omega.{arith}
 use mathlib.Core.Path.{_∙_, ap₂}
 use mathlib.Core.Bool.{_&&_}

@@ -1,3 +1,5 @@
+use mathlib.Core.Bool.{_&&_}
+use mathlib.Core.Path.{_∙_, ap₂}
 use borrow.Author.Needs.{needs}
 use Rattle.realtime.proofs.time_in_range.Statement.{statement}
 use Rattle.realtime.proofs.time_in_range.Tie as tie
@@ -18,7 +20,7 @@ both-requires-3 : tie.Need-both-requires-3
 both-requires-3 c κs = search needs
 
 returns : tie.Need-returns
-returns c = cc
+returns c = c .both3 .ensures ∙ ap₂ _&&_ (c .before .before .before .before .both .ensures) (c .before .both2 .ensures ∙ ap₂ _&&_ (c .before .before .before .size-ok .ensures) (c .before .before .size-ok2 .ensures))
 
 pub time-in-range-spec : {M : Type 1} → statement M
 time-in-range-spec =

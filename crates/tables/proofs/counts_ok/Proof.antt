@@ -1,3 +1,5 @@
+use mathlib.Core.Bool.{_&&_}
+use mathlib.Core.Path.{_∙_, ap₂, refl}
 use Rattle.tables.specs.Door.{countsOk}
 use borrow.Author.Needs.{needs}
 use Rattle.tables.proofs.counts_ok.Statement.{statement}
@@ -17,7 +19,7 @@ both-requires-4 c κs = search needs
 
 returns : tie.Need-returns
 unfolding countsOk
-returns c = cc
+returns c = c .both4 .ensures ∙ ap₂ _&&_ (c .before .before .before .before .before .before .both .ensures) (c .before .both3 .ensures ∙ ap₂ _&&_ (c .before .before .before .both2 .ensures) refl)
 
 pub counts-ok-spec : {M : Type 1} → statement M
 counts-ok-spec =

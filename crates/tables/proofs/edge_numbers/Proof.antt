@@ -8,7 +8,7 @@ both-requires c κs = search needs
 
 returns : tie.Need-returns
 unfolding edgeNumbers
-returns c = cc
+returns c = c .both .ensures
 
 pub edge-numbers-spec : {M : Type 1} → statement M
 edge-numbers-spec = tie.close (tie.spec both-requires returns)

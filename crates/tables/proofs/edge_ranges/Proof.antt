@@ -8,7 +8,7 @@ both-requires c κs = search needs
 
 returns : tie.Need-returns
 unfolding edgeRanges
-returns c = cc
+returns c = c .both .ensures
 
 pub edge-ranges-spec : {M : Type 1} → statement M
 edge-ranges-spec = tie.close (tie.spec both-requires returns)

@@ -1,3 +1,6 @@
+use Rattle.tables.proofs.Rows.{rises}
+use lib.Dec.{leb}
+use mathlib.Core.Path.{ap₂, _∙_}
 use denote.Ref.{now}
 use Rattle.tables.specs.Door.{edgeRises}
 use Rattle.tables.specs.Tables.{edgeOf}
@@ -23,7 +26,7 @@ edge-requires-2 c κs = search needs
 
 returns-2 : tie.Need-returns-2
 unfolding edgeRises
-returns-2 c = let e : c .before .before .before .before .args .i ≡ suc (c .before .before .before .before .args .i - 1) = omega arith in cc (ap (λ (n : ℕ). edgeRises (now (c .before .before .before .before .args .t)) (c .before .before .before .before .args .c) n) e, ap (λ (n : ℕ). edgeOf (now (c .before .before .before .before .args .t)) (c .before .before .before .before .args .c) n 0) e)
+returns-2 c = ap₂ leb (c .before .edge .ensures .0) (c .edge2 .ensures .0) ∙ rises _ _ _ (c .before .before .if1 .left)
 
 pub edge-rises-spec : {M : Type 1} → statement M
 edge-rises-spec = tie.close (tie.spec returns sub-edge edge-requires edge-requires-2 returns-2)

@@ -1,3 +1,5 @@
+use mathlib.Core.Bool.{_&&_}
+use mathlib.Core.Path.{_∙_, ap₂, refl}
 use borrow.Author.Needs.{needs}
 use Rattle.walk.proofs.in_range.Statement.{statement}
 use Rattle.walk.proofs.in_range.Tie as tie
@@ -9,7 +11,7 @@ both-requires-2 : tie.Need-both-requires-2
 both-requires-2 c κs = search needs
 
 returns : tie.Need-returns
-returns c = cc
+returns c = c .both2 .ensures ∙ ap₂ _&&_ (c .before .both .ensures) refl
 
 pub in-range-spec : {M : Type 1} → statement M
 in-range-spec = tie.close (tie.spec both-requires both-requires-2 returns)

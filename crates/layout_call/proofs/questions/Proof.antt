@@ -1,0 +1,158 @@
+use Rattle.layout_call.specs.Call.{sizesOk, verdict}
+use denote.Ref.{now}
+use borrow.Author.Needs.{needs}
+use lib.ListN.{length}
+use lib.Dec.{leb}
+use Rattle.line_layout.specs.Listed.{entriesOk, lineRunsOk}
+use Rattle.tables.specs.Door.{countsOk, numbersOk, rangesOk, runsOk, slicesOk}
+use Rattle.tables.proofs.Yes.{second-no, two}
+use Rattle.door.proofs.Laws.{ask-no, ask-on}
+use mathlib.Core.Path.{_∙_, _≡_, ap₂, refl, sym}
+use mathlib.Core.Bool.{Bool, _&&_, true}
+use Rattle.line_layout.proofs.Yes.{found-no, found-yes}
+use Rattle.layout_call.proofs.Outcome.{Limits, Sizes, limits-yes, sizes-yes}
+use Rattle.layout_call.proofs.questions.Statement.{statement}
+use Rattle.layout_call.proofs.questions.Tie as tie
+
+-- the questions as the code asks them, and that those before are answered yes
+abbrev asked1 : tie.Start → Bool
+asked1 s = countsOk (s .args .c) && (leb (s .args .lines) 4096 && leb (s .args .n) 4096)
+
+abbrev asked2 : tie.Start → Bool
+asked2 s = slicesOk (now (s .args .t)) (s .args .c) && sizesOk (s .args .c) (s .args .lines) (s .args .n) (length (now (s .args .runs))) (length (now (s .args .entries))) (s .args .positions) (s .args .fifo)
+
+abbrev asked3 : tie.Start → Bool
+asked3 s = runsOk (now (s .args .t)) (s .args .c) && lineRunsOk (now (s .args .runs)) (s .args .lines) (s .args .n)
+
+abbrev asked4 : tie.Start → Bool
+asked4 s = numbersOk (now (s .args .t)) (s .args .c) && entriesOk (s .args .c) (now (s .args .entries)) (s .args .n)
+
+abbrev asked5 : tie.Start → Bool
+asked5 s = rangesOk (now (s .args .t)) (s .args .c)
+
+q1 : (c : tie.Else1) → asked1 (c .before .before .before .before .before .before .before) ≡ true
+q1 c = found-yes (c .before .both2 .ensures) (c .before .before .before .counts-ok .ensures) (c .before .before .both .ensures) (c .if1 .left)
+
+abbrev limitsAt : tie.Start → Type 0
+limitsAt s = Limits (s .args .c) (s .args .lines) (s .args .n)
+
+limits : (c : tie.Else1) → limitsAt (c .before .before .before .before .before .before .before)
+limits c = limits-yes _ _ _ (q1 c)
+
+q2 : (c : tie.Else2) → asked2 (c .before .before .before .before .before .before .before .before .before .before .before) ≡ true
+q2 c = found-yes (c .before .both3 .ensures) (c .before .before .before .slices-ok .ensures) (c .before .before .sizes-ok .ensures) (c .if2 .left)
+
+abbrev sizesAt : tie.Start → Type 0
+sizesAt s = Sizes (now (s .args .t)) (s .args .c) (s .args .lines) (s .args .n) (length (now (s .args .runs))) (length (now (s .args .entries))) (s .args .positions) (s .args .fifo)
+
+sizes : (c : tie.Else2) → sizesAt (c .before .before .before .before .before .before .before .before .before .before .before)
+sizes c = sizes-yes _ _ _ _ _ _ _ _ (q2 c)
+
+q3 : (c : tie.Else3) → asked3 (c .before .before .before .before .before .before .before .before .before .before .before .before .before .before .before) ≡ true
+q3 c = found-yes (c .before .both4 .ensures) (c .before .before .before .runs-ok .ensures) (c .before .before .line-runs-ok .ensures) (c .if3 .left)
+
+q4 : (c : tie.Else5) → asked4 (c .before .before .before .before .before .before .before .before .before .before .before .before .before .before .before .before .before .before .before .before .before .before) ≡ true
+q4 c = found-yes (c .before .both6 .ensures) (c .before .before .numbers-ok .ensures) (c .before .before .before .before .before .before .entries-ok .ensures) (c .if5 .left)
+
+counts-ok-requires : tie.Need-counts-ok-requires
+counts-ok-requires c κs = search needs
+
+both-requires : tie.Need-both-requires
+both-requires c κs = search needs
+
+both-requires-2 : tie.Need-both-requires-2
+both-requires-2 c κs = search needs
+
+returns : tie.Need-returns
+unfolding verdict
+returns c = ask-no 1 _ _ (found-no (c .before .both2 .ensures) (c .before .before .before .counts-ok .ensures) (c .before .before .both .ensures) (c .if1 .taken))
+
+slices-ok-requires : tie.Need-slices-ok-requires
+slices-ok-requires c κs = (limits (c)) .counts
+
+sizes-ok-requires : tie.Need-sizes-ok-requires
+sizes-ok-requires c κs = (limits (c .before)) .fewLines
+
+both-requires-3 : tie.Need-both-requires-3
+both-requires-3 c κs = search needs
+
+returns-2 : tie.Need-returns-2
+unfolding verdict
+returns-2 c = ask-on 1 _ (q1 (c .before .before .before .before)) (ask-no 2 _ _ (found-no (c .before .both3 .ensures) (c .before .before .before .slices-ok .ensures) (c .before .before .sizes-ok .ensures) (c .if2 .taken)))
+
+runs-ok-requires : tie.Need-runs-ok-requires
+runs-ok-requires c κs = ((limits (c .before .before .before .before)) .counts, (sizes (c)) .slices)
+
+line-runs-ok-requires : tie.Need-line-runs-ok-requires
+line-runs-ok-requires c κs = (sizes (c .before)) .runsIs
+
+both-requires-4 : tie.Need-both-requires-4
+both-requires-4 c κs = search needs
+
+returns-3 : tie.Need-returns-3
+unfolding verdict
+returns-3 c = ask-on 1 _ (q1 (c .before .before .before .before .before .before .before .before)) (ask-on 2 _ (q2 (c .before .before .before .before)) (ask-no 3 _ _ (found-no (c .before .both4 .ensures) (c .before .before .before .runs-ok .ensures) (c .before .before .line-runs-ok .ensures) (c .if3 .taken))))
+
+entries-ok-requires : tie.Need-entries-ok-requires
+entries-ok-requires c κs = (sizes (c .before .before .before .before)) .entriesIs
+
+rows-ok-requires : tie.Need-rows-ok-requires
+rows-ok-requires c κs = ((limits (c .before .before .before .before .before .before .before .before .before)) .counts, (sizes (c .before .before .before .before .before)) .slices)
+
+both-requires-5 : tie.Need-both-requires-5
+both-requires-5 c κs = search needs
+
+returns-4 : tie.Need-returns-4
+unfolding verdict
+returns-4 c =
+    let s = c .before .before .before .before .before .before .before .before .before .before .before .before .before .before .before .before .before .before .before in
+    let n = numbersOk (now (s .args .t)) (s .args .c) in
+    let e = entriesOk (s .args .c) (now (s .args .entries)) (s .args .n) in
+    let x = two e (n && asked5 s) (sym (c .before .both5 .ensures ∙ ap₂ _&&_ (c .before .before .before .entries-ok .ensures) (c .before .before .rows-ok .ensures)) ∙ c .if4 .taken) in
+    let y = two n (asked5 s) (x .two) in
+    ask-on 1 _ (q1 (c .before .before .before .before .before .before .before .before .before .before .before .before)) (ask-on 2 _ (q2 (c .before .before .before .before .before .before .before .before)) (ask-on 3 _ (q3 (c .before .before .before .before)) (ask-on 4 _ (ap₂ _&&_ (y .one) (x .one)) (ask-on 5 _ (y .two) refl))))
+
+numbers-ok-requires : tie.Need-numbers-ok-requires
+numbers-ok-requires c κs = ((limits (c .before .before .before .before .before .before .before .before .before .before .before .before)) .counts, (sizes (c .before .before .before .before .before .before .before .before)) .slices)
+
+both-requires-6 : tie.Need-both-requires-6
+both-requires-6 c κs = search needs
+
+returns-5 : tie.Need-returns-5
+unfolding verdict
+returns-5 c = ask-on 1 _ (q1 (c .before .before .before .before .before .before .before .before .before .before .before .before .before .before .before)) (ask-on 2 _ (q2 (c .before .before .before .before .before .before .before .before .before .before .before)) (ask-on 3 _ (q3 (c .before .before .before .before .before .before .before)) (ask-no 4 _ _ (found-no (c .before .both6 .ensures) (c .before .before .numbers-ok .ensures) (c .before .before .before .before .before .before .entries-ok .ensures) (c .if5 .taken)))))
+
+returns-6 : tie.Need-returns-6
+unfolding verdict
+returns-6 c =
+    let s = c .before .before .before .before .before .before .before .before .before .before .before .before .before .before .before .before .before .before .before .before .before .before in
+    let n = numbersOk (now (s .args .t)) (s .args .c) in
+    let e = entriesOk (s .args .c) (now (s .args .entries)) (s .args .n) in
+    let x = two n e (q4 c) in
+    let y = second-no e (n && asked5 s) (sym (c .before .before .before .before .both5 .ensures ∙ ap₂ _&&_ (c .before .before .before .before .before .before .entries-ok .ensures) (c .before .before .before .before .before .rows-ok .ensures)) ∙ c .before .before .before .if4 .left) (x .two) in
+    ask-on 1 _ (q1 (c .before .before .before .before .before .before .before .before .before .before .before .before .before .before .before)) (ask-on 2 _ (q2 (c .before .before .before .before .before .before .before .before .before .before .before)) (ask-on 3 _ (q3 (c .before .before .before .before .before .before .before)) (ask-on 4 _ (q4 c) (ask-no 5 _ _ (second-no n (asked5 s) y (x .one))))))
+
+pub questions-spec : {M : Type 1} → statement M
+questions-spec =
+    tie.close
+    (tie.spec
+    counts-ok-requires
+    both-requires
+    both-requires-2
+    returns
+    slices-ok-requires
+    sizes-ok-requires
+    both-requires-3
+    returns-2
+    runs-ok-requires
+    line-runs-ok-requires
+    both-requires-4
+    returns-3
+    entries-ok-requires
+    rows-ok-requires
+    both-requires-5
+    returns-4
+    numbers-ok-requires
+    both-requires-6
+    returns-5
+    returns-6)

@@ -1,0 +1,113 @@
+// layout_call: the call that writes each line's FIFO flag and each trip's position in its line (document 01, item 7; the Rust's line_layout).
+// Specs: its questions in order and what it answers and writes (Call). What the flags and positions are: line_layout.
+// Proves: the call's outcome is the defined one on every input, on lines made by hand too. In proofs/Examples: Timetable K, computed.
+// Assumes nothing.
+ghost use mathlib.Core.Path.{_≡_};
+ghost use Prim.Native.Nat.{_≤_};
+ghost use lib.ListN.{length};
+ghost use Rattle.layout_call.specs.Call.{areas, sizesOk, verdict, made, outcome, outcomeOf, Admitted};
+use tables::Counts;
+
+// Question 2: is each slice as long as the counts say?
+fn sizes_ok(
+    c: Counts,
+    lines: usize,
+    n: usize,
+    runs: usize,
+    entries: usize,
+    positions: usize,
+    fifo: usize,
+) -> bool
+    requires { ⌜ lines ≤ 4096 ⌝ }
+    ensures { λ r. ⌜ r ≡ sizesOk c lines n runs entries positions fifo ⌝ }
+{
+    let a = door::both(runs == lines * 2, entries == n);
+    door::both(a, door::both(positions == c.trips, fifo == lines))
+}
+
+// The questions: the number of the first that is answered no, or 0.
+fn questions(
+    t: &[u32],
+    c: Counts,
+    lines: usize,
+    n: usize,
+    runs: &[u32],
+    entries: &[u32],
+    positions: usize,
+    fifo: usize,
+) -> u32
+    ensures { λ r. ⌜ r ≡ verdict (now (t .entry)) c lines n (now (runs .entry)) (now (entries .entry)) (sizesOk c lines n (length (now (runs .entry))) (length (now (entries .entry))) positions fifo) ⌝ }
+{
+    if !door::both(tables::counts_ok(c), door::both(lines <= 4096, n <= 4096)) {
+        return 1;
+    }
+    if !door::both(
+        tables::slices_ok(t, c),
+        sizes_ok(c, lines, n, runs.len(), entries.len(), positions, fifo),
+    ) {
+        return 2;
+    }
+    if !door::both(
+        tables::runs_ok(t, c),
+        line_layout::line_runs_ok(runs, lines, n),
+    ) {
+        return 3;
+    }
+    let known = line_layout::entries_ok(c, entries, n);
+    if door::both(known, tables::rows_ok(t, c)) {
+        return 0;
+    }
+    if !door::both(tables::numbers_ok(t, c), known) {
+        return 4;
+    }
+    5
+}
+
+// What an admitted call writes.
+fn lay_out(
+    t: &[u32],
+    c: Counts,
+    lines: usize,
+    runs: &[u32],
+    entries: &[u32],
+    positions: &mut [u32],
+    fifo: &mut [u32],
+)
+    requires { ⌜ Admitted (now t) c lines (now runs) (now entries) (areas (now positions) (now fifo)) ⌝ }
+    ensures { λ _. ⌜ areas (now (positions .exit)) (now (fifo .exit)) ≡ made (now (t .entry)) c lines (now (runs .entry)) (now (entries .entry)) ⌝ }
+{
+    line_layout::line_positions(c, lines, runs, entries, positions);
+    line_layout::line_fifo(t, c, lines, runs, entries, fifo);
+}
+
+// Positions and FIFO flags. `runs` are pairs (first entry, count), one a line; `entries` are trip numbers; `positions` takes
+// one number a trip, `fifo` one a line, 1 or 0. The answer is the number of the first question that is answered no, or 0. A
+// refusal leaves both slices as they came.
+pub fn line_layout(
+    t: &[u32],
+    c: Counts,
+    lines: usize,
+    entry_count: usize,
+    runs: &[u32],
+    entries: &[u32],
+    positions: &mut [u32],
+    fifo: &mut [u32],
+) -> u32
+    ensures { λ r. ⌜ outcomeOf r (areas (now (positions .exit)) (now (fifo .exit))) ≡ outcome (now (t .entry)) c lines «entry_count» (now (runs .entry)) (now (entries .entry)) (areas (now (positions .entry)) (now (fifo .entry))) ⌝ }
+{
+    let v = questions(
+        t,
+        c,
+        lines,
+        entry_count,
+        runs,
+        entries,
+        positions.len(),
+        fifo.len(),
+    );
+    if v != 0 {
+        return v;
+    }
+    lay_out(t, c, lines, runs, entries, positions, fifo);
+    v
+}
