@@ -274,3 +274,26 @@ pub fn delay_at(
         }
     }
 }
+
+// The delay margin of a query is at most this many seconds.
+const MARGIN_CAP: u32 = 21600;
+
+// The margin with that cap.
+pub fn capped_margin(
+    trips: u32,
+    delay_rows: u32,
+    stop_row_count: u32,
+    rows: &[u32],
+    stop_rows: &[u32],
+) -> Answer
+    ensures { λ r. ⌜ r ≡ marginOutcome trips «delay_rows» «stop_row_count» (now (rows .entry)) (now («stop_rows» .entry)) 21600 ⌝ }
+{
+    margin(
+        trips,
+        delay_rows,
+        stop_row_count,
+        rows,
+        stop_rows,
+        MARGIN_CAP,
+    )
+}

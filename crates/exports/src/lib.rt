@@ -206,7 +206,7 @@ pub extern "C" fn savoiky_margin(
 ) -> Answer
     ensures { λ r. ⌜ r ≡ marginOutcome trips «delay_rows» «stop_row_count» (now (rows .entry)) (now («stop_rows» .entry)) 21600 ⌝ }
 {
-    sizes::capped_margin(trips, delay_rows, stop_row_count, rows, stop_rows)
+    delays::capped_margin(trips, delay_rows, stop_row_count, rows, stop_rows)
 }
 
 // What the delay tables say of the stop time of a trip with this sequence number: known 1 where the trip has a delay row. The

@@ -159,7 +159,7 @@ fn stored(n: Nine, m: Nine, labels: &mut [u32], distances: &mut [f64]) -> u32 {
 }
 
 // Is this the label of the words?
-fn label_right(code: u32, l: label_table::LabelAnswer, w: &[u32]) -> bool {
+fn label_right(code: u32, l: label_calls::LabelAnswer, w: &[u32]) -> bool {
     let r = l.row;
     let got = [
         r.kind,

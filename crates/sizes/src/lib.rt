@@ -1,35 +1,11 @@
-// sizes: the counts of a timetable and of a query as a caller of the exports hands them in, one u32 each, and the margin with its cap.
+// sizes: the counts of a timetable and of a query as a caller of the exports hands them in, one u32 each.
 // Specs: the counts made of those numbers (Counts).
 // Proves: every function equal to its definition.
 // Assumes nothing.
 ghost use mathlib.Core.Path.{_≡_};
-ghost use Rattle.delay_tables.specs.Door.{marginOutcome};
 ghost use Rattle.sizes.specs.Counts.{countsOf, gathered, queryCountsOf};
 use asking::QueryCounts;
-use door::Answer;
 use tables::Counts;
-
-// The delay margin is at most this many seconds.
-const MARGIN_CAP: u32 = 21600;
-
-pub fn capped_margin(
-    trips: u32,
-    delay_rows: u32,
-    stop_row_count: u32,
-    rows: &[u32],
-    stop_rows: &[u32],
-) -> Answer
-    ensures { λ r. ⌜ r ≡ marginOutcome trips «delay_rows» «stop_row_count» (now (rows .entry)) (now («stop_rows» .entry)) 21600 ⌝ }
-{
-    delays::margin(
-        trips,
-        delay_rows,
-        stop_row_count,
-        rows,
-        stop_rows,
-        MARGIN_CAP,
-    )
-}
 
 pub fn counts(stops: u32, trips: u32, times: u32, windows: u32, edges: u32) -> Counts
     ensures { λ r. ⌜ r ≡ countsOf stops trips times windows edges ⌝ }
