@@ -1,6 +1,6 @@
 -- The departures of a stop, one by one. Assumes nothing.
 use Prim.Native.Nat.{ℕ, zero, suc, _+_, _-_, _≤_, _<_}
-use mathlib.Core.Path.{_≡_, refl, sym, ap, _∙_}
+use mathlib.Core.Path.{_≡_, refl, sym, ap, ap₂, subst, _∙_}
 use mathlib.Core.Bool.{Bool, true, false, not, _&&_}
 use mathlib.Core.List.{List, [], _∷_}
 use native.Mathlib.Omega.{arith}
@@ -81,14 +81,15 @@ module _ (T : Tables) (Q : Query) (flagged hasFreq : Bool) (round stamp x after 
       let e : suc (n - (i + 1)) ≡ n - i = omega arith in
       ap (λ (m : ℕ). scanDepartures T Q flagged hasFreq round stamp x after (tabFrom (rowAt list) i m) s) e
 
-  pub from-late : (list : List ℕ) (n i : ℕ) (s : State) → i < n → tooLate (s .arrivals .best) (rowAt list i) ≡ true → s ≡ scanFrom list n i s
-  from-late list n i s h e = scan-late (rowAt list i) (tabFrom (rowAt list) (suc i) (n - (i + 1))) s e ∙ from-cons list n i s h
+  pub from-late : (list : List ℕ) (n i : ℕ) (s : State) → i < n → (d : DepartureRow) → d ≡ rowAt list i → tooLate (s .arrivals .best) d ≡ true → s ≡ scanFrom list n i s
+  from-late list n i s h d is e =
+      scan-late (rowAt list i) (tabFrom (rowAt list) (suc i) (n - (i + 1))) s (subst (λ (z : DepartureRow). tooLate (s .arrivals .best) z ≡ true) is e) ∙ from-cons list n i s h
 
-  pub from-turn : (list : List ℕ) (n i : ℕ) (s : State) → i < n → tooLate (s .arrivals .best) (rowAt list i) ≡ false
-      → scanFrom list n (i + 1) (taken T Q flagged round stamp x after (rowAt list i) s) ≡ scanFrom list n i s
-  from-turn list n i s h e =
-      ap (λ (k : ℕ). scanDepartures T Q flagged hasFreq round stamp x after (tabFrom (rowAt list) k (n - (i + 1))) (taken T Q flagged round stamp x after (rowAt list i) s)) (add-one i)
-      ∙ scan-next (rowAt list i) (tabFrom (rowAt list) (suc i) (n - (i + 1))) s e ∙ from-cons list n i s h
+  pub from-turn : (list : List ℕ) (n i : ℕ) (s : State) → i < n → (d : DepartureRow) → d ≡ rowAt list i → tooLate (s .arrivals .best) d ≡ false
+      → scanFrom list n (i + 1) (taken T Q flagged round stamp x after d s) ≡ scanFrom list n i s
+  from-turn list n i s h d is e =
+      ap₂ (λ (k : ℕ) (z : DepartureRow). scanDepartures T Q flagged hasFreq round stamp x after (tabFrom (rowAt list) k (n - (i + 1))) (taken T Q flagged round stamp x after z s)) (add-one i) is
+      ∙ scan-next (rowAt list i) (tabFrom (rowAt list) (suc i) (n - (i + 1))) s (subst (λ (z : DepartureRow). tooLate (s .arrivals .best) z ≡ false) is e) ∙ from-cons list n i s h
 
   pub from-end : (list : List ℕ) (n i : ℕ) (s : State) → n ≤ i → s ≡ scanFrom list n i s
   unfolding tabFrom

@@ -18,12 +18,11 @@ ghost use Rattle.departures.specs.Listed.{RowsKnown};
 ghost use Rattle.riding.specs.Laid.{Rides};
 ghost use Rattle.riding.specs.Going.{Going, Rode, taken};
 use alighting::Scan;
-use boarding::Terms;
+use departures::DepartureRow;
 use frequency::FreqBoard;
 use riding::Phase;
 use scratch::Head;
 use scratch::Ride;
-use tables::Counts;
 
 // One listed departure of stop x, without the test whether it is too late: boarded not before `after`, if it can be, and scanned.
 fn take_departure(
@@ -36,17 +35,18 @@ fn take_departure(
     p: Phase,
     x: u32,
     after: u32,
-    trip: u32,
-    off: u32,
+    d: DepartureRow,
     work: &mut [u32],
     labels: &mut [u32],
     distances: &mut [f64],
     queue: &mut [u32],
     h: Head,
 ) -> Head
-    requires { ⌜ Going (p .counts) (now t) (now rows) (now «stop_rows») (now built) (now bytes) (now area) (p .net) (p .lay) (p .stamp) (memory (now work) (now labels) (now distances) h) (now queue) ⌝ ∗ ⌜ Event (now t) (p .counts .timetable) trip off ⌝ ∗ ⌜ after < 134217728 ⌝ }
-    ensures { λ r. ⌜ Rode (p .lay) (p .stamp) (Rides (p .counts) (now (t .entry)) (now (rows .entry)) (now («stop_rows» .entry)) (now (built .entry)) (now (bytes .entry)) (now (area .entry)) (p .net) (p .lay) (now (work .entry))) (λ T Q. taken T Q (p .flagged) (p .stamp - 2) (p .stamp) x after (record { trip = trip; offset = off })) (memory (now (work .entry)) (now (labels .entry)) (now (distances .entry)) h) (memory (now (work .exit)) (now (labels .exit)) (now (distances .exit)) r) (now (queue .entry)) (now (queue .exit)) ⌝ }
+    requires { ⌜ Going (p .counts) (now t) (now rows) (now «stop_rows») (now built) (now bytes) (now area) (p .net) (p .lay) (p .stamp) (memory (now work) (now labels) (now distances) h) (now queue) ⌝ ∗ ⌜ Event (now t) (p .counts .timetable) (d .trip) (d .offset) ⌝ ∗ ⌜ after < 134217728 ⌝ }
+    ensures { λ r. ⌜ Rode (p .lay) (p .stamp) (Rides (p .counts) (now (t .entry)) (now (rows .entry)) (now («stop_rows» .entry)) (now (built .entry)) (now (bytes .entry)) (now (area .entry)) (p .net) (p .lay) (now (work .entry))) (λ T Q. taken T Q (p .flagged) (p .stamp - 2) (p .stamp) x after d) (memory (now (work .entry)) (now (labels .entry)) (now (distances .entry)) h) (memory (now (work .exit)) (now (labels .exit)) (now (distances .exit)) r) (now (queue .entry)) (now (queue .exit)) ⌝ }
 {
+    let trip = d.trip as u32;
+    let off = d.offset as u32;
     let counts = p.counts.timetable;
     let net = p.net;
     let lay = p.lay;
@@ -61,8 +61,8 @@ fn take_departure(
         lay,
         p.stamp,
         adj,
-        trip as usize,
-        off as usize,
+        d.trip,
+        d.offset,
         after,
         h.best,
         work,
@@ -70,16 +70,7 @@ fn take_departure(
     let FreqBoard::Board(b) = found else {
         return h;
     };
-    boardings::note(
-        lay,
-        p.stamp,
-        built,
-        adj,
-        trip as usize,
-        off,
-        b.departure,
-        work,
-    );
+    boardings::note(lay, p.stamp, built, adj, d.trip, off, b.departure, work);
     let ride = Ride {
         stamp: p.stamp,
         trip,
@@ -112,21 +103,13 @@ fn take_departure(
 }
 
 // At a stop without frequency trips: does a trip depart so late that no delay brings it before the best total?
-fn too_late(
-    t: &[u32],
-    c: Counts,
-    terms: Terms,
-    has_freq: bool,
-    trip: usize,
-    off: usize,
-    best: u32,
-) -> bool
-    requires { ⌜ Sane (now t) c ⌝ ∗ ⌜ Event (now t) c trip off ⌝ }
-    ensures { λ r. ⌜ ((T : Tables) (Q : Query) → T .timetable ≡ timetable (now (t .entry)) c → Asks Q terms → r ≡ (not «has_freq» && leb (best + marginOf T Q) (departure T trip off))) ⌝ }
+fn too_late(t: &[u32], p: Phase, has_freq: bool, d: DepartureRow, best: u32) -> bool
+    requires { ⌜ Sane (now t) (p .counts .timetable) ⌝ ∗ ⌜ Event (now t) (p .counts .timetable) (d .trip) (d .offset) ⌝ }
+    ensures { λ r. ⌜ ((T : Tables) (Q : Query) → T .timetable ≡ timetable (now (t .entry)) (p .counts .timetable) → Asks Q (p .net .terms) → r ≡ (not «has_freq» && leb (best + marginOf T Q) (departure T (d .trip) (d .offset)))) ⌝ }
 {
-    let first = tables::trip(t, c, trip, 0);
-    let dep = tables::time(t, c, first + off, 2) as u64;
-    let late = best as u64 + terms.margin as u64 <= dep;
+    let first = tables::trip(t, p.counts.timetable, d.trip, 0);
+    let dep = tables::time(t, p.counts.timetable, first + d.offset, 2) as u64;
+    let late = best as u64 + p.net.terms.margin as u64 <= dep;
     door::both(!has_freq, late)
 }
 
@@ -156,12 +139,8 @@ pub fn scan_departures(
     let mut g = h;
     let mut i: usize = 0;
     while i < m {
-        let at = i * 2;
-        let trip = list[at];
-        let off = list[at + 1];
-        let c = p.counts.timetable;
-        let terms = p.net.terms;
-        if too_late(t, c, terms, has_freq, trip as usize, off as usize, g.best) {
+        let d = departures::departure_row(list, i);
+        if too_late(t, p, has_freq, d, g.best) {
             return g;
         }
         g = take_departure(
@@ -174,8 +153,7 @@ pub fn scan_departures(
             p,
             x,
             after,
-            trip,
-            off,
+            d,
             work,
             labels,
             distances,

@@ -1,3 +1,5 @@
+use Rattle.boarding.specs.Reads.{Event}
+use Rattle.departures.specs.declared.DepartureRow.{DepartureRow}
 use Rattle.riding.proofs.Keep.{rides-kept}
 use denote.Ref.{now}
 use Rattle.riding.proofs.Phased.{going-on}
@@ -9,7 +11,7 @@ use Rattle.model.specs.Search.{scanDepartures}
 use Rattle.departures.specs.Departures.{rowsOf}
 use Rattle.scratch.specs.View.{memory}
 use lib.ListN.{length}
-use mathlib.Core.Path.{_≡_, _∙_, refl, sym}
+use mathlib.Core.Path.{_≡_, _∙_, refl, subst, sym}
 use Prim.Native.Nat.{_-_, _/_, _+_}
 use Rattle.riding.proofs.Riding.{Riding, ride-end, ride-over, ride-start, ride-turn}
 use Rattle.riding.specs.Laid.{Rides}
@@ -31,74 +33,53 @@ abbrev μ-loop : tie.MeasureT-loop
 loop-holds : tie.Need-loop-holds Inv-loop μ-loop
 loop-holds c = let a = c .before .before .before .before .before .before .before .before .before .before .before in let x = a .args in let G = a .pre .0 in (refl, ride-start _ _ _ _ (G .ready) (G .chains) (G .room) (λ T Q y s. from-start T Q (x .p .flagged) (x .has-freq) (x .p .stamp - 2) (x .p .stamp) (x .x) (x .after) (now (x .list)) (length (now (x .list)) / 2) s))
 
-mul-at : tie.Need-mul-at Inv-loop μ-loop
-mul-at c = let a = c .before .before .before .before .before .before .before .before .before .before .before .before .before in let K = a .pre .1 .0 in omega (arith, K .few, c .loop-test .taken, c .before .loop .inv .0)
-
-mul-trip : tie.Need-mul-trip Inv-loop μ-loop
-mul-trip c = let a = c .before .before .before .before .before .before .before .before .before .before .before .before .before in let K = a .pre .1 .0 in omega (arith, K .few, c .loop-test .taken, c .before .loop .inv .0)
-
-shared-slice-read-trip : tie.Need-shared-slice-read-trip Inv-loop μ-loop
-shared-slice-read-trip c = omega (arith, c .before .loop-test .taken, c .before .before .loop .inv .0)
-
-add-off : tie.Need-add-off Inv-loop μ-loop
-add-off c = let a = c .before .before .before .before .before .before .before .before .before .before .before .before .before .before in let K = a .pre .1 .0 in omega (arith, K .few, c .before .loop-test .taken, c .before .before .loop .inv .0)
-
-mul-off : tie.Need-mul-off Inv-loop μ-loop
-mul-off c = let a = c .before .before .before .before .before .before .before .before .before .before .before .before .before .before in let K = a .pre .1 .0 in omega (arith, K .few, c .before .loop-test .taken, c .before .before .loop .inv .0)
-
-shared-slice-read-off : tie.Need-shared-slice-read-off Inv-loop μ-loop
-shared-slice-read-off c = omega (arith, c .before .before .loop-test .taken, c .before .before .before .loop .inv .0)
-
-cast-too-late : tie.Need-cast-too-late Inv-loop μ-loop
-cast-too-late c = let a = c .before .before .before .before .before .before .before .before .before .before .before .before .before .before .before .before .before in let x = a .args in let G = a .pre .0 in let p = c .before .before .before .before .before .loop .inv .1 in let K = a .pre .1 .0 in let e = K .known (c .before .before .before .before .before .loop .i) (omega (arith, c .before .before .before .before .loop-test .taken, c .before .before .before .before .before .loop .inv .0)) in omega (arith, e .trip, K .counts .trips)
-
-cast-too-late-2 : tie.Need-cast-too-late-2 Inv-loop μ-loop
-cast-too-late-2 c = let a = c .before .before .before .before .before .before .before .before .before .before .before .before .before .before .before .before .before in let x = a .args in let G = a .pre .0 in let p = c .before .before .before .before .before .loop .inv .1 in let K = a .pre .1 .0 in let e = K .known (c .before .before .before .before .before .loop .i) (omega (arith, c .before .before .before .before .loop-test .taken, c .before .before .before .before .before .loop .inv .0)) in omega (arith, e .offset, K .runs .run _ (e .trip), K .counts .times)
+departure-row-requires : tie.Need-departure-row-requires Inv-loop μ-loop
+departure-row-requires c κs = omega (arith, c .loop-test .taken, c .before .loop .inv .0)
 
 too-late-requires : tie.Need-too-late-requires Inv-loop μ-loop
-too-late-requires c κs = let a = c .before .before .before .before .before .before .before .before .before .before .before .before .before .before .before .before .before in let x = a .args in let G = a .pre .0 in let p = c .before .before .before .before .before .loop .inv .1 in let K = a .pre .1 .0 in let e = K .known (c .before .before .before .before .before .loop .i) (omega (arith, c .before .before .before .before .loop-test .taken, c .before .before .before .before .before .loop .inv .0)) in (G .laid .netted .ground .sane, record { trip = e .trip; offset = e .offset })
+too-late-requires c κs = let a = c .before .before .before .before .before .before .before .before .before .before .before .before .before .before in let x = a .args in let G = a .pre .0 in let p = c .before .before .loop .inv .1 in let K = a .pre .1 .0 in let e = K .known (c .before .before .loop .i) (omega (arith, c .before .loop-test .taken, c .before .before .loop .inv .0)) in (G .laid .netted .ground .sane, subst (λ (z : DepartureRow). Event (now (x .t)) (x .p .counts .timetable) (z .trip) (z .offset)) (sym (c .departure-row .ensures)) (record { trip = e .trip; offset = e .offset }))
 
 same-length : tie.Need-same-length Inv-loop μ-loop
-same-length c = let a = c .before .before .before .before .before .before .before .before .before .before .before .before .before .before .before .before .before .before .before in let x = a .args in let G = a .pre .0 in let p = c .before .before .before .before .before .before .before .loop .inv .1 in p .kept .size
+same-length c = let a = c .before .before .before .before .before .before .before .before .before .before .before .before .before .before .before .before in let x = a .args in let G = a .pre .0 in let p = c .before .before .before .before .loop .inv .1 in p .kept .size
 
 same-length-2 : tie.Need-same-length-2 Inv-loop μ-loop
-same-length-2 c = let a = c .before .before .before .before .before .before .before .before .before .before .before .before .before .before .before .before .before .before .before in let x = a .args in let G = a .pre .0 in let p = c .before .before .before .before .before .before .before .loop .inv .1 in p .ready .sized .rows ∙ sym (G .ready .sized .rows)
+same-length-2 c = let a = c .before .before .before .before .before .before .before .before .before .before .before .before .before .before .before .before in let x = a .args in let G = a .pre .0 in let p = c .before .before .before .before .loop .inv .1 in p .ready .sized .rows ∙ sym (G .ready .sized .rows)
 
 same-length-3 : tie.Need-same-length-3 Inv-loop μ-loop
-same-length-3 c = let a = c .before .before .before .before .before .before .before .before .before .before .before .before .before .before .before .before .before .before .before in let x = a .args in let G = a .pre .0 in let p = c .before .before .before .before .before .before .before .loop .inv .1 in p .ready .sized .metres ∙ sym (G .ready .sized .metres)
+same-length-3 c = let a = c .before .before .before .before .before .before .before .before .before .before .before .before .before .before .before .before in let x = a .args in let G = a .pre .0 in let p = c .before .before .before .before .loop .inv .1 in p .ready .sized .metres ∙ sym (G .ready .sized .metres)
 
 same-length-4 : tie.Need-same-length-4 Inv-loop μ-loop
-same-length-4 c = let a = c .before .before .before .before .before .before .before .before .before .before .before .before .before .before .before .before .before .before .before in let x = a .args in let G = a .pre .0 in let p = c .before .before .before .before .before .before .before .loop .inv .1 in p .size
+same-length-4 c = let a = c .before .before .before .before .before .before .before .before .before .before .before .before .before .before .before .before in let x = a .args in let G = a .pre .0 in let p = c .before .before .before .before .loop .inv .1 in p .size
 
 returns : tie.Need-returns Inv-loop μ-loop
-returns c = let a = c .before .before .before .before .before .before .before .before .before .before .before .before .before .before .before .before .before .before .before in let x = a .args in let G = a .pre .0 in let p = c .before .before .before .before .before .before .before .loop .inv .1 in ride-end _ p (λ T Q y s v. from-late T Q (x .p .flagged) (x .has-freq) (x .p .stamp - 2) (x .p .stamp) (x .x) (x .after) (now (x .list)) (length (now (x .list)) / 2) (c .before .before .before .before .before .before .before .loop .i) s (omega (arith, c .before .before .before .before .before .before .loop-test .taken, c .before .before .before .before .before .before .before .loop .inv .0)) (late-seen v (x .has-freq) _ _ (c .before .too-late .result) true (c .before .too-late .ensures T Q (y .nets .agree .timetable) (y .nets .asks)) (c .if1 .taken)))
+returns c = let a = c .before .before .before .before .before .before .before .before .before .before .before .before .before .before .before .before in let x = a .args in let G = a .pre .0 in let p = c .before .before .before .before .loop .inv .1 in ride-end _ p (λ T Q y s v. from-late T Q (x .p .flagged) (x .has-freq) (x .p .stamp - 2) (x .p .stamp) (x .x) (x .after) (now (x .list)) (length (now (x .list)) / 2) (c .before .before .before .before .loop .i) s (omega (arith, c .before .before .before .loop-test .taken, c .before .before .before .before .loop .inv .0)) (c .before .before .departure-row .result) (c .before .before .departure-row .ensures) (late-seen v (x .has-freq) _ _ (c .before .too-late .result) true (c .before .too-late .ensures T Q (y .nets .agree .timetable) (y .nets .asks)) (c .if1 .taken)))
 
 take-departure-requires : tie.Need-take-departure-requires Inv-loop μ-loop
-take-departure-requires c κs = let a = c .before .before .before .before .before .before .before .before .before .before .before .before .before .before .before .before .before .before .before .before .before .before .before in let x = a .args in let G = a .pre .0 in let p = c .before .before .before .before .before .before .before .before .before .before .before .loop .inv .1 in let K = a .pre .1 .0 in let e = K .known (c .before .before .before .before .before .before .before .before .before .before .before .loop .i) (omega (arith, c .before .before .before .before .before .before .before .before .before .before .loop-test .taken, c .before .before .before .before .before .before .before .before .before .before .before .loop .inv .0)) in (going-on G p, (record { trip = e .trip; offset = e .offset }, a .pre .1 .1))
+take-departure-requires c κs = let a = c .before .before .before .before .before .before .before .before .before .before .before .before .before .before .before .before .before .before .before .before in let x = a .args in let G = a .pre .0 in let p = c .before .before .before .before .before .before .before .before .loop .inv .1 in let K = a .pre .1 .0 in let e = K .known (c .before .before .before .before .before .before .before .before .loop .i) (omega (arith, c .before .before .before .before .before .before .before .loop-test .taken, c .before .before .before .before .before .before .before .before .loop .inv .0)) in (going-on G p, (subst (λ (z : DepartureRow). Event (now (x .t)) (x .p .counts .timetable) (z .trip) (z .offset)) (sym (c .before .before .before .before .before .before .departure-row .ensures)) (record { trip = e .trip; offset = e .offset }), a .pre .1 .1))
 
 same-length-5 : tie.Need-same-length-5 Inv-loop μ-loop
-same-length-5 c = let a = c .before .before .before .before .before .before .before .before .before .before .before .before .before .before .before .before .before .before .before .before .before .before .before .before .before .before .before .before .before .before .before .before .before in let x = a .args in let G = a .pre .0 in let p = c .before .before .before .before .before .before .before .before .before .before .before .before .before .before .before .before .before .before .before .before .before .loop .inv .1 in let z = c .before .before .before .before .before .before .before .before .before .take-departure .ensures in z .step .kept .size ∙ p .kept .size
+same-length-5 c = let a = c .before .before .before .before .before .before .before .before .before .before .before .before .before .before .before .before .before .before .before .before .before .before .before .before .before .before .before .before .before .before in let x = a .args in let G = a .pre .0 in let p = c .before .before .before .before .before .before .before .before .before .before .before .before .before .before .before .before .before .before .loop .inv .1 in let z = c .before .before .before .before .before .before .before .before .before .take-departure .ensures in z .step .kept .size ∙ p .kept .size
 
 same-length-6 : tie.Need-same-length-6 Inv-loop μ-loop
-same-length-6 c = let a = c .before .before .before .before .before .before .before .before .before .before .before .before .before .before .before .before .before .before .before .before .before .before .before .before .before .before .before .before .before .before .before .before .before in let x = a .args in let G = a .pre .0 in let p = c .before .before .before .before .before .before .before .before .before .before .before .before .before .before .before .before .before .before .before .before .before .loop .inv .1 in let z = c .before .before .before .before .before .before .before .before .before .take-departure .ensures in z .step .ready .sized .rows ∙ sym (G .ready .sized .rows)
+same-length-6 c = let a = c .before .before .before .before .before .before .before .before .before .before .before .before .before .before .before .before .before .before .before .before .before .before .before .before .before .before .before .before .before .before in let x = a .args in let G = a .pre .0 in let p = c .before .before .before .before .before .before .before .before .before .before .before .before .before .before .before .before .before .before .loop .inv .1 in let z = c .before .before .before .before .before .before .before .before .before .take-departure .ensures in z .step .ready .sized .rows ∙ sym (G .ready .sized .rows)
 
 same-length-7 : tie.Need-same-length-7 Inv-loop μ-loop
-same-length-7 c = let a = c .before .before .before .before .before .before .before .before .before .before .before .before .before .before .before .before .before .before .before .before .before .before .before .before .before .before .before .before .before .before .before .before .before in let x = a .args in let G = a .pre .0 in let p = c .before .before .before .before .before .before .before .before .before .before .before .before .before .before .before .before .before .before .before .before .before .loop .inv .1 in let z = c .before .before .before .before .before .before .before .before .before .take-departure .ensures in z .step .ready .sized .metres ∙ sym (G .ready .sized .metres)
+same-length-7 c = let a = c .before .before .before .before .before .before .before .before .before .before .before .before .before .before .before .before .before .before .before .before .before .before .before .before .before .before .before .before .before .before in let x = a .args in let G = a .pre .0 in let p = c .before .before .before .before .before .before .before .before .before .before .before .before .before .before .before .before .before .before .loop .inv .1 in let z = c .before .before .before .before .before .before .before .before .before .take-departure .ensures in z .step .ready .sized .metres ∙ sym (G .ready .sized .metres)
 
 same-length-8 : tie.Need-same-length-8 Inv-loop μ-loop
-same-length-8 c = let a = c .before .before .before .before .before .before .before .before .before .before .before .before .before .before .before .before .before .before .before .before .before .before .before .before .before .before .before .before .before .before .before .before .before in let x = a .args in let G = a .pre .0 in let p = c .before .before .before .before .before .before .before .before .before .before .before .before .before .before .before .before .before .before .before .before .before .loop .inv .1 in let z = c .before .before .before .before .before .before .before .before .before .take-departure .ensures in z .step .size ∙ p .size
+same-length-8 c = let a = c .before .before .before .before .before .before .before .before .before .before .before .before .before .before .before .before .before .before .before .before .before .before .before .before .before .before .before .before .before .before in let x = a .args in let G = a .pre .0 in let p = c .before .before .before .before .before .before .before .before .before .before .before .before .before .before .before .before .before .before .loop .inv .1 in let z = c .before .before .before .before .before .before .before .before .before .take-departure .ensures in z .step .size ∙ p .size
 
 returns-2 : tie.Need-returns-2 Inv-loop μ-loop
-returns-2 c = let a = c .before .before .before .before .before .before .before .before .before .before .before .before .before .before .before .before .before .before .before .before .before .before .before .before .before .before .before .before .before .before .before .before .before in let x = a .args in let G = a .pre .0 in let p = c .before .before .before .before .before .before .before .before .before .before .before .before .before .before .before .before .before .before .before .before .before .loop .inv .1 in let z = c .before .before .before .before .before .before .before .before .before .take-departure .ensures in ride-over (λ T Q. scanFrom T Q (x .p .flagged) (x .has-freq) (x .p .stamp - 2) (x .p .stamp) (x .x) (x .after) (now (x .list)) (length (now (x .list)) / 2) (c .before .before .before .before .before .before .before .before .before .before .before .before .before .before .before .before .before .before .before .before .before .loop .i + 1)) p z (λ T Q y. rides-kept (G .laid) (p .kept) y) (λ T Q y s v. from-turn T Q (x .p .flagged) (x .has-freq) (x .p .stamp - 2) (x .p .stamp) (x .x) (x .after) (now (x .list)) (length (now (x .list)) / 2) (c .before .before .before .before .before .before .before .before .before .before .before .before .before .before .before .before .before .before .before .before .before .loop .i) s (omega (arith, c .before .before .before .before .before .before .before .before .before .before .before .before .before .before .before .before .before .before .before .before .loop-test .taken, c .before .before .before .before .before .before .before .before .before .before .before .before .before .before .before .before .before .before .before .before .before .loop .inv .0)) (late-seen v (x .has-freq) _ _ (c .before .before .before .before .before .before .before .before .before .before .before .before .before .before .before .too-late .result) false (c .before .before .before .before .before .before .before .before .before .before .before .before .before .before .before .too-late .ensures T Q (y .nets .agree .timetable) (y .nets .asks)) (c .before .before .before .before .before .before .before .before .before .before .before .before .before .before .if1 .left))) (c .if2 .taken) (λ T Q s. departures-later T Q (x .p .flagged) (x .has-freq) (x .p .stamp - 2) (x .p .stamp) (x .x) (x .after) _ s .queue)
+returns-2 c = let a = c .before .before .before .before .before .before .before .before .before .before .before .before .before .before .before .before .before .before .before .before .before .before .before .before .before .before .before .before .before .before in let x = a .args in let G = a .pre .0 in let p = c .before .before .before .before .before .before .before .before .before .before .before .before .before .before .before .before .before .before .loop .inv .1 in let z = c .before .before .before .before .before .before .before .before .before .take-departure .ensures in ride-over (λ T Q. scanFrom T Q (x .p .flagged) (x .has-freq) (x .p .stamp - 2) (x .p .stamp) (x .x) (x .after) (now (x .list)) (length (now (x .list)) / 2) (c .before .before .before .before .before .before .before .before .before .before .before .before .before .before .before .before .before .before .loop .i + 1)) p z (λ T Q y. rides-kept (G .laid) (p .kept) y) (λ T Q y s v. from-turn T Q (x .p .flagged) (x .has-freq) (x .p .stamp - 2) (x .p .stamp) (x .x) (x .after) (now (x .list)) (length (now (x .list)) / 2) (c .before .before .before .before .before .before .before .before .before .before .before .before .before .before .before .before .before .before .loop .i) s (omega (arith, c .before .before .before .before .before .before .before .before .before .before .before .before .before .before .before .before .before .loop-test .taken, c .before .before .before .before .before .before .before .before .before .before .before .before .before .before .before .before .before .before .loop .inv .0)) (c .before .before .before .before .before .before .before .before .before .before .before .before .before .before .before .before .departure-row .result) (c .before .before .before .before .before .before .before .before .before .before .before .before .before .before .before .before .departure-row .ensures) (late-seen v (x .has-freq) _ _ (c .before .before .before .before .before .before .before .before .before .before .before .before .before .before .before .too-late .result) false (c .before .before .before .before .before .before .before .before .before .before .before .before .before .before .before .too-late .ensures T Q (y .nets .agree .timetable) (y .nets .asks)) (c .before .before .before .before .before .before .before .before .before .before .before .before .before .before .if1 .left))) (c .if2 .taken) (λ T Q s. departures-later T Q (x .p .flagged) (x .has-freq) (x .p .stamp - 2) (x .p .stamp) (x .x) (x .after) _ s .queue)
 
 add-i : tie.Need-add-i Inv-loop μ-loop
-add-i c = let a = c .before .before .before .before .before .before .before .before .before .before .before .before .before .before .before .before .before .before .before .before .before .before .before .before .before .before .before .before .before .before .before .before .before in let K = a .pre .1 .0 in omega (arith, K .few, c .before .before .before .before .before .before .before .before .before .before .before .before .before .before .before .before .before .before .before .before .loop-test .taken, c .before .before .before .before .before .before .before .before .before .before .before .before .before .before .before .before .before .before .before .before .before .loop .inv .0)
+add-i c = let a = c .before .before .before .before .before .before .before .before .before .before .before .before .before .before .before .before .before .before .before .before .before .before .before .before .before .before .before .before .before .before in let K = a .pre .1 .0 in omega (arith, K .few, c .before .before .before .before .before .before .before .before .before .before .before .before .before .before .before .before .before .loop-test .taken, c .before .before .before .before .before .before .before .before .before .before .before .before .before .before .before .before .before .before .loop .inv .0)
 
 loop-less : tie.Need-loop-less Inv-loop μ-loop
 loop-less c = omega arith
 
 loop-again : tie.Need-loop-again Inv-loop μ-loop
-loop-again c = let a = c .before .before .before .before .before .before .before .before .before .before .before .before .before .before .before .before .before .before .before .before .before .before .before .before .before .before .before .before .before .before .before .before .before in let x = a .args in let G = a .pre .0 in let p = c .before .before .before .before .before .before .before .before .before .before .before .before .before .before .before .before .before .before .before .before .before .loop .inv .1 in let z = c .before .before .before .before .before .before .before .before .before .take-departure .ensures in (c .before .before .before .before .before .before .before .before .before .before .before .before .before .before .before .before .before .before .before .before .before .loop .inv .0, ride-turn _ p z (λ T Q y. rides-kept (G .laid) (p .kept) y) (λ T Q y s v. from-turn T Q (x .p .flagged) (x .has-freq) (x .p .stamp - 2) (x .p .stamp) (x .x) (x .after) (now (x .list)) (length (now (x .list)) / 2) (c .before .before .before .before .before .before .before .before .before .before .before .before .before .before .before .before .before .before .before .before .before .loop .i) s (omega (arith, c .before .before .before .before .before .before .before .before .before .before .before .before .before .before .before .before .before .before .before .before .loop-test .taken, c .before .before .before .before .before .before .before .before .before .before .before .before .before .before .before .before .before .before .before .before .before .loop .inv .0)) (late-seen v (x .has-freq) _ _ (c .before .before .before .before .before .before .before .before .before .before .before .before .before .before .before .too-late .result) false (c .before .before .before .before .before .before .before .before .before .before .before .before .before .before .before .too-late .ensures T Q (y .nets .agree .timetable) (y .nets .asks)) (c .before .before .before .before .before .before .before .before .before .before .before .before .before .before .if1 .left))) (c .if2 .left))
+loop-again c = let a = c .before .before .before .before .before .before .before .before .before .before .before .before .before .before .before .before .before .before .before .before .before .before .before .before .before .before .before .before .before .before in let x = a .args in let G = a .pre .0 in let p = c .before .before .before .before .before .before .before .before .before .before .before .before .before .before .before .before .before .before .loop .inv .1 in let z = c .before .before .before .before .before .before .before .before .before .take-departure .ensures in (c .before .before .before .before .before .before .before .before .before .before .before .before .before .before .before .before .before .before .loop .inv .0, ride-turn _ p z (λ T Q y. rides-kept (G .laid) (p .kept) y) (λ T Q y s v. from-turn T Q (x .p .flagged) (x .has-freq) (x .p .stamp - 2) (x .p .stamp) (x .x) (x .after) (now (x .list)) (length (now (x .list)) / 2) (c .before .before .before .before .before .before .before .before .before .before .before .before .before .before .before .before .before .before .loop .i) s (omega (arith, c .before .before .before .before .before .before .before .before .before .before .before .before .before .before .before .before .before .loop-test .taken, c .before .before .before .before .before .before .before .before .before .before .before .before .before .before .before .before .before .before .loop .inv .0)) (c .before .before .before .before .before .before .before .before .before .before .before .before .before .before .before .before .departure-row .result) (c .before .before .before .before .before .before .before .before .before .before .before .before .before .before .before .before .departure-row .ensures) (late-seen v (x .has-freq) _ _ (c .before .before .before .before .before .before .before .before .before .before .before .before .before .before .before .too-late .result) false (c .before .before .before .before .before .before .before .before .before .before .before .before .before .before .before .too-late .ensures T Q (y .nets .agree .timetable) (y .nets .asks)) (c .before .before .before .before .before .before .before .before .before .before .before .before .before .before .if1 .left))) (c .if2 .left))
 
 same-length-9 : tie.Need-same-length-9 Inv-loop μ-loop
 same-length-9 c = let a = c .before .before .before .before .before .before .before .before .before .before .before .before .before in let x = a .args in let G = a .pre .0 in let p = c .before .loop .inv .1 in p .kept .size
@@ -122,14 +103,7 @@ scan-departures-spec =
     Inv-loop
     μ-loop
     loop-holds
-    mul-at
-    mul-trip
-    shared-slice-read-trip
-    add-off
-    mul-off
-    shared-slice-read-off
-    cast-too-late
-    cast-too-late-2
+    departure-row-requires
     too-late-requires
     same-length
     same-length-2

@@ -1,6 +1,6 @@
 use denote.Ref.{now}
 use Rattle.rides.proofs.Stopping.{list-ordered, stop-late, stop-scanned}
-use mathlib.Core.Path.{refl}
+use mathlib.Core.Path.{_∙_, refl, sym}
 use native.Mathlib.Omega.{arith}
 use Prim.Native.Nat.{_-_}
 use borrow.Author.Needs.{needs}
@@ -41,16 +41,16 @@ scan-departures-requires : tie.Need-scan-departures-requires
 scan-departures-requires c κs = let a = c .before .before .before .before .before .before .before .before .before .before .before .before .before .before .before .before .before .before .before .before .before in let x = a .args in let G = a .pre .0 in (G, (c .before .before .before .before .departures-from .ensures .0, omega (arith, a .pre .1 .1 .0, a .pre .1 .1 .1)))
 
 same-length : tie.Need-same-length
-same-length c = search needs
+same-length c = c .before .before .before .before .before .before .before .before .scan-departures .ensures .step .kept .size
 
 same-length-2 : tie.Need-same-length-2
-same-length-2 c = search needs
+same-length-2 c = c .before .before .before .before .before .before .before .before .scan-departures .ensures .step .ready .sized .rows ∙ sym (c .before .before .before .before .before .before .before .before .before .before .before .before .before .before .before .before .before .before .before .before .before .before .before .before .before .before .before .before .before .before .pre .0 .ready .sized .rows)
 
 same-length-3 : tie.Need-same-length-3
-same-length-3 c = search needs
+same-length-3 c = c .before .before .before .before .before .before .before .before .scan-departures .ensures .step .ready .sized .metres ∙ sym (c .before .before .before .before .before .before .before .before .before .before .before .before .before .before .before .before .before .before .before .before .before .before .before .before .before .before .before .before .before .before .pre .0 .ready .sized .metres)
 
 same-length-4 : tie.Need-same-length-4
-same-length-4 c = search needs
+same-length-4 c = c .before .before .before .before .before .before .before .before .scan-departures .ensures .step .size
 
 returns-2 : tie.Need-returns-2
 returns-2 c = let a = c .before .before .before .before .before .before .before .before .before .before .before .before .before .before .before .before .before .before .before .before .before .before .before .before .before .before .before .before .before .before in let x = a .args in let G = a .pre .0 in stop-scanned G (x .p .flagged) (x .p .stamp - 2) (x .p .change) (x .x) (a .pre .1 .0) (a .pre .1 .1 .0) (c .before .before .before .before .before .before .before .before .before .before .before .before .before .before .before .before .if1 .left) _ refl (c .before .before .before .before .before .before .before .before .before .before .before .before .before .before .before .marked .result) (c .before .before .before .before .before .before .before .before .before .before .before .before .before .before .before .marked .ensures) _ (c .before .before .before .before .before .before .before .before .before .before .before .before .before .before .less .ensures) (now (c .before .before .before .before .before .before .before .before .before .before .before .before .before .departures-from .result)) (c .before .before .before .before .before .before .before .before .before .before .before .before .before .departures-from .ensures .1) (c .before .before .before .before .before .before .before .before .scan-departures .ensures)

@@ -63,16 +63,16 @@ take-transfers-requires : tie.Need-take-transfers-requires
 take-transfers-requires c κs = let a = c .before .before .before .before .before .before .before .before .before .before .before .before .before .before .before .before .before .before .before .before .before .before .before in let x = a .args in let n = a .pre .0 in let g = n .ground .sane in let k = g .runs .run (x .s .ride .trip) (a .pre .1 .0 .trip) in let o = a .pre .1 .0 .offset in (n, (subst (λ r. RunIn (now (x .area)) (r .first) (r .length)) (run-read (x .s .net) (now (x .built)) (now (x .work)) (x .s .ride .trip) (x .off) _ _ _ (c .before .before .before .before .before .before .before .field .ensures .0) (c .before .before .before .before .before .field2 .ensures .0) (c .before .before .before .before .field3 .ensures .0)) (n .run (x .s .ride .trip) (x .off) (a .pre .1 .0 .trip) o), (a .pre .1 .1 .0, (a .pre .1 .1 .1 .0, a .pre .1 .1 .1 .1))))
 
 same-length : tie.Need-same-length
-same-length c = search needs
+same-length c = c .before .before .before .before .before .before .before .before .take-transfers .ensures .same .size
 
 same-length-2 : tie.Need-same-length-2
-same-length-2 c = search needs
+same-length-2 c = c .before .before .before .before .before .before .before .before .take-transfers .ensures .ready .sized .rows ∙ sym (c .before .before .before .before .before .before .before .before .before .before .before .before .before .before .before .before .before .before .before .before .before .before .before .before .before .before .before .before .before .before .before .before .pre .1 .1 .0 .sized .rows)
 
 same-length-3 : tie.Need-same-length-3
-same-length-3 c = search needs
+same-length-3 c = c .before .before .before .before .before .before .before .before .take-transfers .ensures .ready .sized .metres ∙ sym (c .before .before .before .before .before .before .before .before .before .before .before .before .before .before .before .before .before .before .before .before .before .before .before .before .before .before .before .before .before .before .before .before .pre .1 .1 .0 .sized .metres)
 
 same-length-4 : tie.Need-same-length-4
-same-length-4 c = search needs
+same-length-4 c = c .before .before .before .before .before .before .before .before .take-transfers .ensures .size
 
 returns : tie.Need-returns
 returns c = let a = c .before .before .before .before .before .before .before .before .before .before .before .before .before .before .before .before .before .before .before .before .before .before .before .before .before .before .before .before .before .before .before .before in let x = a .args in let n = a .pre .0 in let g = n .ground .sane in let k = g .runs .run (x .s .ride .trip) (a .pre .1 .0 .trip) in let o = a .pre .1 .0 .offset in queue-as _ (c .before .before .before .before .before .before .before .before .take-transfers .ensures) (λ T Q y. y) (λ T Q y. ap₂ (λ (s : ℕ) (l : List Transfer). takeTransfers T Q (x .s .ride .stamp) (x .v) s l (arrivalsOf (x .s .lay) (memory (now (x .work)) (now (x .labels)) (now (x .distances)) (x .h)) (now (x .queue)))) (stop-read T (now (x .t)) (x .s .counts) (x .s .ride .trip) (x .off) _ _ (y .agree .timetable) (c .before .before .before .before .before .before .before .before .before .before .before .before .before .before .before .before .before .before .before .before .trip .ensures .0) (c .before .before .before .before .before .before .before .before .before .before .before .before .before .before .before .before .before .before .before .time .ensures .0)) (sym (y .transfers (x .s .ride .trip) (x .off) (a .pre .1 .0 .trip) o ∙ ap (transfersAt (now (x .area))) (run-read (x .s .net) (now (x .built)) (now (x .work)) (x .s .ride .trip) (x .off) _ _ _ (c .before .before .before .before .before .before .before .before .before .before .before .before .before .before .before .before .field .ensures .0) (c .before .before .before .before .before .before .before .before .before .before .before .before .before .before .field2 .ensures .0) (c .before .before .before .before .before .before .before .before .before .before .before .before .before .field3 .ensures .0)))))
