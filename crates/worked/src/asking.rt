@@ -6,8 +6,7 @@ use crate::words::at;
 use crate::words::part;
 use crate::words::refused;
 use crate::words::say;
-use crate::words::say_number;
-use crate::words::say_time;
+use crate::words::tell;
 use crate::words::wide;
 use replies::Reply;
 use sizes::QuerySizes;
@@ -20,9 +19,7 @@ fn egress(total: u32, stop: u32, reached: u32) {
     if total < reached {
         return;
     }
-    say_number(b"walk ", total - reached);
-    say_number(b" s from stop ", stop);
-    say(b"\n");
+    tell(b"walk # s from stop #\n", &[total - reached, stop]);
 }
 
 fn candidate(
@@ -37,10 +34,10 @@ fn candidate(
     let total = at(candidates, i);
     let stop = at(candidates, i + 1);
     let row = at(candidates, i + 2);
-    say_number(b"  candidate of row ", row);
-    say_number(b", at stop ", stop);
-    say_time(b", ", total);
-    say(b":\n    ");
+    tell(
+        b"  candidate of row #, at stop #, @:\n    ",
+        &[row, stop, total],
+    );
     legs(26, s, tables, labels, distances, stop, row);
     let l = label_at(s.stops, stop, row, labels, distances);
     egress(total, stop, arrival(l));
@@ -62,9 +59,7 @@ fn show(
         say(b"  no way\n");
         return;
     }
-    say_time(b"  best ", reply.total);
-    say_number(b" at stop ", reply.stop);
-    say(b"\n");
+    tell(b"  best @ at stop #\n", &[reply.total, reply.stop]);
     let mut k: u32 = 0;
     while k < reply.candidates {
         candidate(k, s, tables, candidates, labels, distances);

@@ -5,7 +5,7 @@ use crate::words::part;
 use crate::words::put;
 use crate::words::refused;
 use crate::words::say;
-use crate::words::say_number;
+use crate::words::tell;
 use crate::words::wide;
 use door::Answer;
 use sizes::QuerySizes;
@@ -96,6 +96,28 @@ fn group(s: QuerySizes, tables: &[u32], built: &mut [u32]) -> Made {
 }
 
 // The stops' runs, the sorted departures and the marks stand next.
+fn put_departures(
+    code: u32,
+    m: Made,
+    stop_runs: &[u32],
+    rows: &[u32],
+    marks: &[u32],
+    built: &mut [u32],
+) -> Made {
+    let s = m.sizes;
+    if code != 0 {
+        return refusal(code, s);
+    }
+    let a = put(stop_runs, m.length, built);
+    let b = put(rows, a, built);
+    let c = put(marks, b, built);
+    Made {
+        code: 0,
+        sizes: s,
+        length: c,
+    }
+}
+
 fn sort_in(
     m: Made,
     tables: &[u32],
@@ -122,17 +144,7 @@ fn sort_in(
         &mut work[..n],
         &mut other[..n],
     );
-    if code != 0 {
-        return refusal(code, s);
-    }
-    let a = put(stop_runs, m.length, built);
-    let b = put(rows, a, built);
-    let c = put(marks, b, built);
-    Made {
-        code: 0,
-        sizes: s,
-        length: c,
-    }
+    put_departures(code, m, stop_runs, rows, marks, built)
 }
 
 fn sort(m: Made, tables: &[u32], stop_runs: &[u32], rows: &mut [u32], built: &mut [u32]) -> Made {
@@ -232,15 +244,14 @@ pub fn build(
 fn line_trips(first: u32, count: u32, entries: &[u32]) {
     let mut k: u32 = 0;
     while k < count {
-        say_number(b" ", at(entries, wide(first) + wide(k)));
+        tell(b" #", &[at(entries, wide(first) + wide(k))]);
         k += 1;
     }
 }
 
 fn line(l: u32, runs: &[u32], entries: &[u32], fifo: &[u32]) {
     let i = wide(l);
-    say_number(b"  line ", l);
-    say(b": trips");
+    tell(b"  line #: trips", &[l]);
     line_trips(at(runs, i * 2), at(runs, i * 2 + 1), entries);
     if at(fifo, i) == 1 {
         say(b", FIFO\n");
@@ -318,9 +329,11 @@ fn transfer_runs_at(s: QuerySizes) -> usize
 fn transfer(area: &[u32], row: usize)
     requires { ⌜ row < 8589934592 ⌝ }
 {
-    say_number(b"    to trip ", at(area, row * 4));
-    say_number(b" at its offset ", at(area, row * 4 + 1));
-    say(b"\n");
+    let i = row * 4;
+    tell(
+        b"    to trip # at its offset #\n",
+        &[at(area, i), at(area, i + 1)],
+    );
 }
 
 // The transfers of a stop event.

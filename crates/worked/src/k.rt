@@ -7,8 +7,7 @@ use crate::building::show_transfers;
 use crate::words::part;
 use crate::words::refused;
 use crate::words::say;
-use crate::words::say_number;
-use crate::words::say_time;
+use crate::words::tell;
 use sizes::QuerySizes;
 
 // Three stops, three trips, five listed departures, an origin and an egress stop.
@@ -58,9 +57,7 @@ fn build_k(tables: &[u32], area: &mut [u32], built: &mut [u32]) -> Made {
 fn asked(start: u32, change: u32, s: QuerySizes, tables: &[u32], built: &[u32], area: &[u32]) {
     let distances = [12.5f64];
     let query = [start, change, 0, 0, 0, 0, 0, 0, 10, 2, 5];
-    say_time(b"Start ", start);
-    say_number(b", change time ", change);
-    say(b" s\n");
+    tell(b"Start @, change time # s\n", &[start, change]);
     ask(s, tables, built, area, &distances, &query);
 }
 

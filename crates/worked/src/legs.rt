@@ -1,9 +1,7 @@
 // The legs of an answer: the labels followed back from a stop and a row to an access label.
 ghost use Prim.Native.Nat.{_<_};
 use crate::words::at;
-use crate::words::say;
-use crate::words::say_number;
-use crate::words::say_time;
+use crate::words::tell;
 use crate::words::wide;
 use label::LabelRow;
 use sizes::QuerySizes;
@@ -37,26 +35,19 @@ fn departure(s: QuerySizes, tables: &[u32], trip: u32, offset: u32) -> u32 {
 }
 
 fn access(l: LabelRow) {
-    say_number(b"walk ", l.word3);
-    say_number(b" s to stop ", l.word1);
-    say(b"; ");
+    tell(b"walk # s to stop #; ", &[l.word3, l.word1]);
 }
 
 fn ride(s: QuerySizes, tables: &[u32], l: LabelRow, stop: u32) {
     let scheduled = departure(s, tables, l.word2, l.word4);
-    say_number(b"trip ", l.word2);
-    say_number(b" from stop ", l.word3);
-    say_time(b" at ", std::num::wrapping_add_u32(scheduled, l.word7));
-    say_number(b" to stop ", stop);
-    say_time(b", arriving ", l.word1);
-    say(b"; ");
+    let leaving = std::num::wrapping_add_u32(scheduled, l.word7);
+    let n = [l.word2, l.word3, leaving, stop, l.word1];
+    tell(b"trip # from stop # at @ to stop #, arriving @; ", &n);
 }
 
 fn walk(l: LabelRow) {
-    say_number(b"walk ", l.word4);
-    say_number(b" s from stop ", l.word2);
-    say_number(b" to stop ", l.word3);
-    say(b"; ");
+    let n = [l.word4, l.word2, l.word3];
+    tell(b"walk # s from stop # to stop #; ", &n);
 }
 
 // One leg: a ride or a walk.

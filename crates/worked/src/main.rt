@@ -9,38 +9,36 @@ mod legs;
 mod town;
 mod words;
 
-use crate::words::number;
 use crate::words::say;
-use crate::words::say_number;
+use crate::words::tell;
 
 // A value, or the question that refused it.
 fn answer(a: door::Answer) {
     if a.code != 0 {
-        say_number(b"refused by question ", a.code);
-    } else {
-        number(a.value);
+        tell(b"refused by question #\n", &[a.code]);
+        return;
     }
-    say(b"\n");
+    tell(b"#\n", &[a.value]);
 }
 
 fn rounds(wanted: u32, transfers: u32) {
-    say_number(b"  wanted ", wanted);
-    say_number(b", transfers ", transfers);
-    say_number(b": ", exports::savoiky_max_rounds(wanted, transfers));
-    say(b" rounds\n");
+    let n = [
+        wanted,
+        transfers,
+        exports::savoiky_max_rounds(wanted, transfers),
+    ];
+    tell(b"  wanted #, transfers #: # rounds\n", &n);
 }
 
 fn boarding(wanted: u32) {
     let windows = [600u32, 1200, 300];
     let a = exports::savoiky_freq_board(1, &windows, 600, 660, wanted);
-    say_number(b"  wanted ", wanted);
+    let n = [wanted, a.departure, a.time_shift_s];
     if a.found == 0 {
-        say(b": none\n");
+        tell(b"  wanted #: none\n", &n);
         return;
     }
-    say_number(b": departs ", a.departure);
-    say_number(b", shift ", a.time_shift_s);
-    say(b"\n");
+    tell(b"  wanted #: departs #, shift #\n", &n);
 }
 
 fn walk(name: &[u8], duration: u32, mode: u32, wheelchair: u32) {
@@ -51,12 +49,11 @@ fn walk(name: &[u8], duration: u32, mode: u32, wheelchair: u32) {
 fn cell(number_of: u32) {
     let made = exports::savoiky_cell_bitset_new(65);
     let set = exports::savoiky_cell_bitset_set_bit(made.set, number_of);
-    say_number(b"  cell ", number_of);
     if exports::savoiky_cell_bitset_get_bit(set, number_of) {
-        say(b" is kept\n");
-    } else {
-        say(b" is dropped\n");
+        tell(b"  cell # is kept\n", &[number_of]);
+        return;
     }
+    tell(b"  cell # is dropped\n", &[number_of]);
 }
 
 fn clock(name: &[u8], hour: u32, minute: u32, second: u32) {

@@ -1,17 +1,18 @@
 // Text, numbers and times on standard output; words of a slice; how long a part of a slice may be.
-ghost use Prim.Native.Nat.{_≤_, _<_};
+ghost use Prim.Native.Nat.{_+_, _≤_, _<_};
+ghost use lib.ListN.{length};
 use libc::STDOUT_FILENO;
 
 pub fn say(text: &[u8]) {
     io::write_all(STDOUT_FILENO, text);
 }
 
-pub fn number(n: u32) {
+fn number(n: u32) {
     io::print_decimal(STDOUT_FILENO, n as u64);
 }
 
 // A text and a number after it.
-pub fn say_number(text: &[u8], n: u32) {
+fn say_number(text: &[u8], n: u32) {
     say(text);
     number(n);
 }
@@ -24,18 +25,46 @@ fn two_digits(n: u32) {
     say_number(b":", n);
 }
 
-// A text and after it a service second with its clock reading.
-pub fn say_time(text: &[u8], n: u32) {
-    say_number(text, n);
+// A service second with its clock reading.
+fn time(n: u32) {
+    number(n);
     say_number(b" s (", n / 3600);
     two_digits(n / 60 % 60);
     two_digits(n % 60);
     say(b")");
 }
 
+// Byte i of a text, or word k for it: '#' is a number, '@' a time. Which word is next.
+fn tell_byte(text: &[u8], i: usize, n: &[u32], k: usize) -> usize
+    requires { ⌜ (i < length (now text)) × (k ≤ i) ⌝ }
+    ensures { λ r. ⌜ r ≤ i + 1 ⌝ }
+{
+    let b = text[i];
+    if b == 35 {
+        number(at(n, k));
+        return k + 1;
+    }
+    if b == 64 {
+        time(at(n, k));
+        return k + 1;
+    }
+    let e = i + 1;
+    say(&text[i..e]);
+    k
+}
+
+// A text with a word of n for each '#' and '@' in it, in turn.
+pub fn tell(text: &[u8], n: &[u32]) {
+    let mut k: usize = 0;
+    let mut i: usize = 0;
+    while i < text.len() {
+        k = tell_byte(text, i, n, k);
+        i += 1;
+    }
+}
+
 pub fn refused(code: u32) {
-    say_number(b"  refused by question ", code);
-    say(b"\n");
+    tell(b"  refused by question #\n", &[code]);
 }
 
 // A number as a length.

@@ -1,3 +1,4 @@
+use Rattle.query_door.proofs.Small.{never}
 use Prim.Native.Nat.{_-_, _≤_, ℕ}
 use mathlib.Core.Path.{_≡_, ap, refl, subst}
 use denote.Ref.{now}
@@ -21,7 +22,7 @@ stop-run-requires : tie.Need-stop-run-requires Inv-loop μ-loop
 stop-run-requires c κs = omega (arith, c .before .before .before .before .before .pre .1 .1 .0 .size)
 
 returns : tie.Need-returns Inv-loop μ-loop
-returns c = λ h. let z : _≡_ {A = ℕ} 0 1 = cc in absurd (omega arith)
+returns c = λ h. never h
 
 add-end : tie.Need-add-end Inv-loop μ-loop
 add-end c = omega (arith, c .before .before .stop-run .ensures .1 .1, c .before .before .before .before .loop .inv .1, c .before .before .before .before .before .before .before .before .pre .1 .1 .0 .few)
@@ -30,7 +31,7 @@ run-right-requires : tie.Need-run-right-requires Inv-loop μ-loop
 run-right-requires c κs = (c .before .before .before .before .before .before .before .before .pre .1 .1 .0 .counts, (c .before .before .before .before .before .before .before .before .pre .0, (c .before .before .before .before .before .before .before .before .pre .1 .0, omega (arith, c .before .if1 .left, c .before .before .before .before .before .before .before .before .pre .1 .1 .0 .run (c .before .before .before .before .loop .s) (omega arith), ap (λ (x : StopRun). x .first) (c .before .before .stop-run .ensures .0), ap (λ (x : StopRun). x .length) (c .before .before .stop-run .ensures .0), c .before .before .before .before .before .before .before .before .pre .1 .1 .1))))
 
 returns-2 : tie.Need-returns-2 Inv-loop μ-loop
-returns-2 c = λ h. let z : _≡_ {A = ℕ} 0 1 = cc in absurd (omega arith)
+returns-2 c = λ h. never h
 
 add-s : tie.Need-add-s Inv-loop μ-loop
 add-s c = omega arith

@@ -1,3 +1,4 @@
+use Rattle.query_door.proofs.Small.{never}
 use Prim.Native.Nat.{ℕ}
 use mathlib.Core.Path.{_∙_, _≡_, ap, subst, sym}
 use mathlib.Core.List.{List}
@@ -17,13 +18,13 @@ query-ok-requires : tie.Need-query-ok-requires
 query-ok-requires c κs = search needs
 
 returns : tie.Need-returns
-returns c = λ h. let z : _≡_ {A = ℕ} 0 1 = cc in absurd (omega arith)
+returns c = λ h. never h
 
 tables-ok-requires : tie.Need-tables-ok-requires
 tables-ok-requires c κs = search needs
 
 returns-2 : tie.Need-returns-2
-returns-2 c = λ h. let z : _≡_ {A = ℕ} 0 1 = cc in absurd (omega arith)
+returns-2 c = λ h. never h
 
 stop-runs-requires : tie.Need-stop-runs-requires
 stop-runs-requires c κs = search needs

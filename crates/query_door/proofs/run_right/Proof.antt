@@ -1,3 +1,4 @@
+use Rattle.query_door.proofs.Small.{never}
 use Rattle.tables.specs.Timetable.{timetable}
 use Rattle.asking.proofs.Once.{run-more, run-none, run-upto}
 use Rattle.departures.specs.declared.DepartureRow.{DepartureRow}
@@ -27,7 +28,7 @@ leaving-requires : tie.Need-leaving-requires Inv-loop μ-loop
 leaving-requires c κs = search needs
 
 returns : tie.Need-returns Inv-loop μ-loop
-returns c = λ h. let z : _≡_ {A = ℕ} 0 1 = cc in absurd (omega arith)
+returns c = λ h. never h
 
 add-k : tie.Need-add-k Inv-loop μ-loop
 add-k c = omega arith

@@ -1,4 +1,5 @@
-use Rattle.asking.specs.Door.{settingRanges}
+use denote.Ref.{now}
+use Rattle.query_door.proofs.Small.{ranges}
 use borrow.Author.Needs.{needs}
 use Rattle.query_door.proofs.setting_ranges.Statement.{statement}
 use Rattle.query_door.proofs.setting_ranges.Tie as tie
@@ -35,8 +36,7 @@ both-requires-4 : tie.Need-both-requires-4
 both-requires-4 c κs = search needs
 
 returns : tie.Need-returns
-unfolding settingRanges
-returns c = cc
+returns c = ranges (now (c .before .before .before .before .before .before .before .before .before .before .args .q)) (c .before .before .before .before .before .before .before .before .field .ensures .0) (c .before .before .before .before .before .before .before .field2 .ensures .0) (c .before .before .field5 .ensures .0) (c .before .before .before .before .before .field3 .ensures .0) (c .before .before .before .before .field4 .ensures .0) (c .before .before .before .before .before .before .both .ensures) (c .before .before .before .both2 .ensures) (c .before .both3 .ensures) (c .both4 .ensures)
 
 pub setting-ranges-spec : {M : Type 1} → statement M
 setting-ranges-spec =

@@ -1,5 +1,5 @@
-use borrow.Author.Needs.{needs}
 use Prim.Native.Nat.{_-_, _≤_}
+use borrow.Author.Needs.{needs}
 use Rattle.worked.proofs.asking.show.Statement.{statement}
 use Rattle.worked.proofs.asking.show.Tie as tie
 
@@ -24,23 +24,14 @@ say-requires c κs = search needs
 returns-2 : tie.Need-returns-2 Inv-loop μ-loop
 returns-2 c = search needs
 
-slice-aggregate-say-time : tie.Need-slice-aggregate-say-time Inv-loop μ-loop
-slice-aggregate-say-time c = search needs
+slice-aggregate-tell : tie.Need-slice-aggregate-tell Inv-loop μ-loop
+slice-aggregate-tell c = search needs
 
-say-time-requires : tie.Need-say-time-requires Inv-loop μ-loop
-say-time-requires c κs = search needs
+slice-aggregate-tell-2 : tie.Need-slice-aggregate-tell-2 Inv-loop μ-loop
+slice-aggregate-tell-2 c = search needs
 
-slice-aggregate-say-number : tie.Need-slice-aggregate-say-number Inv-loop μ-loop
-slice-aggregate-say-number c = search needs
-
-say-number-requires : tie.Need-say-number-requires Inv-loop μ-loop
-say-number-requires c κs = search needs
-
-slice-aggregate-say-2 : tie.Need-slice-aggregate-say-2 Inv-loop μ-loop
-slice-aggregate-say-2 c = search needs
-
-say-requires-2 : tie.Need-say-requires-2 Inv-loop μ-loop
-say-requires-2 c κs = search needs
+tell-requires : tie.Need-tell-requires Inv-loop μ-loop
+tell-requires c κs = search needs
 
 loop-holds : tie.Need-loop-holds Inv-loop μ-loop
 loop-holds c = search needs
@@ -71,12 +62,9 @@ show-spec =
     slice-aggregate-say
     say-requires
     returns-2
-    slice-aggregate-say-time
-    say-time-requires
-    slice-aggregate-say-number
-    say-number-requires
-    slice-aggregate-say-2
-    say-requires-2
+    slice-aggregate-tell
+    slice-aggregate-tell-2
+    tell-requires
     loop-holds
     candidate-requires
     add-k
