@@ -285,7 +285,7 @@ pub fn capped_margin(
     stop_row_count: u32,
     rows: &[u32],
     stop_rows: &[u32],
-) -> Answer
+) -> door::Answer
     ensures { λ r. ⌜ r ≡ marginOutcome trips «delay_rows» «stop_row_count» (now (rows .entry)) (now («stop_rows» .entry)) 21600 ⌝ }
 {
     margin(
