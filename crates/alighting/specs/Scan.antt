@@ -65,7 +65,7 @@ pub record RunIn (area : List ℕ) (first n : ℕ) : Type 0 where
   pub small : (k : ℕ) → k < n → getD area ((first + k) * 4 + 2) 0 ≤ timeLimit
 
 -- what is read of the working numbers stands past the arrivals
-pub record Placed (lay : Lay) (net : Net) : Type 0 where
+pub record PastArrivals (lay : Lay) (net : Net) : Type 0 where
   pub positions : restAt lay ≤ net .lined .positions
   pub fifo : restAt lay ≤ net .lined .fifo
   pub events : restAt lay ≤ net .events
@@ -80,7 +80,7 @@ pub record Netted (t : List ℕ) (c : Counts) (rows stopRows built bytes area : 
   pub events : net .events + c .trips ≤ length w
   pub words : (i o : ℕ) → i < c .trips → o < countOf t c i → net .runs + eventAt net w i o * 2 + 2 ≤ length built
   pub run : (i o : ℕ) → i < c .trips → o < countOf t c i → RunIn area (runAt net built w i o .first) (runAt net built w i o .length)
-  pub past : Placed lay net
+  pub past : PastArrivals lay net
   pub T : Tables
   pub Q : Query
   pub door : Door T Q
@@ -92,13 +92,13 @@ pub record Open (h : Head) (n : ℕ) : Type 0 where
   pub room : h .queued ≤ n / 4
 
 -- a trip of the table that is boarded at offset o, at a time below 2^27
-pub record Boards (t : List ℕ) (c : Counts) (trip off departure : ℕ) : Type 0 where
+pub record BoardedAt (t : List ℕ) (c : Counts) (trip off departure : ℕ) : Type 0 where
   pub trip-in : trip < c .trips
   pub offset-in : off < countOf t c trip
   pub early : departure < 134217728
 
 -- a timetable whose counts are those of the working numbers
-pub record Laid (t : List ℕ) (c : Counts) (lay : Lay) : Type 0 where
+pub record CountsAgree (t : List ℕ) (c : Counts) (lay : Lay) : Type 0 where
   pub sane : Sane t c
   pub stops : c .stops ≡ lay .stops
   pub trips : c .trips ≡ lay .trips

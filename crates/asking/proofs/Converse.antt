@@ -15,16 +15,16 @@ use Rattle.tables.specs.Timetable.{Timetable, timetable}
 use Rattle.departures.specs.declared.DepartureRow.{DepartureRow}
 use Rattle.departures.specs.Departures.{rowAt, rowDeparture, runLength, departuresOf}
 use Rattle.model.specs.Tables.{Tables, departure}
-use Rattle.model.specs.Door.{InOrder, Rising}
+use Rattle.model.specs.Door.{InOrder, EgressRising}
 use Rattle.asking.specs.Lent.{egressAt, stopRuns, departureRows, Lent, tablesOf, queryOf}
 use Rattle.asking.specs.Door.{columnAt, notEarlier, partOrder, departureOrder, columnRises, egressOrder}
 
 -- from each to the next
-rise-next : (a b : ℕ → ℕ) (i n : ℕ) → Rising (tabFrom (λ k. (a k, b k)) i n) → (k : ℕ) → i ≤ k → suc k < i + n → a k < a (suc k)
+rise-next : (a b : ℕ → ℕ) (i n : ℕ) → EgressRising (tabFrom (λ k. (a k, b k)) i n) → (k : ℕ) → i ≤ k → suc k < i + n → a k < a (suc k)
 unfolding tabFrom
 rise-next a b i zero r k u v = absurd (omega arith)
 rise-next a b i (suc zero) r k u v = absurd (omega arith)
-rise-next a b i (suc (suc n)) (Rising.more h r) k u v =
+rise-next a b i (suc (suc n)) (EgressRising.more h r) k u v =
     ⊎-elim (λ (q : i ≡ k). omega (arith, ap a q, ap (λ (j : ℕ). a (suc j)) q, h (a (suc i)) (b (suc i)) (List·Memᴰ·head refl)))
     (λ (q : i < k). rise-next a b (suc i) (suc n) r k q (omega arith)) (eq-or-lt-of-le u)
 
@@ -41,7 +41,7 @@ order-next T f i (suc (suc n)) (InOrder.more h r) k u v =
     leaves j = departure T (f j .trip) (f j .offset)
 
 module _ (x : Lent) where
-  pub egress-asked : Rising (queryOf x .egress) → egressOrder (x .q) (x .n) ≡ true
+  pub egress-asked : EgressRising (queryOf x .egress) → egressOrder (x .q) (x .n) ≡ true
   unfolding columnRises
   egress-asked r = every-all (λ i. ltb (stop (i - 1)) (stop i)) 1 (x .n .egress - 1) rises
     where

@@ -18,7 +18,7 @@ use Rattle.departures.proofs.Parts.{part-row, stop-known}
 use Rattle.line_layout.specs.Layout.{runAt}
 use Rattle.line_transfers.specs.Transfers.{Transfer, eventsBefore, transferAt, transfersAt}
 use Rattle.model.specs.Tables.{Tables, Origin, Query, departure}
-use Rattle.model.specs.Door.{InOrder, Rising, Door}
+use Rattle.model.specs.Door.{InOrder, EgressRising, Door}
 use Rattle.asking.specs.declared.Lengths.{Lengths}
 use Rattle.asking.specs.Lent.{egressAt, eventsOf, stopRuns, departureRows, lineRuns, transferRunAt, transferRows, originAt, egressStop, Lent, tablesOf, queryOf}
 use Rattle.asking.specs.Door.{verdict}
@@ -55,11 +55,11 @@ none-fall a n h i (suc j) u v =
     let z : a j ≤ a (suc j) = rw e at (h j (omega arith)) in
     ⊎-elim (λ (q : i ≡ j). omega (arith, z, ap a q)) (λ (q : i < j). omega (arith, z, none-fall a n h i j q (omega arith))) (eq-or-lt-of-le (omega arith))
 
-rising-from : (a b : ℕ → ℕ) (i n : ℕ) → ((x y : ℕ) → i ≤ x → x < y → y < i + n → a x < a y) → Rising (tabFrom (λ k. (a k, b k)) i n)
+rising-from : (a b : ℕ → ℕ) (i n : ℕ) → ((x y : ℕ) → i ≤ x → x < y → y < i + n → a x < a y) → EgressRising (tabFrom (λ k. (a k, b k)) i n)
 unfolding tabFrom
-rising-from a b i zero h = Rising.none
+rising-from a b i zero h = EgressRising.none
 rising-from a b i (suc n) h =
-    Rising.more {s = a i} {d = b i} {es = tabFrom (λ k. (a k, b k)) (suc i) n}
+    EgressRising.more {s = a i} {d = b i} {es = tabFrom (λ k. (a k, b k)) (suc i) n}
     (λ u e m. let s = stands (λ k. (a k, b k)) (suc i) n (u, e) m in omega (arith, ap (λ (p : ℕ × ℕ). p .0) (s .is), h i (s .at) (omega arith) (s .low) (omega (arith, s .high))))
     (rising-from a b (suc i) n (λ x y p q r. h x y (omega arith) q (omega arith)))
 
@@ -122,7 +122,7 @@ module _ (x : Lent) (l : Lengths) (A : Admitted x l) where
       let f = rowAt (departuresOf runs (departureRows (x .built) (x .n)) s) in
       order-from (tablesOf x) f 0 (runLength runs s) (λ i j p q r. none-fall (λ k. rowDeparture (timetable (x .t) (x .n .timetable)) (f k)) (runLength runs s) (λ k v. A .ordered .departures s k u v) i j q (omega arith))
 
-  rising-egress : Rising (queryOf x .egress)
+  rising-egress : EgressRising (queryOf x .egress)
   rising-egress =
       rising-from (λ k. getD (x .q) (egressAt (x .n) + k * 2) 0) (λ k. getD (x .q) (egressAt (x .n) + 1 + k * 2) 0) 0 (x .n .egress)
       (λ i j p q r. any-rise (λ k. getD (x .q) (egressAt (x .n) + k * 2) 0) (x .n .egress) (λ k v. A .ordered .egress k v) i j q (omega arith))

@@ -11,7 +11,7 @@ use Rattle.departures.proofs.Parts.{getD-slice}
 use Rattle.flags.specs.Flags.{egressRows, egressAt as rowAt}
 use Rattle.asking.specs.declared.QueryCounts.{QueryCounts}
 use Rattle.asking.specs.Lent.{part, marksAt, transferRunsAt, querySize, entriesAt, lineRunsAt, stopRunsAt, rowsAt, delaysAt, stopRowsAt, egressAt, lineRuns, lineEntries, stopRuns, departureRows, delayRows, stopRows, egressPart, egressStop}
-use Rattle.asking.specs.Sane.{Sized}
+use Rattle.asking.specs.Sane.{ReadSized}
 
 pub part-size : (l : List ℕ) (first count : ℕ) → first + count ≤ length l → length (part l first count) ≡ count
 part-size l first count h = length-slice first (first + count) l h ∙ omega arith
@@ -56,7 +56,7 @@ module _ (q : List ℕ) (n : QueryCounts) (h : querySize n ≤ length q) where
       next k u = let e : egressAt n + (k * 2 + 1) ≡ egressAt n + 1 + k * 2 = omega arith in part-at q (egressAt n) (n .egress * 2) (k * 2 + 1) (omega arith) ∙ ap (λ (i : ℕ). getD q i 0) e
 
 -- a slice as long as its counts say has all its sections
-module _ {t : List ℕ} {n : QueryCounts} {b q : ℕ} (h : Sized t n b q) where
+module _ {t : List ℕ} {n : QueryCounts} {b q : ℕ} (h : ReadSized t n b q) where
   pub marks-room : marksAt n ≤ b
   marks-room = omega (arith, h .builtIs)
 

@@ -30,7 +30,7 @@ use Rattle.asking.specs.declared.QueryCounts.{QueryCounts}
 use Rattle.asking.specs.declared.Lengths.{Lengths}
 use Rattle.asking.specs.Lent.{marksAt, eventsOf, builtSize, originsAt, egressAt, querySize, lineRuns, lineEntries, stopRuns, departureRows, delaysOf, transferRunAt, transferRows, Lent, stopRows}
 use Rattle.asking.specs.Door.{question1, readOk, writtenOk, workSize, question2, transferRunsOk, question3, columnAt, columnBelow, lineNumbers, queryNumbers, question4, markRanges, transferRanges, settingRanges, walkRanges, question5, notEarlier, partOrder, departureOrder, columnRises, egressOrder, question6, verdict}
-use Rattle.asking.specs.Sane.{Limits, Sized, Lengthy, Placed, Numbered, Ranged, Ordered, Admitted}
+use Rattle.asking.specs.Sane.{Limits, ReadSized, Lengthy, Placed, Numbered, Ranged, Ordered, Admitted}
 use Rattle.asking.proofs.Parts.{line-runs-size, entries-size, stop-runs-size, rows-size, delay-rows-size, stop-rows-size, marks-room, query-room}
 
 -- a column whose numbers are below the bound
@@ -85,7 +85,7 @@ module _ (t : List ℕ) (n : QueryCounts) (built patterns distances q : ℕ) (l 
   areas : Two (readOk t n built patterns distances q) (writtenOk n l)
   areas = two (readOk t n built patterns distances q) (writtenOk n l) (slices .two)
 
-  pub sized-yes : Sized t n built q
+  pub sized-yes : ReadSized t n built q
   unfolding readOk
   sized-yes =
       let a = two (eqb built (builtSize t n) && eqb patterns (n .patterns * 64)) (eqb distances (n .timetable .edges + n .origins) && eqb q (querySize n)) (areas .one) in
@@ -115,7 +115,7 @@ module _ (t : List ℕ) (n : QueryCounts) (built patterns distances q : ℕ) (l 
       }
 
 -- 3
-module _ (t built : List ℕ) (n : QueryCounts) (q rows : ℕ) (m : Limits n) (s : Sized t n (length built) q) (h : question3 t built n rows ≡ true) where
+module _ (t built : List ℕ) (n : QueryCounts) (q rows : ℕ) (m : Limits n) (s : ReadSized t n (length built) q) (h : question3 t built n rows ≡ true) where
   record Runs : Type 0 where
     trips : runsOk t (n .timetable) ≡ true
     lines : lineRunsOk (lineRuns built n) (n .lines) (n .entries) ≡ true
@@ -147,7 +147,7 @@ module _ (t built : List ℕ) (n : QueryCounts) (q rows : ℕ) (m : Limits n) (s
       }
 
 -- 4
-module _ (t built q : List ℕ) (n : QueryCounts) (rows : ℕ) (s : Sized t n (length built) (length q)) (p : Placed t built n rows) (h : question4 t built q n ≡ true) where
+module _ (t built q : List ℕ) (n : QueryCounts) (rows : ℕ) (s : ReadSized t n (length built) (length q)) (p : Placed t built n rows) (h : question4 t built q n ≡ true) where
   record Numbers : Type 0 where
     tables : numbersOk t (n .timetable) ≡ true
     line : columnBelow built 0 1 (n .timetable .trips) (n .lines) ≡ true

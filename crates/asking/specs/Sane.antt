@@ -34,7 +34,7 @@ pub record Limits (n : QueryCounts) : Type 0 where
   pub egress : n .egress ≤ 64
 
 -- 2, of what is read
-pub record Sized (t : List ℕ) (n : QueryCounts) (built q : ℕ) : Type 0 where
+pub record ReadSized (t : List ℕ) (n : QueryCounts) (built q : ℕ) : Type 0 where
   pub slices : SlicesOk t (n .timetable)
   pub builtIs : built ≡ builtSize t n
   pub queryIs : q ≡ querySize n
@@ -87,7 +87,7 @@ pub record Ordered (t built q : List ℕ) (n : QueryCounts) : Type 0 where
 -- ALL OF THEM: what is lent is as the query's inner functions need it
 pub record Admitted (x : Lent) (l : Lengths) : Type 0 where
   pub limits : Limits (x .n)
-  pub sized : Sized (x .t) (x .n) (length (x .built)) (length (x .q))
+  pub sized : ReadSized (x .t) (x .n) (length (x .built)) (length (x .q))
   pub lengthy : Lengthy (x .n) (length (x .patterns)) (length (x .distances)) l
   pub placed : Placed (x .t) (x .built) (x .n) (transferRows (x .n) (length (x .transfers)))
   pub numbered : Numbered (x .t) (x .built) (x .q) (x .n)

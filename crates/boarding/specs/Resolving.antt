@@ -28,7 +28,7 @@ freqBoardAt T trip dep after =
     earliestFreqBoard (T .trip trip .windows) (λ i. windowOf (T .window (T .trip trip .window + i) .start) (T .window (T .trip trip .window + i) .end) (T .window (T .trip trip .window + i) .headway)) (timeAt T trip 0 .departure) dep after
 
 -- k places of a line from p on stand in a slice from `from` on
-pub record Listed (trip : ℕ → ℕ) (p : ℕ) (built : List ℕ) (from k : ℕ) : Type 0 where
+pub record TripsAt (trip : ℕ → ℕ) (p : ℕ) (built : List ℕ) (from k : ℕ) : Type 0 where
   pub place : (j : ℕ) → j < k → trip (p + j) ≡ getD built (from + j) 0
 
 -- what is found, as the model has it

@@ -12,6 +12,7 @@ use borrow.Author.Tests.{ltb-true, leb-true, eqb-true, eq-eqb, ne-eqb, not-true}
 use Rattle.loops.specs.Iter.{everyIn, someIn}
 use Rattle.loops.specs.Count.{tabFrom, upto}
 use Rattle.loops.proofs.Iter.{everyIn-at, some-found, Passes}
+use Rattle.loops.proofs.Search.{clash}
 use Rattle.sorts.specs.Orders.{keep}
 use Rattle.door.specs.Door.{timeLimit}
 use Rattle.realtime.specs.Times.{sizeOf}
@@ -24,12 +25,9 @@ use Rattle.built.specs.Built.{AsBuilt}
 use Rattle.line_transfers.specs.Transfers.{Transfer, builtTransfers}
 use Rattle.model.specs.Tables.{never, Tables, Origin, Query, stops, trips, stopCount, stopAt, arrival, departure, noPickup, noWindows, edgesFrom, edgeTo, walkTime}
 use Rattle.model.specs.Search.{flagsInUse}
-use Rattle.model.specs.Door.{Door, InOrder, Rising}
+use Rattle.model.specs.Door.{Door, InOrder, EgressRising}
 use Rattle.model.specs.Promise.{PlainDay, transferInput}
 use Rattle.days.specs.K.{built}
-
-clash : {b : Bool} → b ≡ true → b ≡ false → ⊥
-clash p q = let z : _≡_ {A = ℕ} 0 1 = cc in omega arith
 
 -- all tests of a list pass
 unfoldable pub allOf : List Bool → Bool
@@ -172,12 +170,12 @@ unfoldable pub risingTest : List (ℕ × ℕ) → Bool
 risingTest [] = true
 risingTest (x ∷ es) = allIn (λ (y : ℕ × ℕ). ltb (x .0) (y .0)) es && risingTest es
 
-rising : (es : List (ℕ × ℕ)) → risingTest es ≡ true → Rising es
+rising : (es : List (ℕ × ℕ)) → risingTest es ≡ true → EgressRising es
 unfolding risingTest
-rising [] e = Rising.none
+rising [] e = EgressRising.none
 rising ((s, d) ∷ es) e =
     let q = both (allIn (λ (y : ℕ × ℕ). ltb s (y .0)) es) (risingTest es) e in
-    Rising.more (λ u w m. ltb-true _ _ (among (λ (y : ℕ × ℕ). ltb s (y .0)) es (u, w) (q .0) m)) (rising es (q .1))
+    EgressRising.more (λ u w m. ltb-true _ _ (among (λ (y : ℕ × ℕ). ltb s (y .0)) es (u, w) (q .0) m)) (rising es (q .1))
 
 -- the questions
 abbrev pub doorTests : Tables → Query → List Bool

@@ -10,7 +10,7 @@ use lib.ListN.{getD}
 use lib.Dec.{leb, eqb}
 use borrow.Author.Tests.{leb-true, leb-false, eqb-true, eqb-false, le-leb, lt-leb, eq-eqb, ne-eqb}
 use Rattle.loops.specs.Iter.{firstIn, Hit, hit, miss}
-use Rattle.loops.specs.Order.{Stays, Rising, Halved}
+use Rattle.loops.specs.Order.{Stays, KeysRise, Halved}
 use Rattle.loops.proofs.Search.{first-ext, halved-ext, stays-ext, keys-stay, same-found, same-past, same-other}
 use Rattle.delay_tables.specs.Flat.{delaysAlone, stopsAlone, delayCount, stopCount, delayRowAt, stopRowAt, foundOf}
 use Rattle.delay_tables.specs.Delays.{delayRow, stopRow}
@@ -42,13 +42,13 @@ abbrev pub Words : List ℕ → Type 0
 Words l = (k : ℕ) → getD l k 0 < 4294967296
 
 -- The delay rows do not fall by trip, nor the stop rows by key
-pub trips-rising : (rows : List ℕ) → DelayRows (delayCount rows) (delayRowAt rows) → Rising (λ i. delayRowAt rows i .trip) (delayCount rows)
+pub trips-rising : (rows : List ℕ) → DelayRows (delayCount rows) (delayRowAt rows) → KeysRise (λ i. delayRowAt rows i .trip) (delayCount rows)
 trips-rising rows d =
     record {
       rising = λ i j l u. ⊎-elim (λ (e : i ≡ j). omega (arith, ap (λ (k : ℕ). getD rows (k * 2) 0) e)) (λ (e : i < j). ⊎-elim (λ z. omega arith) (λ z. omega arith) (d .rise i j e u)) (eq-or-lt-of-le l);
     }
 
-pub stops-rising : (stops : List ℕ) → StopRows (stopCount stops) (stopRowAt stops) → Words stops → Rising (keyAt stops 5) (stopCount stops)
+pub stops-rising : (stops : List ℕ) → StopRows (stopCount stops) (stopRowAt stops) → Words stops → KeysRise (keyAt stops 5) (stopCount stops)
 stops-rising stops s w =
     record {
       rising = λ i j l u. ⊎-elim (λ (e : i ≡ j). omega (arith, ap (keyAt stops 5) e)) (λ (e : i < j). ⊎-elim (λ z. omega (arith, w (i * 5 + 1))) (λ z. omega arith) (s .rise i j e u)) (eq-or-lt-of-le l);

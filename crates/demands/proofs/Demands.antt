@@ -20,7 +20,7 @@ use Rattle.asking.specs.Door.{verdict}
 use Rattle.asking.proofs.Laws.{door}
 use Rattle.round.specs.Rounds.{overflows}
 use Rattle.replies.specs.Outcome.{Areas, Outcome, lengthsOf, overflown, answered, settled, queueFull, runTbrOutcome, queryOutcome}
-use Rattle.demands.specs.Claims.{Door}
+use Rattle.demands.specs.Claims.{DoorMet}
 
 -- question 8, as a fact
 over-at : (room : ℕ) (l : List ℕ) → overflows room l ≡ true → (m : ℕ) × List·Memᴰ m l × (room < m)
@@ -72,7 +72,7 @@ module _ (x : Lent) (o : Areas → Outcome) (a : Answer) (is : (s : Areas) → o
       go zero e true f = absurd (omega (arith, z, ap (λ (y : Outcome). y .reply .code) (by-queue s true e f)))
       go (suc k) e b f = absurd (omega (arith, z, ap (λ (y : Outcome). y .reply .code) (by-verdict s (suc k) e)))
 
-  demand1 : Door x o a
+  demand1 : DoorMet x o a
   demand1 =
       record {
         refused-by-first-no = λ s k e. by-verdict s (suc k) e;
@@ -89,11 +89,11 @@ module _ (x : Lent) (o : Areas → Outcome) (a : Answer) (is : (s : Areas) → o
 
 module _ (x : Lent) where
   -- DEMAND 1
-  pub demand1-query : Door x (queryOutcome x) (thePromise (tablesOf x) (queryOf x))
+  pub demand1-query : DoorMet x (queryOutcome x) (thePromise (tablesOf x) (queryOf x))
   unfolding queryOutcome
   demand1-query = demand1 x (queryOutcome x) (thePromise (tablesOf x) (queryOf x)) (λ s. refl)
 
-  pub demand1-rust : Door x (runTbrOutcome x) (theRust (tablesOf x) (queryOf x))
+  pub demand1-rust : DoorMet x (runTbrOutcome x) (theRust (tablesOf x) (queryOf x))
   unfolding runTbrOutcome
   demand1-rust = demand1 x (runTbrOutcome x) (theRust (tablesOf x) (queryOf x)) (λ s. refl)
 

@@ -10,7 +10,7 @@ use Rattle.asking.specs.Door.{verdict}
 use Rattle.replies.specs.Outcome.{Areas, Outcome, lengthsOf, refused, overflown, answered}
 
 -- DEMAND 1: the door
-pub record Door (x : Lent) (o : Areas → Outcome) (a : Answer) : Type 0 where
+pub record DoorMet (x : Lent) (o : Areas → Outcome) (a : Answer) : Type 0 where
   -- the first of questions 1 to 6 that is answered no is the code, and nothing is written
   pub refused-by-first-no : (s : Areas) (k : ℕ) → verdict x (lengthsOf s) ≡ suc k → o s ≡ refused (suc k) s
   -- question 8 is answered no exactly where some round's queue has more segments than a half has rows

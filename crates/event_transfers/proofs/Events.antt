@@ -19,13 +19,13 @@ use Rattle.tables.specs.Sane.{Sane}
 use Rattle.departures.specs.declared.StopRun.{StopRun}
 use Rattle.departures.specs.Departures.{runAt, runEnd, runFirst}
 use Rattle.departures.specs.Listed.{RunsListed}
-use Rattle.line_transfers.specs.Packed.{Keys, Laid, Lines, LinesAfter, Most, Prepared, SortedRuns, EventAt, TripAt, Walk, alightKeys, allKeys, eventKeys, laid, lay, layEvent, layEvents, noted, putRun, targets, tripKeys, walk}
+use Rattle.line_transfers.specs.Packed.{Keys, AreaSoFar, Lines, LinesAfter, Most, Prepared, SortedRuns, EventAt, TripAt, Walk, alightKeys, allKeys, eventKeys, laid, lay, layEvent, layEvents, noted, putRun, targets, tripKeys, walk}
 use Rattle.line_transfers.proofs.Lists.{flatten-append}
 use Rattle.line_transfers.proofs.Grouping.{lines-part}
 use Rattle.line_transfers.proofs.Laying.{events-append, events-n, lay-full, lay-n}
 
 -- getting off where nothing more is counted, and where drop-off is 1
-pub alight-full : (time : ℕ) (p : Prepared) (ti at : ℕ) (s : Laid) → 65536 < s .n → s ≡ lay time (alightKeys p ti at) s
+pub alight-full : (time : ℕ) (p : Prepared) (ti at : ℕ) (s : AreaSoFar) → 65536 < s .n → s ≡ lay time (alightKeys p ti at) s
 alight-full time p ti at s h = sym (lay-full time (alightKeys p ti at) s h)
 
 barred-keys : (p : Prepared) (ti at : ℕ) → eqb (timeOf (p .t) at 5) 1 ≡ true → alightKeys p ti at ≡ []
@@ -33,7 +33,7 @@ unfolding alightKeys
 barred-keys p ti at e =
     ap (λ (t : Bool). cond t [] (targets (slice (runFirst (p .runs) (timeOf (p .t) at 0)) (runEnd (p .runs) (timeOf (p .t) at 0)) (p .work)) ti (timeOf (p .t) at 1 + p .time))) e
 
-pub alight-barred : (time : ℕ) (p : Prepared) (ti at : ℕ) (s : Laid) → eqb (timeOf (p .t) at 5) 1 ≡ true → s ≡ lay time (alightKeys p ti at) s
+pub alight-barred : (time : ℕ) (p : Prepared) (ti at : ℕ) (s : AreaSoFar) → eqb (timeOf (p .t) at 5) 1 ≡ true → s ≡ lay time (alightKeys p ti at) s
 unfolding lay
 alight-barred time p ti at s e = sym (ap (λ (l : List ℕ). lay time l s) (barred-keys p ti at e))
 
@@ -68,7 +68,7 @@ module _ (p : Prepared) (ends : List ℕ) (d at : ℕ) (sane : Sane (p .t) (p .c
       (stop-part r q ∙ ap (λ (i : ℕ). slice (runFirst (p .runs) i) (runEnd (p .runs) i) (p .work)) e) a
       ∙ sym (ap (λ (t : Bool). cond t [] (targets (slice (runFirst (p .runs) (timeOf (p .t) at 0)) (runEnd (p .runs) (timeOf (p .t) at 0)) (p .work)) ti (timeOf (p .t) at 1 + p .time))) f)
 
-  pub alight-open : (time ti arrival : ℕ) (r : StopRun) (s : Laid) → eqb (timeOf (p .t) at 5) 1 ≡ false → arrival ≡ timeOf (p .t) at 1 → r ≡ runAt (p .runs) stop
+  pub alight-open : (time ti arrival : ℕ) (r : StopRun) (s : AreaSoFar) → eqb (timeOf (p .t) at 5) 1 ≡ false → arrival ≡ timeOf (p .t) at 1 → r ≡ runAt (p .runs) stop
       → lay time (targets (take (r .first + r .length - r .first) (drop (r .first) (p .work))) ti (arrival + p .time)) s ≡ lay time (alightKeys p ti at) s
   alight-open time ti arrival r s f a q = ap (λ (m : List ℕ). lay time m s) (open-keys ti arrival r f a q)
 
@@ -87,7 +87,7 @@ event-time t c ti off first s h k e = omega (arith, s .runs .run ti h, k, e)
 
 pub lay-grown : (time : ℕ) (l : List ℕ) (n r : ℕ) (a b : List ℕ) → laid r a ≡ lay time l (laid n b) → n ≤ 65537 → (n ≤ r) × (r ≤ 65537)
 lay-grown time l n r a b e h =
-    let q : r ≡ min (n + length l) 65537 = ap (λ (s : Laid). s .n) e ∙ lay-n time l (laid n b) h in
+    let q : r ≡ min (n + length l) 65537 = ap (λ (s : AreaSoFar). s .n) e ∙ lay-n time l (laid n b) h in
     (omega arith, omega arith)
 
 pub event-is : (time e : ℕ) (l : List ℕ) (n r : ℕ) (a a' v v' : List ℕ) → laid r a' ≡ lay time l (laid n a) → v' ≡ putRun v e n (r - n) → walk r a' v' ≡ layEvent time e l (walk n a v)

@@ -70,7 +70,7 @@ unfoldable pub lineFirst : Timetable → ℕ → ℕ
 lineFirst T l = count (lineBelow T l) (T .trips)
 
 -- place p is in line l's run
-pub record InRun (T : Timetable) (l p : ℕ) : Type 0 where
+pub record InLineRun (T : Timetable) (l p : ℕ) : Type 0 where
   pub from : lineFirst T l ≤ p
   pub before : p < lineFirst T l + lineCount T l
 

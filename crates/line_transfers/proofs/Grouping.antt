@@ -11,11 +11,11 @@ use lib.Seq.{getD-set-other, getD-set-same, getD-take, getD-drop, drop-drop}
 use lib.Dec.{leb, eqb}
 use borrow.Author.Tests.{leb-true, leb-false, le-leb, lt-leb, eq-eqb, ne-eqb}
 use Rattle.loops.specs.Count.{one, tab, tabFrom}
-use Rattle.loops.specs.Order.{Halved, Rising}
+use Rattle.loops.specs.Order.{Halved, KeysRise}
 use Rattle.sorts.specs.Sort.{hi, pick}
 use Rattle.sorts.specs.Orders.{keep}
 use Rattle.departures.specs.Packed.{unTrip}
-use Rattle.line_transfers.specs.Packed.{Group, Keys, Laid, LineEnd, Lines, Stretch, depX, laid, lay, layRow, lineX, targets, toGroup}
+use Rattle.line_transfers.specs.Packed.{Group, Keys, AreaSoFar, LineEnd, Lines, Stretch, depX, laid, lay, layRow, lineX, targets, toGroup}
 use Rattle.line_transfers.proofs.Laying.{lay-append}
 use Rattle.line_transfers.proofs.Lists.{first-kept, flatten-none, flatten-one, keep-append, keep-no, keep-none, keep-yes, length-keep}
 
@@ -224,7 +224,7 @@ targets-turn v ti w r k h =
     after l u = ap (λ (m : List ℕ). toGroup m ti w) (halves l ∙ ap (λ (m : List ℕ). m ++ keep (is l) (drop r v)) (front-no l (λ e. omega arith)))
 
 -- the three ways out of the transfer to one line
-module _ (time ti w : ℕ) (g : List ℕ) (line p : ℕ) (s : Laid) (e : line ≡ lineX (getD g 0 0)) (k : Group g) (h : Halved (λ i. leb (line * 1048576 + w) (hi (getD g i 0))) (length g) p p) where
+module _ (time ti w : ℕ) (g : List ℕ) (line p : ℕ) (s : AreaSoFar) (e : line ≡ lineX (getD g 0 0)) (k : Group g) (h : Halved (λ i. leb (line * 1048576 + w) (hi (getD g i 0))) (length g) p p) where
   pub line-none : length g ≤ p → s ≡ lay time (toGroup g ti w) s
   unfolding lay
   line-none u = sym (ap (λ (l : List ℕ). lay time l s) (group-none g ti w line p e k h u))
@@ -261,19 +261,19 @@ module _ (run : List ℕ) (k r : ℕ) (h : Keys run) (e : LineEnd (drop k run) r
           ∙ e .same i (omega (arith, size))
           ∙ ap lineX (sym (getD-take r (drop k run) 0 0 (e .some)))
 
-  pub lines-again : (time ti w : ℕ) {whole : Laid} (s : Laid) {s' : Laid} → whole ≡ lay time (targets (drop k run) ti w) s
+  pub lines-again : (time ti w : ℕ) {whole : AreaSoFar} (s : AreaSoFar) {s' : AreaSoFar} → whole ≡ lay time (targets (drop k run) ti w) s
       → s' ≡ lay time (toGroup (take (k + r - k) (drop k run)) ti w) s → whole ≡ lay time (targets (drop (k + r) run) ti w) s'
   lines-again time ti w {whole} s {s'} inv q =
       inv
       ∙ ap (λ (l : List ℕ). lay time l s) (targets-turn (drop k run) ti w r (keys-drop run k h) e)
       ∙ lay-append time (toGroup (take r (drop k run)) ti w) (targets (drop r (drop k run)) ti w) s
-      ∙ ap₂ (λ (v : List ℕ) (x : Laid). lay time (targets v ti w) x) (drop-drop r k run)
+      ∙ ap₂ (λ (v : List ℕ) (x : AreaSoFar). lay time (targets v ti w) x) (drop-drop r k run)
       (ap (λ (m : ℕ). lay time (toGroup (take m (drop k run)) ti w) s) back ∙ sym q)
     where
       back : r ≡ k + r - k
       back = omega arith
 
-pub lines-left : (time ti w k : ℕ) (run : List ℕ) {whole s : Laid} → whole ≡ lay time (targets (drop k run) ti w) s → length run ≤ k → s ≡ whole
+pub lines-left : (time ti w k : ℕ) (run : List ℕ) {whole s : AreaSoFar} → whole ≡ lay time (targets (drop k run) ti w) s → length run ≤ k → s ≡ whole
 unfolding lay
 lines-left time ti w k run {whole} {s} inv h =
     sym (inv ∙ ap (λ (l : List ℕ). lay time l s) (ap (λ (v : List ℕ). targets v ti w) (drop-of-length-le run h) ∙ targets-nil ti w))

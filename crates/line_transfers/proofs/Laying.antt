@@ -15,7 +15,7 @@ use Rattle.sorts.specs.Sort.{within}
 use Rattle.sorts.proofs.Within.{within-length}
 use Rattle.departures.specs.Packed.{unTrip, unOffset}
 use Rattle.line_transfers.specs.Transfers.{runsFrom}
-use Rattle.line_transfers.specs.Packed.{Laid, Walk, laid, lay, layEvent, layEvents, layRow, noted, putRow, putRun, walk}
+use Rattle.line_transfers.specs.Packed.{AreaSoFar, Walk, laid, lay, layEvent, layEvents, layRow, noted, putRow, putRun, walk}
 use Rattle.line_transfers.proofs.Lists.{within-join}
 
 -- stores in a row
@@ -34,26 +34,26 @@ two a at p q h =
     rw e1 (sets-eq (p ∷ q ∷ []) a at h ∙ append-assoc (take at a) (p ∷ q ∷ []) (drop (at + 2) a))
 
 -- one row
-pub row-full : (time x : ℕ) (s : Laid) → 65536 < s .n → layRow time x s ≡ s
+pub row-full : (time x : ℕ) (s : AreaSoFar) → 65536 < s .n → layRow time x s ≡ s
 unfolding layRow
 row-full time x s h = ap (λ (t : Bool). cond t s (laid (s .n + 1) (putRow time (s .area) (s .n) x))) (lt-ltb 65536 (s .n) h)
 
-pub row-more : (time x : ℕ) (s : Laid) → s .n ≤ 65536 → layRow time x s ≡ laid (s .n + 1) (putRow time (s .area) (s .n) x)
+pub row-more : (time x : ℕ) (s : AreaSoFar) → s .n ≤ 65536 → layRow time x s ≡ laid (s .n + 1) (putRow time (s .area) (s .n) x)
 unfolding layRow
 row-more time x s h = ap (λ (t : Bool). cond t s (laid (s .n + 1) (putRow time (s .area) (s .n) x))) (le-ltb 65536 (s .n) h)
 
 -- many rows
-pub lay-append : (time : ℕ) (a b : List ℕ) (s : Laid) → lay time (a ++ b) s ≡ lay time b (lay time a s)
+pub lay-append : (time : ℕ) (a b : List ℕ) (s : AreaSoFar) → lay time (a ++ b) s ≡ lay time b (lay time a s)
 unfolding lay
 lay-append time [] b s = refl
 lay-append time (x ∷ a) b s = lay-append time a b (layRow time x s)
 
-pub lay-full : (time : ℕ) (l : List ℕ) (s : Laid) → 65536 < s .n → lay time l s ≡ s
+pub lay-full : (time : ℕ) (l : List ℕ) (s : AreaSoFar) → 65536 < s .n → lay time l s ≡ s
 unfolding lay
 lay-full time [] s h = refl
 lay-full time (x ∷ l) s h = ap (lay time l) (row-full time x s h) ∙ lay-full time l s h
 
-pub lay-n : (time : ℕ) (l : List ℕ) (s : Laid) → s .n ≤ 65537 → lay time l s .n ≡ min (s .n + length l) 65537
+pub lay-n : (time : ℕ) (l : List ℕ) (s : AreaSoFar) → s .n ≤ 65537 → lay time l s .n ≡ min (s .n + length l) 65537
 unfolding lay
 lay-n time [] s h = omega arith
 lay-n time (x ∷ l) s h = go (ltb 65536 (s .n)) refl (lay-n time l (layRow time x s))
@@ -62,11 +62,11 @@ lay-n time (x ∷ l) s h = go (ltb 65536 (s .n)) refl (lay-n time l (layRow time
         → lay time l (layRow time x s) .n ≡ min (s .n + suc (length l)) 65537
     go true e later =
         let u = ltb-true 65536 (s .n) e in
-        let q : layRow time x s .n ≡ s .n = ap (λ (w : Laid). w .n) (row-full time x s u) in
+        let q : layRow time x s .n ≡ s .n = ap (λ (w : AreaSoFar). w .n) (row-full time x s u) in
         omega (arith, u, q, later (omega (arith, q)))
     go false e later =
         let u = ltb-false 65536 (s .n) e in
-        let q : layRow time x s .n ≡ s .n + 1 = ap (λ (w : Laid). w .n) (row-more time x s u) in
+        let q : layRow time x s .n ≡ s .n + 1 = ap (λ (w : AreaSoFar). w .n) (row-more time x s u) in
         omega (arith, u, q, later (omega (arith, u, q)))
 
 -- the words of rows held as numbers
@@ -112,7 +112,7 @@ events-laid time e (l ∷ ls) w =
     events-laid time (e + 1) ls (layEvent time e l w) ∙ sym (lay-append time l (flatten ls) (laid (w .n) (w .area)))
 
 pub events-n : (time e : ℕ) (ls : List (List ℕ)) (w : Walk) → w .n ≤ 65537 → layEvents time e ls w .n ≡ min (w .n + length (flatten ls)) 65537
-events-n time e ls w h = ap (λ (s : Laid). s .n) (events-laid time e ls w) ∙ lay-n time (flatten ls) (laid (w .n) (w .area)) h
+events-n time e ls w h = ap (λ (s : AreaSoFar). s .n) (events-laid time e ls w) ∙ lay-n time (flatten ls) (laid (w .n) (w .area)) h
 
 pub events-append : (time e : ℕ) (a b : List (List ℕ)) (w : Walk) → layEvents time e (a ++ b) w ≡ layEvents time (e + length a) b (layEvents time e a w)
 unfolding layEvents

@@ -8,7 +8,7 @@ use lib.ListN.{length, getD, take}
 use lib.Seq.{slice}
 use lib.Dec.{ltb, leb, eqb}
 use Rattle.loops.specs.Count.{tab}
-use Rattle.loops.specs.Order.{Rising}
+use Rattle.loops.specs.Order.{KeysRise}
 use Rattle.sorts.specs.Sort.{hi, within}
 use Rattle.sorts.specs.Orders.{keep}
 use Rattle.tables.specs.declared.Counts.{Counts}
@@ -33,7 +33,7 @@ depX x = x / 4294967296 % 1048576
 
 -- a stop's numbers, sorted by line and departure
 pub record Keys (v : List ℕ) : Type 0 where
-  pub rising : Rising (λ i. hi (getD v i 0)) (length v)
+  pub rising : KeysRise (λ i. hi (getD v i 0)) (length v)
   pub fits : (i : ℕ) → i < length v → lineX (getD v i 0) < 4096
 
 -- e numbers from the i-th on are of its line, as far as there are so many, and the next one is not
@@ -99,11 +99,11 @@ abbrev pub allKeys : Prepared → List (List ℕ)
 allKeys p = flatten (tab (tripKeys p) (p .c .trips))
 
 -- how many transfers there are so far, and the area
-pub record Laid : Type 0 where
+pub record AreaSoFar : Type 0 where
   pub n : ℕ
   pub area : List ℕ
 
-abbrev pub laid : ℕ → List ℕ → Laid
+abbrev pub laid : ℕ → List ℕ → AreaSoFar
 laid n a = record { n = n; area = a }
 
 -- a transfer at row n, where the area has it
@@ -111,10 +111,10 @@ unfoldable pub putRow : ℕ → List ℕ → ℕ → ℕ → List ℕ
 putRow time a n x = cond (leb (n * 4 + 4) (length a)) (within (n * 4) (n * 4 + 4) (unTrip x ∷ unOffset x ∷ time ∷ 0 ∷ []) a) a
 
 -- one more; past 65,536 none is counted or written
-unfoldable pub layRow : ℕ → ℕ → Laid → Laid
+unfoldable pub layRow : ℕ → ℕ → AreaSoFar → AreaSoFar
 layRow time x s = cond (ltb 65536 (s .n)) s (laid (s .n + 1) (putRow time (s .area) (s .n) x))
 
-unfoldable pub lay : ℕ → List ℕ → Laid → Laid
+unfoldable pub lay : ℕ → List ℕ → AreaSoFar → AreaSoFar
 lay time [] s = s
 lay time (x ∷ l) s = lay time l (layRow time x s)
 
@@ -131,7 +131,7 @@ walk n a v = record { n = n; area = a; evs = v }
 unfoldable pub putRun : List ℕ → ℕ → ℕ → ℕ → List ℕ
 putRun v e n m = cond (leb (e * 2 + 2) (length v)) (within (e * 2) (e * 2 + 2) (n ∷ m ∷ []) v) v
 
-abbrev pub noted : ℕ → Walk → Laid → Walk
+abbrev pub noted : ℕ → Walk → AreaSoFar → Walk
 noted e w s = walk (s .n) (s .area) (putRun (w .evs) e (w .n) (s .n - w .n))
 
 unfoldable pub layEvent : ℕ → ℕ → List ℕ → Walk → Walk

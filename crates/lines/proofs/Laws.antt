@@ -18,7 +18,7 @@ use Rattle.sorts.proofs.Orders.{sort-all}
 use Rattle.sorts.proofs.Places.{all-at, keep-all, sort-tally, tally}
 use Rattle.sorts.proofs.Stable.{length-sortBy}
 use Rattle.tables.specs.Timetable.{Timetable, timeAt}
-use Rattle.line_numbers.specs.Lines.{InRun, entriesOf, entryAt, firstDeparture, firstTrip, isLead, leadOf, lineBelow, lineCount, lineFirst, lineIs, lineOf, lineTrips, linesOf, stopsOf}
+use Rattle.line_numbers.specs.Lines.{InLineRun, entriesOf, entryAt, firstDeparture, firstTrip, isLead, leadOf, lineBelow, lineCount, lineFirst, lineIs, lineOf, lineTrips, linesOf, stopsOf}
 use Rattle.line_numbers.proofs.Same.{is-own, lead-is, lead-lead, line-below, line-same, lists-same, same-line, same-lists, same-yes}
 use Rattle.line_numbers.proofs.Parts.{flat-length, flat-split}
 use Rattle.line_numbers.proofs.Tally.{below-split, lines-few}
@@ -200,7 +200,7 @@ module _ (T : Timetable) (p : ℕ) (h : p < T .trips) where
   record Held : Type 0 where
     line : ℕ
     known : line < linesOf T
-    run : InRun T line p
+    run : InLineRun T line p
 
   held : Held
   held = go (linesOf T) (omega arith) (omega (arith, first-last T))
@@ -213,37 +213,37 @@ module _ (T : Timetable) (p : ℕ) (h : p < T .trips) where
           (split p (lineFirst T l))
 
   -- the run's line is one of the lines
-  run-known : (l : ℕ) → InRun T l p → l < linesOf T
+  run-known : (l : ℕ) → InLineRun T l p → l < linesOf T
   unfolding lineFirst
   run-known l r =
       ⊎-elim (λ (u : l < linesOf T). u)
       (λ (u : linesOf T ≤ l). absurd (omega (arith, r .from, count-each (lineBelow T l) (T .trips) (λ k v. lt-ltb (lineOf T k) l (omega (arith, line-below T k v))))))
       (split l (linesOf T))
 
-  run-trip : (l : ℕ) → InRun T l p → entryAt T p ≡ getD (lineTrips T l) (p - lineFirst T l) 0
+  run-trip : (l : ℕ) → InLineRun T l p → entryAt T p ≡ getD (lineTrips T l) (p - lineFirst T l) 0
   run-trip l r =
       let e : lineFirst T l + (p - lineFirst T l) ≡ p = omega (arith, r .from) in
       ap (entryAt T) (sym e) ∙ run-entry T l (p - lineFirst T l) (run-known l r) (omega (arith, r .from, r .before))
 
-  run-of-line : (l : ℕ) → InRun T l p → OfLine T l (entryAt T p)
+  run-of-line : (l : ℕ) → InLineRun T l p → OfLine T l (entryAt T p)
   run-of-line l r = rw (run-trip l r) (of-line T l (p - lineFirst T l) (omega (arith, trips-count T l, r .from, r .before)))
 
   pub entry-trip : entryAt T p < T .trips
   entry-trip = run-of-line (held .line) (held .run) .trip
 
   -- what stands at p has line l exactly where p is in l's run
-  pub in-run : (l : ℕ) → InRun T l p → lineOf T (entryAt T p) ≡ l
+  pub in-run : (l : ℕ) → InLineRun T l p → lineOf T (entryAt T p) ≡ l
   in-run l r = run-of-line l r .line
 
-  pub run-of : InRun T (lineOf T (entryAt T p)) p
-  run-of = subst (λ (l : ℕ). InRun T l p) (sym (in-run (held .line) (held .run))) (held .run)
+  pub run-of : InLineRun T (lineOf T (entryAt T p)) p
+  run-of = subst (λ (l : ℕ). InLineRun T l p) (sym (in-run (held .line) (held .run))) (held .run)
 
 -- trip i stands at a place of its line's run
 pub record Standing (T : Timetable) (i : ℕ) : Type 0 where
   pub at : ℕ
   pub below : at < T .trips
   pub entry : entryAt T at ≡ i
-  pub run : InRun T (lineOf T i) at
+  pub run : InLineRun T (lineOf T i) at
 
 pub stands : (T : Timetable) (i : ℕ) → i < T .trips → Standing T i
 stands T i h =
@@ -257,8 +257,8 @@ pub in-order : (T : Timetable) (p q : ℕ) → p < q → q < T .trips → lineOf
 in-order T p q u v e =
     let x : p < T .trips = omega arith in
     let l = lineOf T (entryAt T p) in
-    let r : InRun T l p = run-of T p x in
-    let s : InRun T l q = subst (λ (k : ℕ). InRun T k q) (sym e) (run-of T q v) in
+    let r : InLineRun T l p = run-of T p x in
+    let s : InLineRun T l q = subst (λ (k : ℕ). InLineRun T k q) (sym e) (run-of T q v) in
     subst (λ (y : ℕ). Before (firstDeparture T) y (entryAt T q)) (sym (run-trip T p x l r))
     (subst (λ (y : ℕ). Before (firstDeparture T) (getD (lineTrips T l) (p - lineFirst T l) 0) y) (sym (run-trip T q v l s))
     (line-order T l (p - lineFirst T l) (q - lineFirst T l) (omega (arith, r .from)) (omega (arith, s .from, s .before, trips-count T l))))

@@ -8,7 +8,7 @@ use lib.ListN.{length}
 use lib.Dec.{leb, ltb}
 use borrow.Author.Tests.{leb-true, leb-false, lt-ltb, le-ltb}
 use Rattle.loops.specs.Count.{tabFrom}
-use Rattle.loops.specs.Order.{Halved, Rising}
+use Rattle.loops.specs.Order.{Halved, KeysRise}
 use Rattle.loops.proofs.Count.{tab-ext}
 use Rattle.tables.specs.declared.Counts.{Counts}
 use Rattle.tables.specs.Timetable.{Timetable, timetable}
@@ -17,7 +17,7 @@ use Rattle.departures.specs.Departures.{rowAt, rowsOf, rowDeparture, partOf}
 use Rattle.departures.proofs.Parts.{part-row, part-length, part-known}
 use Rattle.model.specs.Tables.{Tables}
 use Rattle.model.specs.Search.{notBefore}
-use Rattle.listed.specs.Listed.{Ordered}
+use Rattle.listed.specs.Listed.{RowsOrdered}
 
 -- of the values from i on, n of them: the first d are too early, the next is not
 drop-early : (T : Tables) (m : ℕ) (f : ℕ → DepartureRow) (i d n : ℕ) → d ≤ n
@@ -47,7 +47,7 @@ shift f d i (suc n) =
     ap (λ (l : List _). f (d + i) ∷ l) (ap (λ (a : ℕ). tabFrom f a n) z ∙ shift f d (suc i) n)
 
 -- n rows of a list, of which the first r are before m
-module _ (t : List ℕ) (c : Counts) (list : List ℕ) (n m r : ℕ) (o : Ordered t c list n) (h : Halved (λ i. leb m (rowDeparture (timetable t c) (rowAt list i))) n r r) where
+module _ (t : List ℕ) (c : Counts) (list : List ℕ) (n m r : ℕ) (o : RowsOrdered t c list n) (h : Halved (λ i. leb m (rowDeparture (timetable t c) (rowAt list i))) n r r) where
   abbrev tail : List ℕ
   tail = partOf list r (n - r)
 
@@ -60,7 +60,7 @@ module _ (t : List ℕ) (c : Counts) (list : List ℕ) (n m r : ℕ) (o : Ordere
   leaves : (k : ℕ) → k < n - r → rowDeparture (timetable t c) (rowAt tail k) ≡ rowDeparture (timetable t c) (rowAt list (r + k))
   leaves k u = ap (rowDeparture (timetable t c)) (tail-row k u)
 
-  tail-ordered : Ordered t c tail (n - r)
+  tail-ordered : RowsOrdered t c tail (n - r)
   tail-ordered =
       record {
         known = part-known t c list n r (n - r) (o .known) (omega (arith, h .inside));
@@ -85,12 +85,12 @@ module _ (t : List ℕ) (c : Counts) (list : List ℕ) (n m r : ℕ) (o : Ordere
           ap₂ (λ (k : ℕ) (X : Timetable). ltb (rowDeparture X (rowAt list k)) m) z e ∙ le-ltb d m (leb-true m d (h .above r (omega arith) u))
 
   -- the part that is handed on
-  pub handed-ordered : (x : List ℕ) → x ≡ tail → Ordered t c x (length x / 2)
+  pub handed-ordered : (x : List ℕ) → x ≡ tail → RowsOrdered t c x (length x / 2)
   handed-ordered x q = let z : length x / 2 ≡ n - r = omega (arith, ap length q, tail-length) in rw (z, q) tail-ordered
 
   pub handed-rows : (x : List ℕ) → x ≡ tail → (T : Tables) → T .timetable ≡ timetable t c → rowsOf x (length x / 2) ≡ notBefore T m (rowsOf list n)
   handed-rows x q T e = let z : length x / 2 ≡ n - r = omega (arith, ap length q, tail-length) in ap₂ (λ (l : List ℕ) (k : ℕ). rowsOf l k) q z ∙ tail-rows T e
 
 -- departures in order have keys that do not fall
-pub departures-rising : (t : List ℕ) (c : Counts) (list : List ℕ) (n : ℕ) → Ordered t c list n → Rising (λ i. rowDeparture (timetable t c) (rowAt list i)) n
+pub departures-rising : (t : List ℕ) (c : Counts) (list : List ℕ) (n : ℕ) → RowsOrdered t c list n → KeysRise (λ i. rowDeparture (timetable t c) (rowAt list i)) n
 departures-rising t c list n o = record { rising = o .order }

@@ -19,14 +19,14 @@ use Rattle.model.specs.Tables.{Tables, Query}
 use Rattle.model.specs.Search.{boardAt}
 
 -- the working numbers with the chains of this round, and each trip's line
-pub record Chained (lay : Lay) (stamp : ℕ) (c : Counts) (built w : List ℕ) : Type 0 where
+pub record RoundChains (lay : Lay) (stamp : ℕ) (c : Counts) (built w : List ℕ) : Type 0 where
   pub sized : Sized lay (length w) (lay .stops * 104) (lay .stops * 13)
   pub chains : Chains lay stamp w
   pub trips : c .trips ≡ lay .trips
   pub lines : lay .trips ≤ length built
 
 -- n departures of a stop, none earlier than one before it
-pub record Ordered (t : List ℕ) (c : Counts) (rows : List ℕ) (n : ℕ) : Type 0 where
+pub record RowsOrdered (t : List ℕ) (c : Counts) (rows : List ℕ) (n : ℕ) : Type 0 where
   pub known : RowsKnown t c rows n
   pub order : (i j : ℕ) → i ≤ j → j < n → rowDeparture (timetable t c) (rowAt rows i) ≤ rowDeparture (timetable t c) (rowAt rows j)
 

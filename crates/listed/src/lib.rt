@@ -18,7 +18,7 @@ ghost use Rattle.boarding.specs.Reads.{hitOf, Known, Ground, Event, Agree, Asks
 ghost use Rattle.pruning.specs.Books.{Agrees, Books};
 ghost use Rattle.asking.specs.Lent.{marksAt, stopRuns, departureRows};
 ghost use Rattle.asking.specs.Sane.{Limits};
-ghost use Rattle.listed.specs.Listed.{Chained, Ordered, AsBoarded};
+ghost use Rattle.listed.specs.Listed.{RoundChains, RowsOrdered, AsBoarded};
 use asking::QueryCounts;
 use boarding::Terms;
 use delay_tables::Found;
@@ -37,7 +37,7 @@ pub fn departures_at(n: QueryCounts, built: &[u32], x: usize) -> &[u32]
 
 // The first of departures in order that is not before m, by halving; their number where there is none.
 fn first_not_before(t: &[u32], c: Counts, list: &[u32], m: u32) -> usize
-    requires { ⌜ Ordered (now t) c (now list) (length (now list) / 2) ⌝ }
+    requires { ⌜ RowsOrdered (now t) c (now list) (length (now list) / 2) ⌝ }
     ensures { λ r. ⌜ Halved (λ i. leb m (rowDeparture (timetable (now (t .entry)) c) (rowAt (now (list .entry)) i))) (length (now (list .entry)) / 2) r r ⌝ }
 {
     let mut lo: usize = 0;
@@ -55,8 +55,8 @@ fn first_not_before(t: &[u32], c: Counts, list: &[u32], m: u32) -> usize
 
 // Of departures in order, those from the first on that is not before m, found by halving.
 pub fn not_before<'a>(t: &[u32], c: Counts, list: &'a [u32], m: u32) -> &'a [u32]
-    requires { ⌜ Ordered (now t) c (now list) (length (now list) / 2) ⌝ }
-    ensures { λ r. ⌜ Ordered (now (t .entry)) c (now r) (length (now r) / 2) ⌝ ∗ ⌜ ((T : Tables) → T .timetable ≡ timetable (now (t .entry)) c → rowsOf (now r) (length (now r) / 2) ≡ notBefore T m (rowsOf (now (list .entry)) (length (now (list .entry)) / 2))) ⌝ }
+    requires { ⌜ RowsOrdered (now t) c (now list) (length (now list) / 2) ⌝ }
+    ensures { λ r. ⌜ RowsOrdered (now (t .entry)) c (now r) (length (now r) / 2) ⌝ ∗ ⌜ ((T : Tables) → T .timetable ≡ timetable (now (t .entry)) c → rowsOf (now r) (length (now r) / 2) ≡ notBefore T m (rowsOf (now (list .entry)) (length (now (list .entry)) / 2))) ⌝ }
 {
     let from = first_not_before(t, c, list, m);
     departures::departures_of(list, from, list.len() / 2 - from)
@@ -77,7 +77,7 @@ fn barred_listed(
     off: usize,
     work: &[u32],
 ) -> bool
-    requires { ⌜ Ground (now t) c (now rows) (now «stop_rows») ⌝ ∗ ⌜ Known (now rows) adj ⌝ ∗ ⌜ Event (now t) c trip off ⌝ ∗ ⌜ Chained lay stamp c (now built) (now work) ⌝ }
+    requires { ⌜ Ground (now t) c (now rows) (now «stop_rows») ⌝ ∗ ⌜ Known (now rows) adj ⌝ ∗ ⌜ Event (now t) c trip off ⌝ ∗ ⌜ RoundChains lay stamp c (now built) (now work) ⌝ }
     ensures { λ r. ⌜ ((T : Tables) (Q : Query) (b : Boardings) → Agree T Q (now (t .entry)) c (now (rows .entry)) (now («stop_rows» .entry)) → Asks Q terms → Agrees T lay c (now (built .entry)) (now (work .entry)) → Books lay stamp T Q (now (work .entry)) b → r ≡ (((not (permitted T Q trip) || pruned T Q (hitOf adj) trip off b) || noPickup T trip off) || skipped T Q (hitOf adj) trip off)) ⌝ }
 {
     let fit = boarding::permitted(t, c, terms, trip);
@@ -111,7 +111,7 @@ pub fn board_listed(
     best: u32,
     work: &[u32],
 ) -> FreqBoard
-    requires { ⌜ Ground (now t) c (now rows) (now «stop_rows») ⌝ ∗ ⌜ Known (now rows) adj ⌝ ∗ ⌜ Event (now t) c trip off ⌝ ∗ ⌜ after < 134217728 ⌝ ∗ ⌜ Chained lay stamp c (now built) (now work) ⌝ }
+    requires { ⌜ Ground (now t) c (now rows) (now «stop_rows») ⌝ ∗ ⌜ Known (now rows) adj ⌝ ∗ ⌜ Event (now t) c trip off ⌝ ∗ ⌜ after < 134217728 ⌝ ∗ ⌜ RoundChains lay stamp c (now built) (now work) ⌝ }
     ensures { λ r. ⌜ ((T : Tables) (Q : Query) (s : State) → Agree T Q (now (t .entry)) c (now (rows .entry)) (now («stop_rows» .entry)) → Asks Q terms → Agrees T lay c (now (built .entry)) (now (work .entry)) → Books lay stamp T Q (now (work .entry)) (s .boardings) → s .arrivals .best ≡ best → r ≡ boarding T Q stamp after (hitOf adj) trip off s) ⌝ ∗ ⌜ AsBoarded (now (t .entry)) c (now (rows .entry)) (now («stop_rows» .entry)) adj trip off after r ⌝ }
 {
     if barred_listed(

@@ -8,7 +8,7 @@ use native.Mathlib.Omega.{arith}
 use lib.Dec.{ltb, leb, eqb}
 use borrow.Author.Tests.{ltb-true, ltb-false, leb-true, leb-false, eqb-true, le-leb, lt-leb, eq-eqb, ne-eqb}
 use Rattle.loops.specs.Iter.{first, firstIn, Hit, hit, miss, foundOr}
-use Rattle.loops.specs.Order.{Stays, Rising, Halved}
+use Rattle.loops.specs.Order.{Stays, KeysRise, Halved}
 use Rattle.loops.proofs.Iter.{first-found, first-before, first-bound, first-none}
 
 -- no test is both passed and failed
@@ -92,7 +92,7 @@ halved-found f n lo hi h l =
     (split lo n)
 
 -- Among keys that do not fall, the first key t is the first that is not below t, if that one is t.
-module _ (key : ℕ → ℕ) (t n : ℕ) (r : Rising key n) where
+module _ (key : ℕ → ℕ) (t n : ℕ) (r : KeysRise key n) where
   pub keys-stay : Stays (λ i. leb t (key i)) n
   keys-stay = record { stays = λ i j l u e. le-leb t (key j) (omega (arith, leb-true t (key i) e, r .rising i j l u)) }
 

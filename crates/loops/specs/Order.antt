@@ -8,7 +8,7 @@ pub record Stays (f : ℕ → Bool) (n : ℕ) : Type 0 where
   pub stays : (i j : ℕ) → i ≤ j → j < n → f i ≡ true → f j ≡ true
 
 -- the keys do not fall
-pub record Rising (key : ℕ → ℕ) (n : ℕ) : Type 0 where
+pub record KeysRise (key : ℕ → ℕ) (n : ℕ) : Type 0 where
   pub rising : (i j : ℕ) → i ≤ j → j < n → key i ≤ key j
 
 -- a search by halving: below lo the test fails, from hi on it passes

@@ -15,7 +15,7 @@ use Rattle.tables.specs.Timetable.{Timetable, timeAt, frequencyTrip}
 use Rattle.departures.specs.Departures.{sorted, frequencyListed, markOf, rowDeparture}
 use Rattle.model.specs.Tables.{never, Tables, Origin, Query, isEgress, egressWalk, stops, trips, stopCount, stopAt, arrival, departure, noPickup, noDropOff, noWindows, edgesFrom, edgeTo, walkTime, position, fifo}
 use Rattle.model.specs.Search.{departuresAt, markAt, lineAt}
-use Rattle.model.specs.Door.{Door, InOrder, Rising}
+use Rattle.model.specs.Door.{Door, InOrder, EgressRising}
 use Rattle.model.specs.Promise.{PlainDay}
 use Rattle.model.proofs.Base.{split, split-eq, no-both, and-true}
 use Rattle.model.proofs.Net.{Net, Plain, Sorted, none, more}
@@ -111,16 +111,16 @@ egress-listed (x ∷ es) s e = go (eqb (x .0) s) refl e (egress-listed es s)
     go false f e ih = List·Memᴰ·tail (ih e)
 
 -- of stops that strictly rise, each has one walk
-egress-one : (es : List (ℕ × ℕ)) → Rising es → (s d : ℕ) → List·Memᴰ (s, d) es → egressWalk es s ≡ d
+egress-one : (es : List (ℕ × ℕ)) → EgressRising es → (s d : ℕ) → List·Memᴰ (s, d) es → egressWalk es s ≡ d
 unfolding egressWalk
 egress-one [] R s d m = absurd (List·Memᴰ·not-nil m)
-egress-one (x ∷ es) (Rising.more r R) s d m = go (eqb (x .0) s) refl (egress-one es R s d)
+egress-one (x ∷ es) (EgressRising.more r R) s d m = go (eqb (x .0) s) refl (egress-one es R s d)
   where
     go : (b : Bool) → eqb (x .0) s ≡ b → (List·Memᴰ (s, d) es → egressWalk es s ≡ d) → elim b [ true ↦ x .1 | false ↦ egressWalk es s ] ≡ d
     go true f ih = ⊎-elim (λ q. ap (λ (z : ℕ × ℕ). z .1) (sym q)) (λ i. absurd (omega (arith, r s d i, eqb-true (x .0) s f))) (List·Memᴰ·cases-cons m)
     go false f ih = ⊎-elim (λ q. absurd (eqb-false _ _ f (ap (λ (z : ℕ × ℕ). z .0) (sym q)))) (λ i. ih i) (List·Memᴰ·cases-cons m)
 
-pub egress-is : (es : List (ℕ × ℕ)) → Rising es → (s d : ℕ) → List·Memᴰ (s, d) es → (isEgress es s ≡ true) × (egressWalk es s ≡ d)
+pub egress-is : (es : List (ℕ × ℕ)) → EgressRising es → (s d : ℕ) → List·Memᴰ (s, d) es → (isEgress es s ≡ true) × (egressWalk es s ≡ d)
 egress-is es R s d m = (egress-found es s d m, egress-one es R s d m)
 
 -- an edge of the net is an edge of the table

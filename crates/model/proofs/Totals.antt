@@ -11,7 +11,7 @@ use lib.Dec.{ltb, eqb}
 use borrow.Author.Tests.{ltb-true, ltb-false, eq-eqb, ne-eqb}
 use Rattle.model.specs.Tables.{Tables, Query, isEgress, egressWalk, never, stops}
 use Rattle.model.specs.Search.{Arrivals, at, bestAfter, bestTarget, final, answer}
-use Rattle.model.specs.Door.{Door, Rising, none, more}
+use Rattle.model.specs.Door.{Door, EgressRising, none, more}
 use Rattle.model.proofs.Stores.{set-cases, set-there, lt-getD, getD-replicate-in, no-both}
 use Rattle.model.proofs.Steps.{Kept, run-keeps, improved-le}
 use Rattle.model.proofs.Runs.{final-ran}
@@ -20,7 +20,7 @@ use Rattle.model.proofs.Candidates.{best-lowest, best-of}
 use Rattle.model.proofs.Answers.{answer-lawful}
 
 -- an egress stop's one walk, where egress stops strictly rise
-egress-one : {es : List (ℕ × ℕ)} → Rising es → (s d : ℕ) → List·Memᴰ (s, d) es → (isEgress es s ≡ true) × (egressWalk es s ≡ d)
+egress-one : {es : List (ℕ × ℕ)} → EgressRising es → (s d : ℕ) → List·Memᴰ (s, d) es → (isEgress es s ≡ true) × (egressWalk es s ≡ d)
 unfolding isEgress egressWalk
 egress-one none s d m = absurd (List·Memᴰ·not-nil m)
 egress-one (more {s = u} {d = w} {es = es} h R) s d m =

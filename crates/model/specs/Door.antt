@@ -7,6 +7,7 @@ use mathlib.Core.List.{List, [], _∷_, List·Memᴰ}
 use Rattle.door.specs.Door.{timeLimit}
 use Rattle.realtime.specs.Times.{sizeOf}
 use Rattle.departures.specs.declared.DepartureRow.{DepartureRow}
+use Rattle.line_transfers.specs.Transfers.{Transfer}
 use Rattle.model.specs.Tables.{never, Tables, Origin, Query, stops, trips, stopCount, stopAt, arrival, departure}
 
 -- departures in order: none is earlier than one before it
@@ -16,9 +17,9 @@ pub data InOrder (T : Tables) : List DepartureRow → Type 0 where
       → InOrder T ds → InOrder T (d ∷ ds)
 
 -- egress stops strictly rising
-pub data Rising : List (ℕ × ℕ) → Type 0 where
-  none : Rising []
-  more : {s d : ℕ} {es : List (ℕ × ℕ)} → ((u e : ℕ) → List·Memᴰ (u, e) es → s < u) → Rising es → Rising ((s, d) ∷ es)
+pub data EgressRising : List (ℕ × ℕ) → Type 0 where
+  none : EgressRising []
+  more : {s d : ℕ} {es : List (ℕ × ℕ)} → ((u e : ℕ) → List·Memᴰ (u, e) es → s < u) → EgressRising es → EgressRising ((s, d) ∷ es)
 
 pub record Door (T : Tables) (Q : Query) : Type 0 where
   -- 1. are all counts within the limits?
@@ -50,7 +51,7 @@ pub record Door (T : Tables) (Q : Query) : Type 0 where
   pub window-end : (t i : ℕ) → t < trips T → i < T .timetable .trip t .windows → T .timetable .window (T .timetable .trip t .window + i) .end ≤ timeLimit
   pub window-headway : (t i : ℕ) → t < trips T → i < T .timetable .trip t .windows → T .timetable .window (T .timetable .trip t .window + i) .headway ≤ timeLimit
   pub edge-small : (e : ℕ) → e < T .timetable .edges → T .timetable .edge e .duration ≤ timeLimit
-  pub transfer-small : (t o : ℕ) → t < trips T → o < stopCount T t → (e : _) → List·Memᴰ e (T .transfers t o) → e .time ≤ timeLimit
+  pub transfer-small : (t o : ℕ) → t < trips T → o < stopCount T t → (e : Transfer) → List·Memᴰ e (T .transfers t o) → e .time ≤ timeLimit
   pub origin-small : (a : Origin) → List·Memᴰ a (Q .origins) → a .duration ≤ timeLimit
   pub egress-small : (s d : ℕ) → List·Memᴰ (s, d) (Q .egress) → d ≤ timeLimit
   pub start-small : Q .start ≤ timeLimit
@@ -60,4 +61,4 @@ pub record Door (T : Tables) (Q : Query) : Type 0 where
   pub arrival-delay-small : (j : ℕ) → j < Q .delays .stopRows → sizeOf (Q .delays .stopRow j .«arrival_delay») ≤ timeLimit
   -- 6. are departures and egress stops in order?
   pub departures-sorted : (s : ℕ) → s < stops T → InOrder T (T .departures s)
-  pub egress-rising : Rising (Q .egress)
+  pub egress-rising : EgressRising (Q .egress)

@@ -13,7 +13,7 @@ ghost use Rattle.departures.specs.Departures.{rowAt, rowDeparture, departuresOf
 ghost use Rattle.departures.specs.Listed.{RunsListed, RowsKnown, RowsListed};
 ghost use Rattle.asking.specs.Lent.{marksAt, transferRunsAt, querySize, delaysOf, stopRuns, departureRows, lent};
 ghost use Rattle.asking.specs.Door.{columnAt, lineNumbers, queryNumbers, question4, markRanges, transferRanges, settingRanges, walkRanges, question5, partOrder, departureOrder, columnRises, question6, verdict};
-ghost use Rattle.asking.specs.Sane.{Limits, Sized, Placed};
+ghost use Rattle.asking.specs.Sane.{Limits, ReadSized, Placed};
 ghost use Rattle.asking.specs.Once.{Leaving, RunRight, InTurn, queryOk, tablesOk, Passed};
 ghost use Rattle.delay_tables.specs.Asked.{rowsAsked};
 use asking::Lengths;
@@ -58,7 +58,7 @@ fn delays_ok(question: u32, q: &[u32], n: QueryCounts) -> bool
 
 // Question 4.
 fn numbers_ok(t: &[u32], built: &[u32], q: &[u32], n: QueryCounts, rows: usize) -> bool
-    requires { ⌜ Limits n ⌝ ∗ ⌜ Sized (now t) n (length (now built)) (length (now q)) ⌝ ∗ ⌜ Placed (now t) (now built) n rows ⌝ }
+    requires { ⌜ Limits n ⌝ ∗ ⌜ ReadSized (now t) n (length (now built)) (length (now q)) ⌝ ∗ ⌜ Placed (now t) (now built) n rows ⌝ }
     ensures { λ r. ⌜ r ≡ question4 (now (t .entry)) (now (built .entry)) (now (q .entry)) n ⌝ }
 {
     let c = n.timetable;
@@ -129,7 +129,7 @@ fn ranges_ok(
     n: QueryCounts,
     rows: usize,
 ) -> bool
-    requires { ⌜ Limits n ⌝ ∗ ⌜ Sized (now t) n (length (now built)) (length (now q)) ⌝ ∗ ⌜ rows * 4 ≤ length (now transfers) ⌝ }
+    requires { ⌜ Limits n ⌝ ∗ ⌜ ReadSized (now t) n (length (now built)) (length (now q)) ⌝ ∗ ⌜ rows * 4 ≤ length (now transfers) ⌝ }
     ensures { λ r. ⌜ r ≡ question5 (now (t .entry)) (now (built .entry)) (now (transfers .entry)) (now (q .entry)) n rows ⌝ }
 {
     let tables = both(
@@ -235,7 +235,7 @@ fn egress_order(q: &[u32], at: usize, count: usize) -> bool
 
 // Question 6.
 fn order_ok(t: &[u32], built: &[u32], q: &[u32], n: QueryCounts) -> bool
-    requires { ⌜ Limits n ⌝ ∗ ⌜ Sized (now t) n (length (now built)) (length (now q)) ⌝ ∗ ⌜ RowsListed (now t) (n .timetable) (stopRuns (now built) n) (departureRows (now built) n) (n .departures) ⌝ }
+    requires { ⌜ Limits n ⌝ ∗ ⌜ ReadSized (now t) n (length (now built)) (length (now q)) ⌝ ∗ ⌜ RowsListed (now t) (n .timetable) (stopRuns (now built) n) (departureRows (now built) n) (n .departures) ⌝ }
     ensures { λ r. ⌜ r ≡ question6 (now (t .entry)) (now (built .entry)) (now (q .entry)) n ⌝ }
 {
     let c = n.timetable;
@@ -348,7 +348,7 @@ fn passed(
     n: QueryCounts,
     rows: usize,
 ) -> bool
-    requires { ⌜ Limits n ⌝ ∗ ⌜ Sized (now t) n (length (now built)) (length (now q)) ⌝ ∗ ⌜ Placed (now t) (now built) n rows ⌝ ∗ ⌜ rows * 4 ≤ length (now transfers) ⌝ }
+    requires { ⌜ Limits n ⌝ ∗ ⌜ ReadSized (now t) n (length (now built)) (length (now q)) ⌝ ∗ ⌜ Placed (now t) (now built) n rows ⌝ ∗ ⌜ rows * 4 ≤ length (now transfers) ⌝ }
     ensures { λ r. ⌜ (r ≡ true → Passed (now (t .entry)) (now (built .entry)) (now (transfers .entry)) (now (q .entry)) n rows) ⌝ }
 {
     if !query_ok(q, n) {

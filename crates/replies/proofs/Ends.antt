@@ -25,7 +25,7 @@ use Rattle.asking.proofs.Parts.{egress-size, egress-are, part-at, query-room}
 use Rattle.asking.proofs.Laws.{door-of}
 use Rattle.begin.specs.Begin.{layOf}
 use Rattle.round.specs.Rounds.{Ended}
-use Rattle.replies.specs.Parts.{Ending, Agrees}
+use Rattle.replies.specs.Parts.{Ending, AnswerAgrees}
 
 module _ (x : Lent) (l : Lengths) (A : Admitted x l) where
   egress-ok : EgressOk (x .n .timetable .stops) (egressPart (x .q) (x .n))
@@ -74,7 +74,7 @@ module _ (x : Lent) (l : Lengths) (A : Admitted x l) where
         go s r u v zero e = omega arith
         go s r u v (suc k) e = omega (arith, final-arrival (tablesOf x) (queryOf x) (door-of x l A) flagged s r k u v (ap reachedBy (label-at s r u v) ∙ e))
 
-    pub agrees : Agrees (tablesOf x) (queryOf x) end (x .n) (x .q) w ls m
+    pub agrees : AnswerAgrees (tablesOf x) (queryOf x) end (x .n) (x .q) w ls m
     agrees =
         record {
           reached = record { at = reached-at };

@@ -19,8 +19,8 @@ use Rattle.totals.specs.Totals.{EgressOk, candidateAt, candidatesIn, ZeroFrom}
 use Rattle.asking.specs.declared.QueryCounts.{QueryCounts}
 use Rattle.asking.specs.Lent.{egressPart}
 use Rattle.replies.specs.declared.Reply.{Reply}
-use Rattle.replies.specs.Outcome.{reply, candidateWords}
-use Rattle.replies.specs.Parts.{Ending, Agrees, bestOf, chosenOf, candidateRows, Replied}
+use Rattle.replies.specs.Outcome.{reply, candidateWords, candidateRows}
+use Rattle.replies.specs.Parts.{Ending, AnswerAgrees, bestOf, chosenOf, Replied}
 
 -- the candidates from the i-th on, and what follows them
 words-from : (out : List ℕ) (i m : ℕ) → (i + m) * 3 ≤ length out → drop (i * 3) out ≡ candidateWords (tabFrom (candidateAt out) i m) ++ drop ((i + m) * 3) out
@@ -62,7 +62,7 @@ module _ (T : Tables) (Q : Query) (a : Arrivals) where
   abbrev by-test : Bool → List (ℕ × ℕ × ℕ)
   by-test t = elim t as (λ w. List (ℕ × ℕ × ℕ)) [ true ↦ [] | false ↦ candidatesFrom T Q a (bestOf T Q a .0) (suc (roundsOf Q)) 0 never ]
 
-  module _ {n : QueryCounts} {q work labels : List ℕ} {distances : List Float} (g : Agrees T Q a n q work labels distances) where
+  module _ {n : QueryCounts} {q work labels : List ℕ} {distances : List Float} (g : AnswerAgrees T Q a n q work labels distances) where
     best-is : (b : ℕ × ℕ) (egress : List ℕ) → egress ≡ egressPart q n → b ≡ bestTarget T Q a (egressRows egress) (never, never) → b ≡ bestOf T Q a
     best-is b egress ee e = e ∙ ap (λ (l : List (ℕ × ℕ)). bestTarget T Q a l (never, never)) (ap egressRows ee ∙ sym (g .egress))
 

@@ -66,6 +66,10 @@ unfoldable pub candidateWords : List (ℕ × ℕ × ℕ) → List ℕ
 candidateWords [] = []
 candidateWords (c ∷ cs) = c .0 ∷ c .1 ∷ c .2 ∷ candidateWords cs
 
+-- the candidate rows lent, zero past the last candidate
+abbrev pub candidateRows : List (ℕ × ℕ × ℕ) → List ℕ
+candidateRows cs = candidateWords cs ++ replicate (39 - length cs * 3) 0
+
 -- answered: total, stop and how many candidates ("no way": 4,294,967,295, 4,294,967,295, 0); labels; workspace and queue zero;
 -- candidate rows, zero past the last
 abbrev pub answered : Answer → Areas → Outcome
@@ -73,7 +77,7 @@ answered a s =
     record {
       reply = reply 0 (a .total) (a .stop) (length (a .candidates));
       areas = areas (wordsOfAll (a .labels)) (distancesOfAll (a .labels)) (cleared (s .work)) (cleared (s .queueA)) (cleared (s .queueB))
-          (candidateWords (a .candidates) ++ replicate (39 - length (a .candidates) * 3) 0);
+          (candidateRows (a .candidates));
     }
 
 -- the first question answered no decides: of 1 to 6 by the verdict, then of 8

@@ -13,12 +13,12 @@ use Rattle.line_transfers.specs.Transfers.{eventsBefore}
 use Rattle.model.specs.Tables.{Tables, Query, roundsOf, never}
 use Rattle.model.specs.Search.{Arrivals, Answer, useArcFlags, flagsInUse, bestTarget, candidatesFrom, answer}
 use Rattle.flags.specs.Flags.{PatternsOk, RunsIn, egressRows}
-use Rattle.totals.specs.Totals.{EgressOk, EarliestOk, LabelsOk, Reached, Labelled}
+use Rattle.totals.specs.Totals.{EgressOk, EarliestOk, LabelsOk, EarliestAre, Labelled}
 use Rattle.asking.specs.declared.QueryCounts.{QueryCounts}
 use Rattle.asking.specs.Lent.{Lent, tablesOf, queryOf, transferRunsAt, transferRuns, querySize, egressPart}
 use Rattle.asking.specs.Sane.{Limits, Admitted}
 use Rattle.replies.specs.declared.Reply.{Reply}
-use Rattle.replies.specs.Outcome.{Areas, areas, Outcome, reply, cleared, overflown, candidateWords, runTbrOutcome, queryOutcome}
+use Rattle.replies.specs.Outcome.{Areas, areas, Outcome, reply, cleared, overflown, runTbrOutcome, queryOutcome, candidateRows}
 
 -- the outcome of `run_tbr`, or of `query`
 abbrev pub outcomeBy : Bool → Lent → Areas → Outcome
@@ -45,7 +45,7 @@ pub record Flagging (n : QueryCounts) (t built transfers patterns : List ℕ) : 
   pub runs : RunsIn (transferRuns built n) transfers (eventsBefore (timetable t (n .timetable)) (n .timetable .trips))
 
 -- the door admits what is lent, with areas of these lengths
-pub record Opened (x : Lent) (labels distances work queueA queueB : ℕ) : Type 0 where
+pub record AdmittedWith (x : Lent) (labels distances work queueA queueB : ℕ) : Type 0 where
   pub candidates : ℕ
   pub admitted : Admitted x (record { labels = labels; «label_distances» = distances; work = work; «queue_a» = queueA; «queue_b» = queueB; candidates = candidates })
 
@@ -58,8 +58,8 @@ pub record Ending (n : QueryCounts) (q work labels : List ℕ) (distances : List
   pub labels-ok : LabelsOk (n .timetable .stops) labels distances
 
 -- tables, a query and its last state that agree with it
-pub record Agrees (T : Tables) (Q : Query) (a : Arrivals) (n : QueryCounts) (q work labels : List ℕ) (distances : List Float) : Type 0 where
-  pub reached : Reached a (n .timetable .stops) work
+pub record AnswerAgrees (T : Tables) (Q : Query) (a : Arrivals) (n : QueryCounts) (q work labels : List ℕ) (distances : List Float) : Type 0 where
+  pub reached : EarliestAre a (n .timetable .stops) work
   pub labelled : Labelled a (n .timetable .stops) labels distances
   pub egress : Q .egress ≡ egressRows (egressPart q n)
   pub slack : Q .settings .candidateSlack ≡ 3600
@@ -71,10 +71,6 @@ bestOf T Q a = bestTarget T Q a (Q .egress) (never, never)
 
 abbrev pub chosenOf : Tables → Query → Arrivals → List (ℕ × ℕ × ℕ)
 chosenOf T Q a = elim (eqb (bestOf T Q a .0) never) [ true ↦ [] | false ↦ candidatesFrom T Q a (bestOf T Q a .0) (suc (roundsOf Q)) 0 never ]
-
--- candidate rows, zero past the last
-abbrev pub candidateRows : List (ℕ × ℕ × ℕ) → List ℕ
-candidateRows cs = candidateWords cs ++ replicate (39 - length cs * 3) 0
 
 -- the reply and the candidate rows say them
 pub record Replied (T : Tables) (Q : Query) (a : Arrivals) (r : Reply) (rows : List ℕ) : Type 0 where
@@ -88,5 +84,5 @@ left s rows = areas (s .labels) (s .distances) (cleared (s .work)) (cleared (s .
 -- after the rounds, which left the areas so: 8 where a queue was full, else the answer
 pub record Finished (n : QueryCounts) (q : List ℕ) (full : Bool) (s s′ : Areas) (r : Reply) : Type 0 where
   pub over : full ≡ true → outcome r s′ ≡ overflown s
-  pub replied : full ≡ false → (T : Tables) (Q : Query) (a : Arrivals) → Agrees T Q a n q (s .work) (s .labels) (s .distances) → Replied T Q a r (s′ .candidates)
+  pub replied : full ≡ false → (T : Tables) (Q : Query) (a : Arrivals) → AnswerAgrees T Q a n q (s .work) (s .labels) (s .distances) → Replied T Q a r (s′ .candidates)
   pub rest : full ≡ false → s′ ≡ left s (s′ .candidates)

@@ -8,7 +8,7 @@ ghost use lib.ListN.{length};
 ghost use Rattle.model.specs.Tables.{Tables, Query};
 ghost use Rattle.model.specs.Search.{Arrivals};
 ghost use Rattle.replies.specs.Outcome.{areas, cleared};
-ghost use Rattle.replies.specs.Parts.{Ending, Agrees, Replied, Finished};
+ghost use Rattle.replies.specs.Parts.{Ending, AnswerAgrees, Replied, Finished};
 use asking::QueryCounts;
 use scratch::Head;
 
@@ -31,7 +31,7 @@ fn reply_of(
     candidates: &mut [u32],
 ) -> Reply
     requires { ⌜ Ending n (now q) (now work) (now labels) (now «label_distances») ⌝ ∗ ⌜ length (now candidates) ≡ 39 ⌝ }
-    ensures { λ r. ⌜ ((T : Tables) (Q : Query) (a : Arrivals) → Agrees T Q a n (now (q .entry)) (now (work .entry)) (now (labels .entry)) (now («label_distances» .entry)) → Replied T Q a r (now (candidates .exit))) ⌝ }
+    ensures { λ r. ⌜ ((T : Tables) (Q : Query) (a : Arrivals) → AnswerAgrees T Q a n (now (q .entry)) (now (work .entry)) (now (labels .entry)) (now («label_distances» .entry)) → Replied T Q a r (now (candidates .exit))) ⌝ }
 {
     let stops = n.timetable.stops;
     let egress = asking::egress_rows(q, n);

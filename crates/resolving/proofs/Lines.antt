@@ -20,7 +20,7 @@ use Rattle.model.specs.Search.{lineAt, lineTripsAt, resolveIn, resolve}
 use Rattle.boarding.specs.declared.Tried.{Tried}
 use Rattle.boarding.specs.declared.Tried.the-variants.{Next, Stop, Take}
 use Rattle.boarding.specs.declared.Lined.{Lined}
-use Rattle.boarding.specs.Resolving.{tried, goOn, Listed, Names, runFirst, runCount, LinesHeld, LinesOf}
+use Rattle.boarding.specs.Resolving.{tried, goOn, TripsAt, Names, runFirst, runCount, LinesHeld, LinesOf}
 use Rattle.boarding.proofs.Laws.{left, left-first, left-step, left-end}
 
 -- the line of a trip
@@ -152,7 +152,7 @@ module _ (T : Tables) (Q : Query) (e : Transfer) (after best : ℕ) (c : Counts)
         | false ↦ resolveIn T Q f (e .offset) after best (λ p. e .target) (min 1 (Q .settings .lineScan)) 0
       ]) z) ∙ all m
 
-  pub stands-listed : (from k : ℕ) → k ≡ min (runCount n built line - p) scan → from ≡ n .entries + runFirst n built line + p → Listed (T .line line .trip) p built from k
+  pub stands-listed : (from k : ℕ) → k ≡ min (runCount n built line - p) scan → from ≡ n .entries + runFirst n built line + p → TripsAt (T .line line .trip) p built from k
   stands-listed from k ek ef′ =
       record { place = λ j l. h .entry line (p + j) u (omega (arith, min-le-left (runCount n built line - p) scan)) ∙ ap (λ (x : ℕ). getD built x 0) (omega arith) }
 

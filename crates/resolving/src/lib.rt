@@ -14,7 +14,7 @@ ghost use Rattle.model.specs.Tables.{Tables, Query, noWindows, departure};
 ghost use Rattle.model.specs.Search.{marginOf, lineAt, resolveIn, resolve};
 ghost use Rattle.line_transfers.specs.Transfers.{Transfer};
 ghost use Rattle.boarding.specs.Reads.{Ground, Event, Agree, Asks};
-ghost use Rattle.boarding.specs.Resolving.{weighed, tried, resolvedOf, Listed, Names, linedOf, LinesHeld, LinesOf};
+ghost use Rattle.boarding.specs.Resolving.{weighed, tried, resolvedOf, TripsAt, Names, linedOf, LinesHeld, LinesOf};
 use boarding::Lined;
 use boarding::Resolved;
 use boarding::Terms;
@@ -107,7 +107,7 @@ fn resolve_in(
     best: u32,
 ) -> Resolved
     requires { ⌜ Ground (now t) c (now rows) (now «stop_rows») ⌝ ∗ ⌜ after < 134217728 ⌝ ∗ ⌜ from + k ≤ length (now built) ⌝ }
-    ensures { λ r. ⌜ ((T : Tables) (Q : Query) (trip : ℕ → ℕ) (p : ℕ) → Agree T Q (now (t .entry)) c (now (rows .entry)) (now («stop_rows» .entry)) → Asks Q w → Listed trip p (now (built .entry)) from k → resolvedOf r ≡ resolveIn T Q «is_fifo» off after best trip k p) ⌝ }
+    ensures { λ r. ⌜ ((T : Tables) (Q : Query) (trip : ℕ → ℕ) (p : ℕ) → Agree T Q (now (t .entry)) c (now (rows .entry)) (now («stop_rows» .entry)) → Asks Q w → TripsAt trip p (now (built .entry)) from k → resolvedOf r ≡ resolveIn T Q «is_fifo» off after best trip k p) ⌝ }
 {
     let mut j: usize = 0;
     while j < k {

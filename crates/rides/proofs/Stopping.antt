@@ -23,15 +23,15 @@ use Rattle.model.specs.Door.{InOrder}
 use Rattle.scratch.specs.declared.Lay.{Lay}
 use Rattle.scratch.specs.declared.Head.{Head}
 use Rattle.scratch.specs.Part.{part}
-use Rattle.scratch.specs.Places.{Sized}
+use Rattle.scratch.specs.Places.{Sized, otherAt}
 use Rattle.scratch.specs.View.{Memory, memory}
 use Rattle.scratch.proofs.Part.{first-at, part-at, part-length}
 use Rattle.asking.specs.declared.QueryCounts.{QueryCounts}
 use Rattle.asking.specs.Lent.{marksAt, stopRuns, departureRows}
 use Rattle.asking.proofs.Converse.{order-next}
 use Rattle.alighting.specs.declared.Net.{Net}
-use Rattle.listed.specs.Listed.{Ordered}
-use Rattle.riding.specs.Laid.{Rides, Laid, Kept, otherAt, Waiting}
+use Rattle.listed.specs.Listed.{RowsOrdered}
+use Rattle.riding.specs.Laid.{Rides, Laid, Kept, Waiting}
 use Rattle.riding.specs.Phase.{Seen}
 use Rattle.riding.specs.Going.{Going, Rode, Changing}
 use Rattle.rides.specs.Scanned.{listAt, rowsIn, scanned}
@@ -123,7 +123,7 @@ module _ {n : QueryCounts} {t rows stopRows built bytes area : List ℕ} {net : 
   rows-are : (T : Tables) (Q : Query) → Rides n t rows stopRows built bytes area net lay w T Q → T .departures x ≡ rowsOf list (length list / 2)
   rows-are T Q y = y .departures x in-stops ∙ ap₂ (λ (l : List ℕ) (k : ℕ). rowsOf l k) (sym is) (sym halves)
 
-  pub list-ordered : Ordered t (n .timetable) list (length list / 2)
+  pub list-ordered : RowsOrdered t (n .timetable) list (length list / 2)
   list-ordered =
       record {
         known = list-known;
@@ -156,11 +156,11 @@ module _ (t : List ℕ) (c : Counts) (list d : List ℕ) (mark : Bool) (m : ℕ)
   abbrev Found : List ℕ → Type 0
   Found r = RowsKnown t c r (length r / 2) × ((T : Tables) → T .timetable ≡ timetable t c → rowsIn r ≡ scanned T mark m (rowsIn list))
 
-  pub all-scanned : mark ≡ true → Ordered t c list (length list / 2) → Found d
+  pub all-scanned : mark ≡ true → RowsOrdered t c list (length list / 2) → Found d
   all-scanned e o =
       (subst (λ (l : List ℕ). RowsKnown t c l (length l / 2)) (sym is) (o .known), λ T y. ap rowsIn is ∙ ap (λ (b : Bool). scanned T b m (rowsIn list)) (sym e))
 
-  pub late-scanned : mark ≡ false → (r : List ℕ) → Ordered t c r (length r / 2) → ((T : Tables) → T .timetable ≡ timetable t c → rowsIn r ≡ notBefore T m (rowsIn d)) → Found r
+  pub late-scanned : mark ≡ false → (r : List ℕ) → RowsOrdered t c r (length r / 2) → ((T : Tables) → T .timetable ≡ timetable t c → rowsIn r ≡ notBefore T m (rowsIn d)) → Found r
   late-scanned e r o g = (o .known, λ T y. g T y ∙ ap (λ (l : List ℕ). notBefore T m (rowsIn l)) is ∙ ap (λ (b : Bool). scanned T b m (rowsIn list)) (sym e))
 
 -- ONE STOP

@@ -19,7 +19,7 @@ ghost use Rattle.scratch.specs.Part.{part};
 ghost use Rattle.scratch.specs.View.{memory};
 ghost use Rattle.asking.specs.Lent.{marksAt, stopRuns};
 ghost use Rattle.asking.specs.Sane.{Limits};
-ghost use Rattle.listed.specs.Listed.{Ordered};
+ghost use Rattle.listed.specs.Listed.{RowsOrdered};
 ghost use Rattle.riding.specs.Laid.{Rides, Laid, Waiting};
 ghost use Rattle.riding.specs.Phase.{Opening, RidePhase};
 ghost use Rattle.riding.specs.Going.{Going, Rode, Changing};
@@ -57,7 +57,7 @@ fn departures_from<'a>(
     has_freq: bool,
     m: u32,
 ) -> &'a [u32]
-    requires { ⌜ Limits n ⌝ ∗ ⌜ marksAt n ≤ length (now built) ⌝ ∗ ⌜ RunsListed (n .timetable) (stopRuns (now built) n) (n .departures) ⌝ ∗ ⌜ x < n .timetable .stops ⌝ ∗ ⌜ Ordered (now t) (n .timetable) (listAt (now built) n x) (length (listAt (now built) n x) / 2) ⌝ }
+    requires { ⌜ Limits n ⌝ ∗ ⌜ marksAt n ≤ length (now built) ⌝ ∗ ⌜ RunsListed (n .timetable) (stopRuns (now built) n) (n .departures) ⌝ ∗ ⌜ x < n .timetable .stops ⌝ ∗ ⌜ RowsOrdered (now t) (n .timetable) (listAt (now built) n x) (length (listAt (now built) n x) / 2) ⌝ }
     ensures { λ r. ⌜ RowsKnown (now (t .entry)) (n .timetable) (now r) (length (now r) / 2) ⌝ ∗ ⌜ ((T : Tables) → T .timetable ≡ timetable (now (t .entry)) (n .timetable) → rowsIn (now r) ≡ scanned T «has_freq» m (rowsIn (listAt (now (built .entry)) n x))) ⌝ }
 {
     let list = listed::departures_at(n, built, x);

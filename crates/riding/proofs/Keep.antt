@@ -14,7 +14,7 @@ use Rattle.model.specs.Tables.{Tables, Query}
 use Rattle.scratch.specs.declared.Lay.{Lay}
 use Rattle.scratch.specs.declared.Head.{Head}
 use Rattle.scratch.specs.Part.{part}
-use Rattle.scratch.specs.Places.{Sized, Same, EgressTable, restAt}
+use Rattle.scratch.specs.Places.{Sized, Same, EgressTable, restAt, otherAt, Falls}
 use Rattle.scratch.specs.View.{memory}
 use Rattle.scratch.specs.Step.{Ready}
 use Rattle.scratch.proofs.Part.{part-at, drop-at}
@@ -24,8 +24,8 @@ use Rattle.boardings.proofs.Kept.{noted-at, walks-noted, part-noted}
 use Rattle.asking.specs.declared.QueryCounts.{QueryCounts}
 use Rattle.alighting.specs.declared.Net.{Net}
 use Rattle.alighting.specs.Scan.{eventAt, runAt, Nets, Netted}
-use Rattle.riding.specs.Laid.{eventsAt, Rides, Laid, Kept, otherAt, Waiting}
-use Rattle.riding.specs.Going.{Falls, Changing}
+use Rattle.riding.specs.Laid.{eventsAt, Rides, Laid, Kept, Waiting}
+use Rattle.riding.specs.Going.{Changing}
 
 pub kept-refl : (lay : Lay) (w : List ℕ) → Kept lay w w
 kept-refl lay w = record { size = refl; list = refl; rest = λ i l h. refl }
@@ -176,12 +176,6 @@ module _ {n : QueryCounts} {t rows stopRows built bytes area : List ℕ} {net : 
 pub other-kept : {lay : Lay} {w w′ : List ℕ} (i : ℕ) → Kept lay w w′ → i < lay .stops + 64 → otherAt lay w′ i ≡ otherAt lay w i
 other-kept {lay} {w} {w′} i k h =
     sym (part-at w′ (lay .other) (lay .stops + 64) i h) ∙ ap (λ (l : List ℕ). getD l i 0) (k .list) ∙ part-at w (lay .other) (lay .stops + 64) i h
-
-pub falls-refl : (lay : Lay) (w : List ℕ) → Falls lay w w
-falls-refl lay w = record { earlier = λ x h. omega arith }
-
-pub falls-then : {lay : Lay} {a b c : List ℕ} → Falls lay a b → Falls lay b c → Falls lay a c
-falls-then p q = record { earlier = λ x h. omega (arith, p .earlier x h, q .earlier x h) }
 
 pub waiting-kept : {lay : Lay} {w w′ : List ℕ} {n : ℕ} → Waiting lay w n → Kept lay w w′ → Falls lay w w′ → Waiting lay w′ n
 waiting-kept {lay} {w} {w′} {n} p k f =

@@ -15,8 +15,10 @@ use Rattle.pruning.specs.Books.{Chains}
 use Rattle.alighting.specs.Scan.{Open}
 use Rattle.riding.specs.Laid.{Kept}
 use Rattle.riding.specs.Phase.{Seen}
-use Rattle.riding.specs.Going.{Falls, Rode}
-use Rattle.riding.proofs.Keep.{kept-refl, kept-then, falls-refl, falls-then}
+use Rattle.riding.specs.Going.{Rode}
+use Rattle.riding.proofs.Keep.{kept-refl, kept-then}
+use Rattle.scratch.specs.Places.{Falls}
+use Rattle.scratch.proofs.Falls.{falls-refl, falls-then}
 
 -- what is left to do from the state reached is the whole from the state at first, and all segments fit so far
 pub record Riding (lay : Lay) (stamp : ℕ) (agree : Tables → Query → Type 0) (whole rest : Tables → Query → State → State) (a b : Memory) (q r : List ℕ) : Type 0 where

@@ -21,7 +21,7 @@ use Rattle.model.proofs.Sizes.{boards-soon}
 use Rattle.scratch.specs.declared.Lay.{Lay}
 use Rattle.scratch.specs.declared.Head.{Head}
 use Rattle.scratch.specs.declared.Ride.{Ride}
-use Rattle.scratch.specs.Places.{Sized, stampsOf}
+use Rattle.scratch.specs.Places.{Sized, stampsOf, Falls}
 use Rattle.scratch.specs.View.{Memory, memory, arrivalsOf}
 use Rattle.scratch.specs.Step.{Ready, QueueStep}
 use Rattle.scratch.proofs.Part.{first-at, part-length, tally-le}
@@ -32,13 +32,14 @@ use Rattle.boardings.proofs.Rounds.{chains-kept, books-kept}
 use Rattle.asking.specs.declared.QueryCounts.{QueryCounts}
 use Rattle.alighting.specs.declared.Net.{Net}
 use Rattle.alighting.specs.Scan.{Nets, Netted, Riding}
-use Rattle.listed.specs.Listed.{Chained, AsBoarded}
+use Rattle.listed.specs.Listed.{RoundChains, AsBoarded}
 use Rattle.riding.specs.Laid.{Rides, Kept}
 use Rattle.riding.specs.Phase.{Seen}
-use Rattle.riding.specs.Going.{Going, Falls, Rode, taken, takenBy}
+use Rattle.riding.specs.Going.{Going, Rode, taken, takenBy}
 use Rattle.riding.proofs.Later.{scan-later}
-use Rattle.riding.proofs.Keep.{kept-then, kept-same, kept-noted, read-of, nets-kept, laid-kept, agrees-of, falls-then}
+use Rattle.riding.proofs.Keep.{kept-then, kept-same, kept-noted, read-of, nets-kept, laid-kept, agrees-of}
 use Rattle.riding.proofs.Riding.{ride-none, ride-as}
+use Rattle.scratch.proofs.Falls.{falls-then}
 
 -- the working numbers are so many, whatever the labels are
 pub sized-work : {lay : Lay} {n b d : ℕ} → Sized lay n b d → Sized lay n (lay .stops * 104) (lay .stops * 13)
@@ -62,7 +63,7 @@ books-logged round t o b k =
 
 module _ {n : QueryCounts} {t rows stopRows built bytes area : List ℕ} {net : Net} {lay : Lay} {stamp : ℕ} {w l : List ℕ} {m : List Float} {h : Head} {q : List ℕ}
     (G : Going n t rows stopRows built bytes area net lay stamp (memory w l m h) q) where
-  pub chained : Chained lay stamp (n .timetable) built w
+  pub chained : RoundChains lay stamp (n .timetable) built w
   chained =
       record {
         sized = sized-work (G .ready .sized);

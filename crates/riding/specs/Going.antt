@@ -19,6 +19,7 @@ use Rattle.alighting.specs.declared.Net.{Net}
 use Rattle.alighting.specs.Scan.{Open}
 use Rattle.riding.specs.Laid.{Rides, Laid}
 use Rattle.riding.specs.Phase.{RideStep}
+use Rattle.scratch.specs.Places.{Falls}
 
 -- a state from which a part of the ride phase may go on: what it reads is laid, and no segment was refused so far
 pub record Going (n : QueryCounts) (t rows stopRows built bytes area : List ℕ) (net : Net) (lay : Lay) (stamp : ℕ) (a : Memory) (queue : List ℕ) : Type 0 where
@@ -26,10 +27,6 @@ pub record Going (n : QueryCounts) (t rows stopRows built bytes area : List ℕ)
   pub ready : Ready lay stamp a
   pub chains : Chains lay stamp (a .work)
   pub room : Open (a .head) (length queue)
-
--- no stop's earliest arrival rises
-pub record Falls (lay : Lay) (w w′ : List ℕ) : Type 0 where
-  pub earlier : (x : ℕ) → x < lay .stops → getD w′ x 0 ≤ getD w x 0
 
 -- THE CONTRACT of a part of the ride phase: it boards as f does and, where all segments fit, raises no earliest arrival
 pub record Rode (lay : Lay) (stamp : ℕ) (agree : Tables → Query → Type 0) (f : Tables → Query → State → State) (a b : Memory) (q q′ : List ℕ) : Type 0 where

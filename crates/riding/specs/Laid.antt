@@ -11,7 +11,7 @@ use Rattle.departures.specs.Listed.{RowsListed}
 use Rattle.model.specs.Tables.{Tables, Query}
 use Rattle.scratch.specs.declared.Lay.{Lay}
 use Rattle.scratch.specs.Part.{part}
-use Rattle.scratch.specs.Places.{restAt}
+use Rattle.scratch.specs.Places.{restAt, otherAt}
 use Rattle.scratch.specs.View.{segmentAt}
 use Rattle.boarding.specs.Resolving.{linedOf}
 use Rattle.pruning.specs.Chain.{tripStampsAt}
@@ -46,10 +46,6 @@ pub record Kept (lay : Lay) (w w′ : List ℕ) : Type 0 where
   pub size : length w′ ≡ length w
   pub list : part w′ (lay .other) (lay .stops + 64) ≡ part w (lay .other) (lay .stops + 64)
   pub rest : (i : ℕ) → restAt lay ≤ i → i < tripStampsAt lay → getD w′ i 0 ≡ getD w i 0
-
--- the stop at place i of the other list
-abbrev pub otherAt : Lay → List ℕ → ℕ → ℕ
-otherAt lay w i = getD w (lay .other + i) 0
 
 -- the n stops of the other list, to be boarded at: each one of the table's, and reached by 108,003,224, the latest arrival
 pub record Waiting (lay : Lay) (w : List ℕ) (n : ℕ) : Type 0 where

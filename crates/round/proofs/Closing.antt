@@ -18,12 +18,12 @@ use Rattle.pruning.specs.Books.{Chains, Books}
 use Rattle.boardings.proofs.Rounds.{chains-rest, books-rest}
 use Rattle.asking.specs.declared.QueryCounts.{QueryCounts}
 use Rattle.alighting.specs.declared.Net.{Net}
-use Rattle.walks.specs.Walking.{Agree}
+use Rattle.walks.specs.Walking.{WalksAgree}
 use Rattle.walks.specs.Lists.{noted, Phase}
 use Rattle.riding.specs.Laid.{Rides, Laid}
 use Rattle.riding.specs.Phase.{RidePhase}
 use Rattle.round.specs.Rounds.{overflows}
-use Rattle.round.specs.Round.{stateAt, Fed, Holds, Opened, Round}
+use Rattle.round.specs.Round.{stateAt, Fed, Holds, BeforeRound, Round}
 use Rattle.round.proofs.Keep.{laid-walked, rides-walked}
 use Rattle.round.proofs.States.{overflow-none, ride-queued, state-ran, round-overflows}
 use Rattle.round.proofs.Opening.{rode-laid, rode-rides, seen, rulesOf, walk-agree, before-ride}
@@ -34,7 +34,7 @@ books-noted m k =
     record { tripStamp = k .tripStamp; boardOffset = k .boardOffset; boardDeparture = k .boardDeparture; own = k .own; held = k .held; test = k .test }
 
 module _ {n : QueryCounts} {t rows stopRows built bytes area : List ℕ} {distances : List Float} {net : Net} {lay : Lay} {flagged : Bool} {change r : ℕ} {a b : Memory} {from q q′ : List ℕ}
-    {stamp before : ℕ} (o : Opened n t rows stopRows built bytes area distances net lay flagged change r a from (length q)) (e : stamp ≡ suc (suc r))
+    {stamp before : ℕ} (o : BeforeRound n t rows stopRows built bytes area distances net lay flagged change r a from (length q)) (e : stamp ≡ suc (suc r))
     (ch : (Q : Query) → Q .change ≡ change → changeBefore Q r ≡ before)
     (p : RidePhase lay flagged stamp before (Rides n t rows stopRows built bytes area net lay (a .work)) a b from q q′) where
   abbrev laid-then : Laid n t rows stopRows built bytes area net lay (b .work)
@@ -55,7 +55,7 @@ module _ {n : QueryCounts} {t rows stopRows built bytes area : List ℕ} {distan
 
   -- A WHOLE ROUND
   module _ (f : b .head .full ≡ false) {d : Memory}
-      (ph : Phase lay flagged stamp (Agree lay (rulesOf n net flagged) t distances bytes (b .work)) b d) where
+      (ph : Phase lay flagged stamp (WalksAgree lay (rulesOf n net flagged) t distances bytes (b .work)) b d) where
     module _ (T : Tables) (Q : Query) (F : Fed n t distances change T Q) (H : Holds n t rows stopRows built bytes area net lay flagged T Q r a from) where
       abbrev u : State
       u = ridePhase T Q flagged r (stateAt T Q flagged r)

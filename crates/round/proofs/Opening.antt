@@ -27,8 +27,8 @@ use Rattle.boardings.proofs.Rounds.{chains-next, books-next}
 use Rattle.asking.specs.declared.QueryCounts.{QueryCounts}
 use Rattle.alighting.specs.declared.Net.{Net}
 use Rattle.walks.specs.declared.Rules.{Rules}
-use Rattle.walks.specs.Walking.{Ground, Agree}
-use Rattle.walks.specs.Lists.{Listed}
+use Rattle.walks.specs.Walking.{WalkGround, WalksAgree}
+use Rattle.walks.specs.Lists.{StopsListed}
 use Rattle.riding.specs.Laid.{Rides as Riding, Laid}
 use Rattle.riding.proofs.Keep.{rides-kept, laid-kept}
 use Rattle.riding.specs.Phase.{Opening, Before, Seen, RidePhase}
@@ -130,7 +130,7 @@ module _ {n : QueryCounts} {t rows stopRows built bytes area : List ℕ} {distan
     pub seen : b .head .full ≡ false → Seen lay stamp T Q b q′ (ridePhase T Q flagged r s₀)
     seen f = p .view f T Q (H .rides) r e ch s₀ (before-ride stamp e)
 
-    pub walkers : b .head .full ≡ false → Listed (turned lay) (b .work) (b .head .count)
+    pub walkers : b .head .full ≡ false → StopsListed (turned lay) (b .work) (b .head .count)
     walkers f =
         let few : b .head .count ≤ lay .stops = counted-stops lay (b .work) (p .ready .sized .sections) stamp (b .head .count) (p .ready .counted) in
         let A = ridePhase T Q flagged r s₀ .arrivals in
@@ -151,7 +151,7 @@ rulesOf n net flagged = record { counts = n .timetable; patterns = net .patterns
 
 module _ {n : QueryCounts} {t rows stopRows built bytes area : List ℕ} {distances : List Float} {net : Net} {lay : Lay} {change : ℕ} {w : List ℕ} {T : Tables} {Q : Query} (flagged : Bool)
     (L : Laid n t rows stopRows built bytes area net lay w) (F : Fed n t distances change T Q) where
-  pub walk-ground : Ground lay (rulesOf n net flagged) t (length distances) (length bytes)
+  pub walk-ground : WalkGround lay (rulesOf n net flagged) t (length distances) (length bytes)
   walk-ground =
       record {
         sane = L .netted .ground .sane;
@@ -162,7 +162,7 @@ module _ {n : QueryCounts} {t rows stopRows built bytes area : List ℕ} {distan
         bytes = L .netted .patterns .long;
       }
 
-  pub walk-agree : Riding n t rows stopRows built bytes area net lay w T Q → Agree lay (rulesOf n net flagged) t distances bytes w T Q
+  pub walk-agree : Riding n t rows stopRows built bytes area net lay w T Q → WalksAgree lay (rulesOf n net flagged) t distances bytes w T Q
   walk-agree g =
       record {
         timetable = g .nets .agree .timetable;

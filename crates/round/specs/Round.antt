@@ -67,7 +67,7 @@ pub record Reached (n : QueryCounts) (t rows stopRows built bytes area : List �
   pub over : a .head .full ≡ true → overflows (length q / 4) (stateAt T Q flagged r .boardings .queued) ≡ true
 
 -- some tables and query are so before round r, which has room for so many numbers
-pub record Opened (n : QueryCounts) (t rows stopRows built bytes area : List ℕ) (distances : List Float) (net : Net) (lay : Lay) (flagged : Bool) (change r : ℕ) (a : Memory) (q : List ℕ) (room : ℕ) : Type 0 where
+pub record BeforeRound (n : QueryCounts) (t rows stopRows built bytes area : List ℕ) (distances : List Float) (net : Net) (lay : Lay) (flagged : Bool) (change r : ℕ) (a : Memory) (q : List ℕ) (room : ℕ) : Type 0 where
   pub between : Between n t rows stopRows built bytes area net lay a
   pub T : Tables
   pub Q : Query

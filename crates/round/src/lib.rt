@@ -6,7 +6,7 @@ ghost use mathlib.Core.Path.{_≡_};
 ghost use lib.ListN.{length};
 ghost use Rattle.model.specs.Tables.{Query, changeBefore};
 ghost use Rattle.scratch.specs.View.{memory};
-ghost use Rattle.round.specs.Round.{Opened, Round};
+ghost use Rattle.round.specs.Round.{BeforeRound, Round};
 use alighting::Net;
 use asking::QueryCounts;
 use riding::Phase;
@@ -43,7 +43,7 @@ pub fn round(
     to: &mut [u32],
     h: Head,
 ) -> Head
-    requires { ⌜ Opened n (now t) (now rows) (now «stop_rows») (now built) (now bytes) (now area) (now distances) net lay flagged change r (memory (now work) (now labels) (now metres) h) (now from) (length (now to)) ⌝ }
+    requires { ⌜ BeforeRound n (now t) (now rows) (now «stop_rows») (now built) (now bytes) (now area) (now distances) net lay flagged change r (memory (now work) (now labels) (now metres) h) (now from) (length (now to)) ⌝ }
     ensures { λ x. ⌜ Round n (now (t .entry)) (now (rows .entry)) (now («stop_rows» .entry)) (now (built .entry)) (now (bytes .entry)) (now (area .entry)) (now (distances .entry)) net lay flagged change r (memory (now (work .entry)) (now (labels .entry)) (now (metres .entry)) h) (memory (now (work .exit)) (now (labels .exit)) (now (metres .exit)) x) (now (from .entry)) (now (to .entry)) (now (to .exit)) ⌝ }
 {
     let stamp = r + 2;

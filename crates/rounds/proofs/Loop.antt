@@ -20,7 +20,7 @@ use Rattle.asking.specs.Lent.{Lent, tablesOf, queryOf, delayRows, stopRows}
 use Rattle.asking.proofs.Laws.{door-of}
 use Rattle.alighting.specs.declared.Net.{Net}
 use Rattle.riding.specs.Laid.{Rides, Laid}
-use Rattle.round.specs.Round.{stateAt, idleHead, read, filled, Fed, Between, Holds, Reached, Opened, Round, Running}
+use Rattle.round.specs.Round.{stateAt, idleHead, read, filled, Fed, Between, Holds, Reached, BeforeRound, Round, Running}
 use Rattle.round.specs.Rounds.{overflows, Started, Ended}
 use Rattle.round.proofs.States.{overflow-stays, state-ran, onward-start, onward-next, onward-idle, onward-end}
 
@@ -44,13 +44,13 @@ or-right false b e f = e
 module _ {n : QueryCounts} {t rows stopRows built bytes area : List ℕ} {distances : List Float} {net : Net} {lay : Lay} {flagged : Bool} {change r : ℕ} {a : Memory}
     (qa qb : List ℕ) (even : Bool) where
   -- an even round reads the first and fills the second
-  pub even-open : even ≡ true → Opened n t rows stopRows built bytes area distances net lay flagged change r a (read even qa qb) (length (filled even qa qb))
-      → Opened n t rows stopRows built bytes area distances net lay flagged change r a qa (length qb)
-  even-open e o = subst (λ (x : Bool). Opened n t rows stopRows built bytes area distances net lay flagged change r a (read x qa qb) (length (filled x qa qb))) e o
+  pub even-open : even ≡ true → BeforeRound n t rows stopRows built bytes area distances net lay flagged change r a (read even qa qb) (length (filled even qa qb))
+      → BeforeRound n t rows stopRows built bytes area distances net lay flagged change r a qa (length qb)
+  even-open e o = subst (λ (x : Bool). BeforeRound n t rows stopRows built bytes area distances net lay flagged change r a (read x qa qb) (length (filled x qa qb))) e o
 
-  pub odd-open : even ≡ false → Opened n t rows stopRows built bytes area distances net lay flagged change r a (read even qa qb) (length (filled even qa qb))
-      → Opened n t rows stopRows built bytes area distances net lay flagged change r a qb (length qa)
-  odd-open e o = subst (λ (x : Bool). Opened n t rows stopRows built bytes area distances net lay flagged change r a (read x qa qb) (length (filled x qa qb))) e o
+  pub odd-open : even ≡ false → BeforeRound n t rows stopRows built bytes area distances net lay flagged change r a (read even qa qb) (length (filled even qa qb))
+      → BeforeRound n t rows stopRows built bytes area distances net lay flagged change r a qb (length qa)
+  odd-open e o = subst (λ (x : Bool). BeforeRound n t rows stopRows built bytes area distances net lay flagged change r a (read x qa qb) (length (filled x qa qb))) e o
 
   pub even-close : {b : Memory} (qa′ qb′ : List ℕ) → even ≡ true → Round n t rows stopRows built bytes area distances net lay flagged change r a b qa qb qb′
       → Round n t rows stopRows built bytes area distances net lay flagged change r a b (read even qa qb) (filled even qa qb) (filled even qa′ qb′)
@@ -79,7 +79,7 @@ module _ {n : QueryCounts} {t rows stopRows built bytes area : List ℕ} {distan
   holds-now : Holds n t rows stopRows built bytes area net lay flagged T Q r a (read even qa qb)
   holds-now = R .reached .on (or-false (a .head .full) (idleHead flagged (a .head)) go .0)
 
-  pub loop-open : r < limit → limit ≤ 12 → Opened n t rows stopRows built bytes area distances net lay flagged change r a (read even qa qb) (length (filled even qa qb))
+  pub loop-open : r < limit → limit ≤ 12 → BeforeRound n t rows stopRows built bytes area distances net lay flagged change r a (read even qa qb) (length (filled even qa qb))
   loop-open h l =
       record {
         between = R .between;

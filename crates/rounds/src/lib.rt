@@ -8,7 +8,7 @@ ghost use Prim.Native.Nat.{_/_};
 ghost use lib.ListN.{length};
 ghost use Rattle.scratch.specs.View.{memory};
 ghost use Rattle.asking.specs.Lent.{lent};
-ghost use Rattle.round.specs.Round.{idleHead, read, filled, Opened, Round};
+ghost use Rattle.round.specs.Round.{idleHead, read, filled, BeforeRound, Round};
 ghost use Rattle.round.specs.Rounds.{Started, Ended};
 use alighting::Net;
 use asking::QueryCounts;
@@ -38,7 +38,7 @@ fn turn(
     queue_b: &mut [u32],
     h: Head,
 ) -> Head
-    requires { ⌜ Opened n (now t) (now rows) (now «stop_rows») (now built) (now bytes) (now area) (now distances) net lay flagged change r (memory (now work) (now labels) (now metres) h) (read even (now «queue_a») (now «queue_b»)) (length (filled even (now «queue_a») (now «queue_b»))) ⌝ }
+    requires { ⌜ BeforeRound n (now t) (now rows) (now «stop_rows») (now built) (now bytes) (now area) (now distances) net lay flagged change r (memory (now work) (now labels) (now metres) h) (read even (now «queue_a») (now «queue_b»)) (length (filled even (now «queue_a») (now «queue_b»))) ⌝ }
     ensures { λ x. ⌜ Round n (now (t .entry)) (now (rows .entry)) (now («stop_rows» .entry)) (now (built .entry)) (now (bytes .entry)) (now (area .entry)) (now (distances .entry)) net lay flagged change r (memory (now (work .entry)) (now (labels .entry)) (now (metres .entry)) h) (memory (now (work .exit)) (now (labels .exit)) (now (metres .exit)) x) (read even (now («queue_a» .entry)) (now («queue_b» .entry))) (filled even (now («queue_a» .entry)) (now («queue_b» .entry))) (filled even (now («queue_a» .exit)) (now («queue_b» .exit))) ⌝ }
 {
     if even {

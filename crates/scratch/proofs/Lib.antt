@@ -4,3 +4,4 @@ pub mod Marking
 pub mod Steps
 pub mod Queue
 pub mod Starts
+pub mod Falls

@@ -59,6 +59,14 @@ pub record Sized (lay : Lay) (work labels distances : ℕ) : Type 0 where
 abbrev pub turned : Lay → Lay
 turned lay = record { stops = lay .stops; trips = lay .trips; lines = lay .lines; list = lay .other; other = lay .list }
 
+-- the stop at place i of the other list
+abbrev pub otherAt : Lay → List ℕ → ℕ → ℕ
+otherAt lay w i = getD w (lay .other + i) 0
+
+-- no stop's earliest arrival is later than it was
+pub record Falls (lay : Lay) (w w′ : List ℕ) : Type 0 where
+  pub earlier : (s : ℕ) → s < lay .stops → getD w′ s 0 ≤ getD w s 0
+
 -- all else is as it came: the other list, the egress table and what follows it
 pub record Same (lay : Lay) (w w′ : List ℕ) : Type 0 where
   pub size : length w′ ≡ length w

@@ -11,7 +11,7 @@ ghost use Rattle.scratch.specs.View.{memory};
 ghost use Rattle.asking.specs.Lent.{lent, queryOf};
 ghost use Rattle.begin.specs.Begin.{layOf, netOf};
 ghost use Rattle.round.specs.Rounds.{Ended};
-ghost use Rattle.replies.specs.Parts.{modeBy, Flagging, Opened};
+ghost use Rattle.replies.specs.Parts.{modeBy, Flagging, AdmittedWith};
 use alighting::Net;
 use asking::QueryCounts;
 use scratch::Head;
@@ -62,7 +62,7 @@ pub fn search(
     queue_a: &mut [u32],
     queue_b: &mut [u32],
 ) -> Head
-    requires { ⌜ Opened (lent n (now t) (now built) (now transfers) (now patterns) (now distances) (now q)) (length (now labels)) (length (now metres)) (length (now work)) (length (now «queue_a»)) (length (now «queue_b»)) ⌝ }
+    requires { ⌜ AdmittedWith (lent n (now t) (now built) (now transfers) (now patterns) (now distances) (now q)) (length (now labels)) (length (now metres)) (length (now work)) (length (now «queue_a»)) (length (now «queue_b»)) ⌝ }
     ensures { λ h. ⌜ Ended (lent n (now (t .entry)) (now (built .entry)) (now (transfers .entry)) (now (patterns .entry)) (now (distances .entry)) (now (q .entry))) (modeBy rust (lent n (now (t .entry)) (now (built .entry)) (now (transfers .entry)) (now (patterns .entry)) (now (distances .entry)) (now (q .entry)))) (length (now («queue_a» .entry)) / 4) (layOf n) (memory (now (work .exit)) (now (labels .exit)) (now (metres .exit)) h) ⌝ }
 {
     let lay = begin::lay_of(n);

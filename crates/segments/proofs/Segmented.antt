@@ -28,9 +28,10 @@ use Rattle.alighting.specs.Scan.{Nets}
 use Rattle.alighting.specs.Scan.{Riding}
 use Rattle.riding.specs.Laid.{Rides, Segments}
 use Rattle.riding.specs.Going.{Going, Rode, rideOf}
-use Rattle.riding.proofs.Keep.{kept-refl, falls-refl}
+use Rattle.riding.proofs.Keep.{kept-refl}
 use Rattle.riding.proofs.Riding.{ride-none, ride-as}
 use Rattle.riding.proofs.Scanned.{books-logged, riding-on, scan-rode}
+use Rattle.scratch.proofs.Falls.{falls-refl}
 
 module _ (T : Tables) (Q : Query) (flagged : Bool) (round stamp : ℕ) where
   -- the state after a segment that is ridden

@@ -19,7 +19,7 @@ use Rattle.model.specs.Search.{Arrivals, at, reachedBy, bestTarget, rowTarget, 
 use Rattle.label.specs.declared.Label.the-variants.{Empty}
 use Rattle.label_table.specs.Table.{recordOf}
 use Rattle.totals.specs.declared.Target.{Target}
-use Rattle.totals.specs.Totals.{targetOf, better, withStop, withReach, candidateAt, candidatesIn, ZeroFrom, Put}
+use Rattle.totals.specs.Totals.{targetOf, better, withStop, withReach, candidateAt, candidatesIn, ZeroFrom, CandidatePut}
 use Rattle.flags.specs.Flags.{egressAt, egressRows}
 
 pub better-less : (b : ℕ × ℕ) (total stop : ℕ) → total < b .0 → (total, stop) ≡ better b total stop
@@ -120,7 +120,7 @@ getD-end (x ∷ l) (suc i) h = getD-end l i (omega arith)
 pub all-zero : (l : List ℕ) → ((k : ℕ) → k < length l → getD l k 0 ≡ 0) → ZeroFrom l 0
 all-zero l h = record { zeros = λ i u. ⊎-elim (λ (a : i < length l). h i a) (λ (a : length l ≤ i). getD-end l i a) (split i (length l)) }
 
-pub put-is : (old : List ℕ) (m total stop row : ℕ) → m * 3 + 3 ≤ length old → Put old (set (set (set old (m * 3) total) (m * 3 + 1) stop) (m * 3 + 2) row) m total stop row
+pub put-is : (old : List ℕ) (m total stop row : ℕ) → m * 3 + 3 ≤ length old → CandidatePut old (set (set (set old (m * 3) total) (m * 3 + 1) stop) (m * 3 + 2) row) m total stop row
 put-is old m total stop row h =
     let a : List ℕ = set old (m * 3) total in
     let b : List ℕ = set a (m * 3 + 1) stop in
@@ -138,14 +138,14 @@ put-is old m total stop row h =
       after = λ i l. other i (λ z. omega arith) (λ z. omega arith) (λ z. omega arith);
     }
 
-pub put-more : (old new : List ℕ) (m total stop row : ℕ) → Put old new m total stop row → candidatesIn new (m + 1) ≡ candidatesIn old m ++ ((total, stop, row) ∷ [])
+pub put-more : (old new : List ℕ) (m total stop row : ℕ) → CandidatePut old new m total stop row → candidatesIn new (m + 1) ≡ candidatesIn old m ++ ((total, stop, row) ∷ [])
 put-more old new m total stop row h =
     let z : (k : ℕ) → k < m → candidateAt new k ≡ candidateAt old k
     = λ k l. rw (h .before (k * 3) (omega arith), h .before (k * 3 + 1) (omega arith), h .before (k * 3 + 2) (omega arith)) refl in
     ap (candidatesIn new) (add-one m) ∙ tab-more (candidateAt new) 0 m
     ∙ ap₂ (λ (l : List (ℕ × ℕ × ℕ)) (x : ℕ × ℕ × ℕ). l ++ (x ∷ [])) (tab-ext (candidateAt new) (candidateAt old) m z) (ap (candidateAt new) (zero-add m) ∙ h .here)
 
-pub put-zeros : (old new : List ℕ) (m total stop row : ℕ) → Put old new m total stop row → ZeroFrom old m → ZeroFrom new (m + 1)
+pub put-zeros : (old new : List ℕ) (m total stop row : ℕ) → CandidatePut old new m total stop row → ZeroFrom old m → ZeroFrom new (m + 1)
 put-zeros old new m total stop row h z = record { zeros = λ i l. h .after i (omega arith) ∙ z .zeros i (omega arith) }
 
 -- the rows one by one
@@ -182,7 +182,7 @@ module _ (T : Tables) (Q : Query) (a : Arrivals) (top n : ℕ) where
   pub rows-begin : (last : ℕ) → candidatesFrom T Q a top n 0 last ≡ rowsAhead 0 last
   rows-begin last = let e : n ≡ n - 0 = omega arith in ap (λ (m : ℕ). candidatesFrom T Q a top m 0 last) e
 
-  pub rows-put : (old new : List ℕ) (m total stop row r last : ℕ) (whole : List (ℕ × ℕ × ℕ)) → Put old new m total stop row → whole ≡ candidatesIn old m ++ ((total, stop, row) ∷ rowsAhead r last)
+  pub rows-put : (old new : List ℕ) (m total stop row r last : ℕ) (whole : List (ℕ × ℕ × ℕ)) → CandidatePut old new m total stop row → whole ≡ candidatesIn old m ++ ((total, stop, row) ∷ rowsAhead r last)
       → whole ≡ candidatesIn new (m + 1) ++ rowsAhead r last
   rows-put old new m total stop row r last whole h e =
       e ∙ sym (append-assoc (candidatesIn old m) ((total, stop, row) ∷ []) (rowsAhead r last)) ∙ ap (λ (l : List (ℕ × ℕ × ℕ)). l ++ rowsAhead r last) (sym (put-more old new m total stop row h))

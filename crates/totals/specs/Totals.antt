@@ -39,7 +39,7 @@ pub record EarliestOk (stops : ℕ) (work : List ℕ) : Type 0 where
   pub small : (s : ℕ) → s < stops → (getD work s 0 ≡ never) ⊎ (getD work s 0 < 134217728)
 
 -- a state whose earliest arrivals are these
-pub record Reached (a : Arrivals) (stops : ℕ) (work : List ℕ) : Type 0 where
+pub record EarliestAre (a : Arrivals) (stops : ℕ) (work : List ℕ) : Type 0 where
   pub at : (s : ℕ) → s < stops → getD (a .earliest) s 0 ≡ getD work s 0
 
 -- the best so far after an egress stop whose label arrives so; x: the arrival plus one, 0 for no label
@@ -70,7 +70,7 @@ pub record ZeroFrom (out : List ℕ) (m : ℕ) : Type 0 where
   pub zeros : (i : ℕ) → m * 3 ≤ i → getD out i 0 ≡ 0
 
 -- one candidate more: it stands at place m, those before it as they were
-pub record Put (old new : List ℕ) (m total stop row : ℕ) : Type 0 where
+pub record CandidatePut (old new : List ℕ) (m total stop row : ℕ) : Type 0 where
   pub size : length new ≡ length old
   pub here : candidateAt new m ≡ (total, stop, row)
   pub before : (i : ℕ) → i < m * 3 → getD new i 0 ≡ getD old i 0

@@ -8,7 +8,7 @@ ghost use lib.ListN.{length, getD};
 ghost use Rattle.model.specs.Tables.{Tables, Query, never};
 ghost use Rattle.model.specs.Search.{Arrivals, bestTarget, rowTarget, reachedBy, candidatesFrom};
 ghost use Rattle.label_table.specs.Table.{recordOf, loaded};
-ghost use Rattle.totals.specs.Totals.{EgressOk, targetOf, EarliestOk, Reached, better, withStop, withReach, LabelsOk, Labelled, candidatesIn, ZeroFrom, Put};
+ghost use Rattle.totals.specs.Totals.{EgressOk, targetOf, EarliestOk, EarliestAre, better, withStop, withReach, LabelsOk, Labelled, candidatesIn, ZeroFrom, CandidatePut};
 ghost use Rattle.flags.specs.Flags.{egressRows};
 ghost use mathlib.Core.Bool.{_&&_};
 ghost use lib.Dec.{ltb, leb};
@@ -55,7 +55,7 @@ fn with_stop(best: Target, v: u32, stop: u32, walk: u32) -> Target
 // The least total over the egress stops with its stop.
 pub fn best_target(work: &[u32], stops: usize, egress: &[u32]) -> Target
     requires { ⌜ EarliestOk stops (now work) ⌝ ∗ ⌜ EgressOk stops (now egress) ⌝ }
-    ensures { λ r. ⌜ ((T : Tables) (Q : Query) (a : Arrivals) → Reached a stops (now (work .entry)) → targetOf r ≡ bestTarget T Q a (egressRows (now (egress .entry))) (never, never)) ⌝ }
+    ensures { λ r. ⌜ ((T : Tables) (Q : Query) (a : Arrivals) → EarliestAre a stops (now (work .entry)) → targetOf r ≡ bestTarget T Q a (egressRows (now (egress .entry))) (never, never)) ⌝ }
 {
     let n = egress.len() / 2;
     let mut total: u32 = 4294967295;
@@ -188,7 +188,7 @@ fn clear(out: &mut [u32])
 // Candidate m.
 fn put_candidate(out: &mut [u32], m: usize, b: Target, row: u32)
     requires { ⌜ m * 3 + 3 ≤ length (now out) ⌝ }
-    ensures { λ _. ⌜ Put (now (out .entry)) (now (out .exit)) m (b .total) (b .stop) row ⌝ }
+    ensures { λ _. ⌜ CandidatePut (now (out .entry)) (now (out .exit)) m (b .total) (b .stop) row ⌝ }
 {
     let at = m * 3;
     out[at] = b.total;

@@ -13,7 +13,7 @@ use Rattle.scratch.specs.Places.{Same, restAt}
 use Rattle.scratch.proofs.Part.{drop-at}
 use Rattle.scratch.proofs.Steps.{egress-kept}
 use Rattle.alighting.specs.declared.Net.{Net}
-use Rattle.alighting.specs.Scan.{eventAt, runAt, Nets, RunIn, Placed, Netted}
+use Rattle.alighting.specs.Scan.{eventAt, runAt, Nets, RunIn, PastArrivals, Netted}
 
 module _ {lay : Lay} {w w′ : List ℕ} (s : Same lay w w′) where
   -- a number past the arrivals
@@ -22,11 +22,11 @@ module _ {lay : Lay} {w w′ : List ℕ} (s : Same lay w w′) where
       let e : p + i ≡ restAt lay + (p - restAt lay + i) = omega arith in
       ap (λ (k : ℕ). getD w′ k 0) e ∙ drop-at w w′ (restAt lay) (p - restAt lay + i) (s .rest) ∙ sym (ap (λ (k : ℕ). getD w k 0) e)
 
-  run-kept : (net : Net) (built : List ℕ) → Placed lay net → (i o : ℕ) → runAt net built w i o ≡ runAt net built w′ i o
+  run-kept : (net : Net) (built : List ℕ) → PastArrivals lay net → (i o : ℕ) → runAt net built w i o ≡ runAt net built w′ i o
   run-kept net built p i o = ap (λ (k : ℕ). record { first = getD built (net .runs + (k + o) * 2) 0; length = getD built (net .runs + (k + o) * 2 + 1) 0 }) (sym (past-at (net .events) i (p .events)))
 
   module _ {t : List ℕ} {c : Counts} {rows stopRows built bytes area : List ℕ} {net : Net} where
-    pub nets-kept : {T : Tables} {Q : Query} → Placed lay net → Nets t c rows stopRows built bytes area net lay w T Q → Nets t c rows stopRows built bytes area net lay w′ T Q
+    pub nets-kept : {T : Tables} {Q : Query} → PastArrivals lay net → Nets t c rows stopRows built bytes area net lay w T Q → Nets t c rows stopRows built bytes area net lay w′ T Q
     nets-kept {T} {Q} p n =
         record {
           agree = n .agree;

@@ -15,7 +15,7 @@ ghost use Rattle.scratch.specs.View.{memory};
 ghost use Rattle.scratch.specs.Places.{EgressTable};
 ghost use Rattle.scratch.specs.Step.{Ready, QueueStep};
 ghost use Rattle.boarding.specs.Reads.{hitOf, Event};
-ghost use Rattle.alighting.specs.Scan.{Riding, Nets, Netted, RunIn, Open, Boards, Laid, boarded};
+ghost use Rattle.alighting.specs.Scan.{Riding, Nets, Netted, RunIn, Open, BoardedAt, CountsAgree, boarded};
 use alighting::Scan;
 use boarding::Resolved;
 use frequency::Boarding;
@@ -37,7 +37,7 @@ fn take_boarding(
     queue: &mut [u32],
     h: Head,
 ) -> Head
-    requires { ⌜ Laid (now t) (s .counts) (s .lay) ⌝ ∗ ⌜ Boards (now t) (s .counts) trip off (b .departure) ⌝ ∗ ⌜ Ready (s .lay) (s .ride .stamp) (memory (now work) (now labels) (now distances) h) ⌝ ∗ ⌜ Open h (length (now queue)) ⌝ }
+    requires { ⌜ CountsAgree (now t) (s .counts) (s .lay) ⌝ ∗ ⌜ BoardedAt (now t) (s .counts) trip off (b .departure) ⌝ ∗ ⌜ Ready (s .lay) (s .ride .stamp) (memory (now work) (now labels) (now distances) h) ⌝ ∗ ⌜ Open h (length (now queue)) ⌝ }
     ensures { λ x. ⌜ QueueStep (s .lay) (s .ride .stamp) (λ T Q. EgressTable (Q .egress) (s .lay) (now (work .entry)) × (T .timetable ≡ timetable (now (t .entry)) (s .counts))) (λ T Q. boarded T Q (s .ride .stamp) from off time trip b) (memory (now (work .entry)) (now (labels .entry)) (now (distances .entry)) h) (memory (now (work .exit)) (now (labels .exit)) (now (distances .exit)) x) (now (queue .entry)) (now (queue .exit)) ⌝ }
 {
     let i = trip as usize;

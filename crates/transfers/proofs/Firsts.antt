@@ -6,6 +6,7 @@ use mathlib.Core.List.{List, [], _∷_, _++_, append-nil, flatten, List·Memᴰ,
 use mathlib.Core.Logic.{⊎-elim}
 use native.Mathlib.Nat.{eq-or-lt-of-le}
 use native.Mathlib.Omega.{arith}
+use Rattle.loops.proofs.Search.{clash}
 use lib.ListN.{length, take}
 use lib.Dec.{leb, eqb}
 use borrow.Author.Tests.{eq-eqb, eqb-true, leb-false, leb-true, ne-eqb}
@@ -15,9 +16,6 @@ use Rattle.sorts.specs.Orders.{All, Rising, cons, keep, nil}
 use Rattle.sorts.proofs.Orders.{sort-rising, sort-stable}
 use Rattle.sorts.proofs.Places.{rising-all, rising-tail}
 use Rattle.line_transfers.proofs.Lists.{all-append, all-imp, keep-append, keep-every, keep-none-of}
-
-clash : false ≡ true → ⊥
-clash z = let y : _≡_ {A = ℕ} 0 1 = cc in omega arith
 
 module _ {A : Type 0} where
   -- every element is one of the list
@@ -54,7 +52,7 @@ module _ {A : Type 0} where
     where
       go : (t : Bool) → p x ≡ t → All P (cond t (x ∷ keep p l) (keep p l)) → (All P (keep p l) → All (λ y. p y ≡ true → P y) l) → All (λ y. p y ≡ true → P y) (x ∷ l)
       go true e (cons q b) later = cons (λ z. q) (later b)
-      go false e b later = cons (λ z. absurd (clash (sym e ∙ z))) (later b)
+      go false e b later = cons (λ z. absurd (clash (sym e ∙ z) refl)) (later b)
 
 -- r is the first of the sorted list s that is not below w
 pub record First {A : Type 0} (key : A → ℕ) (w : ℕ) (s : List A) (r : A) : Type 0 where

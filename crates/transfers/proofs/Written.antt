@@ -20,7 +20,7 @@ use Rattle.departures.specs.declared.DepartureRow.{DepartureRow}
 use Rattle.departures.specs.Departures.{sortStops}
 use Rattle.transfers.specs.declared.Built.the-variants.{Refused, Rows}
 use Rattle.line_transfers.specs.Transfers.{Input, allTransfers, builtTransfers, eventsBefore, eventsOf, runsFrom, transferOf, wordsOf}
-use Rattle.line_transfers.specs.Packed.{Laid, Lines, Most, Prepared, SortedRuns, Walk, allKeys, laid, lay, layEvents, prepared, walk}
+use Rattle.line_transfers.specs.Packed.{AreaSoFar, Lines, Most, Prepared, SortedRuns, Walk, allKeys, laid, lay, layEvents, prepared, walk}
 use Rattle.transfers.specs.Settled.{settledKeys, walkAreas}
 use Rattle.transfers.specs.Call.{Admitted, Areas, Lent, Outcome, areaWith, areas, inputOf, outcomeOf, roomOk, settled, written}
 use Rattle.line_transfers.proofs.Lists.{all-flatten, flatten-map, length-map, within-is}
@@ -108,7 +108,7 @@ module _ (x : Lent) (s : Areas) (a : Admitted x (length (s .transferRuns))) wher
   unfolding areaWith
   area-is few room =
       let e : (0 + length (flatten (allKeys (preparedOf x)))) * 4 ≡ length (allTransfers (inputOf x)) * 4 = omega (arith, counted) in
-      ap (λ (w : Laid). w .area)
+      ap (λ (w : AreaSoFar). w .area)
       (events-laid (x .time) 0 (allKeys (preparedOf x)) (walk 0 (s .area) (s .transferRuns))
       ∙ lay-area (x .time) (flatten (allKeys (preparedOf x))) 0 (s .area) (omega (arith, counted)) (omega (arith, counted)))
       ∙ within-is (0 * 4) ((0 + length (flatten (allKeys (preparedOf x)))) * 4) (keyWords (x .time) (flatten (allKeys (preparedOf x)))) (s .area)

@@ -7,8 +7,8 @@ use Rattle.scratch.specs.declared.Lay.{Lay}
 use Rattle.scratch.specs.View.{Memory}
 use Rattle.scratch.specs.Step.{Ready, Step}
 use Rattle.scratch.proofs.Steps.{step-as, step-none, step-then}
-use Rattle.walks.specs.Walking.{Falls}
-use Rattle.walks.proofs.Falling.{falls-refl, falls-then}
+use Rattle.scratch.specs.Places.{Falls}
+use Rattle.scratch.proofs.Falls.{falls-refl, falls-then}
 
 pub record Along (lay : Lay) (stamp : ℕ) (agree : Tables → Query → Type 0) (whole rest : Tables → Query → Arrivals → Arrivals) (a b : Memory) : Type 0 where
   pub done : Tables → Query → Arrivals → Arrivals

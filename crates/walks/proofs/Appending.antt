@@ -15,10 +15,10 @@ use Rattle.model.specs.Tables.{Tables, Query}
 use Rattle.model.specs.Search.{stamped}
 use Rattle.scratch.specs.declared.Lay.{Lay}
 use Rattle.scratch.specs.Part.{part}
-use Rattle.scratch.specs.Places.{Sized, stampsOf}
+use Rattle.scratch.specs.Places.{Sized, stampsOf, otherAt}
 use Rattle.scratch.proofs.Part.{part-at, part-above, part-more, part-length}
 use Rattle.scratch.proofs.Marking.{same-refl, same-then, same-list}
-use Rattle.walks.specs.Lists.{otherAt, Listed, bearing, Appended}
+use Rattle.walks.specs.Lists.{StopsListed, bearing, Appended}
 use Rattle.walks.proofs.From.{other-kept}
 
 keep-one : (p : ℕ → Bool) (s : ℕ) (b : Bool) → p s ≡ b → keep p (s ∷ []) ≡ cond b (s ∷ []) []
@@ -92,7 +92,7 @@ unfolding part
 part-next w a n h = rw (add-one n) (take-suc (drop a w) n 0 (simp length-drop (omega arith)) ∙ ap (λ (z : ℕ). take n (drop a w) ++ (z ∷ [])) (getD-drop a w n 0))
 
 -- one stop of the other list more
-pub append-turn : {lay : Lay} {w₀ w w′ : List ℕ} {n b c : ℕ} (stamp count k k′ i s : ℕ) → Sized lay (length w₀) b c → Listed lay w₀ n
+pub append-turn : {lay : Lay} {w₀ w w′ : List ℕ} {n b c : ℕ} (stamp count k k′ i s : ℕ) → Sized lay (length w₀) b c → StopsListed lay w₀ n
     → Appended lay w₀ w count k (bearing lay stamp w₀ (part w₀ (lay .other) i)) → Appended lay w w′ k k′ (bearing lay stamp w (s ∷ [])) → s ≡ otherAt lay w i → i < n
     → Appended lay w₀ w′ count k′ (bearing lay stamp w₀ (part w₀ (lay .other) (i + 1)))
 append-turn {lay} {w₀} {w} {w′} {n} stamp count k k′ i s ok p x y e h =
@@ -123,7 +123,7 @@ append-most {lay} {w₀} stamp count k i ok x h =
     )
 
 -- the next stop is one of the table's, and the working numbers are as many as before
-pub append-stop : {lay : Lay} {w₀ w : List ℕ} {n count k : ℕ} {more : List ℕ} (i : ℕ) → Listed lay w₀ n → Appended lay w₀ w count k more → i < n → otherAt lay w i < lay .stops
+pub append-stop : {lay : Lay} {w₀ w : List ℕ} {n count k : ℕ} {more : List ℕ} (i : ℕ) → StopsListed lay w₀ n → Appended lay w₀ w count k more → i < n → otherAt lay w i < lay .stops
 append-stop i p x h = rw (other-kept i (x .same) (omega (arith, p .few))) (p .inside i h)
 
 pub append-sized : {lay : Lay} {w₀ w : List ℕ} {count k b c : ℕ} {more : List ℕ} → Sized lay (length w₀) b c → Appended lay w₀ w count k more → Sized lay (length w) b c

@@ -24,7 +24,7 @@ use Rattle.scratch.specs.View.{Memory, memory, arrivalsOf}
 use Rattle.scratch.specs.Step.{Ready, Step}
 use Rattle.scratch.proofs.Steps.{step-none, egress-kept}
 use Rattle.walks.specs.declared.Rules.{Rules}
-use Rattle.walks.specs.Walking.{Ground, Agree}
+use Rattle.walks.specs.Walking.{WalkGround, WalksAgree}
 
 -- a stop's edges one after the other
 pub walk-cons : (T : Tables) (Q : Query) (flagged : Bool) (stamp x v e : ℕ) (es : List ℕ) (a : Arrivals)
@@ -52,11 +52,11 @@ pub record RowOk (lay : Lay) (y : EdgeRow) : Type 0 where
   pub duration : y .duration ≤ 1048575
   pub pathway : y .pathway ≤ 7
 
-pub row-ok : {lay : Lay} {r : Rules} {t : List ℕ} {d b : ℕ} (e : ℕ) (y : EdgeRow) → Ground lay r t d b → y ≡ edgeAt t (r .counts) e → e < r .counts .edges → RowOk lay y
+pub row-ok : {lay : Lay} {r : Rules} {t : List ℕ} {d b : ℕ} (e : ℕ) (y : EdgeRow) → WalkGround lay r t d b → y ≡ edgeAt t (r .counts) e → e < r .counts .edges → RowOk lay y
 row-ok e y g q h =
     rw q (record { to = omega (arith, g .sane .numbers .to e h, g .stops); duration = g .sane .ranges .duration e h; pathway = g .sane .ranges .pathway e h })
 
-pub agree-kept : {lay : Lay} {r : Rules} {t : List ℕ} {d : List Float} {b w w′ : List ℕ} {T : Tables} {Q : Query} → Same lay w w′ → Agree lay r t d b w T Q → Agree lay r t d b w′ T Q
+pub agree-kept : {lay : Lay} {r : Rules} {t : List ℕ} {d : List Float} {b w w′ : List ℕ} {T : Tables} {Q : Query} → Same lay w w′ → WalksAgree lay r t d b w T Q → WalksAgree lay r t d b w′ T Q
 agree-kept s g =
     record {
       timetable = g .timetable;
@@ -82,7 +82,7 @@ module _ (lay : Lay) (r : Rules) (stamp x v e : ℕ) (t : List ℕ) (d : List Fl
         | false ↦ elim (ltb (v + n) (a .best)) [ false ↦ a | true ↦ relax T Q stamp (z .to) (v + n) (Walk (v + n) x (z .to) n f (stamp - 1)) a ]
       ]
 
-  walk-one : (T : Tables) (Q : Query) → Agree lay r t d b w T Q → (a : Arrivals)
+  walk-one : (T : Tables) (Q : Query) → WalksAgree lay r t d b w T Q → (a : Arrivals)
       → walkFrom T Q (r .flagged) stamp x v (e ∷ []) a ≡ one T Q a off y D (getD d e nan)
   unfolding walkFrom
   walk-one T Q g a i = one T Q a (test i) (row i) (time i) (g .distance e in-edges i)
@@ -100,14 +100,14 @@ module _ (lay : Lay) (r : Rules) (stamp x v e : ℕ) (t : List ℕ) (d : List Fl
 
   module _ (ok : Ready lay stamp (memory w l m h)) where
     -- the flags skip it
-    pub edge-skipped : off ≡ true → Step lay stamp (Agree lay r t d b w) (λ T Q. walkFrom T Q (r .flagged) stamp x v (e ∷ [])) (memory w l m h) (memory w l m h)
+    pub edge-skipped : off ≡ true → Step lay stamp (WalksAgree lay r t d b w) (λ T Q. walkFrom T Q (r .flagged) stamp x v (e ∷ [])) (memory w l m h) (memory w l m h)
     edge-skipped s =
         step-none (λ T Q. walkFrom T Q (r .flagged) stamp x v (e ∷ [])) (memory w l m h) ok
         (λ T Q g q. let a : Arrivals = arrivalsOf lay (memory w l m h) q in sym (walk-one T Q g a ∙ ap (λ (z : Bool). one T Q a z y D (getD d e nan)) s))
 
     -- it leads there no earlier than the best total
     pub edge-late : off ≡ false → h .best ≤ v + D
-        → Step lay stamp (Agree lay r t d b w) (λ T Q. walkFrom T Q (r .flagged) stamp x v (e ∷ [])) (memory w l m h) (memory w l m h)
+        → Step lay stamp (WalksAgree lay r t d b w) (λ T Q. walkFrom T Q (r .flagged) stamp x v (e ∷ [])) (memory w l m h) (memory w l m h)
     edge-late s u =
         step-none (λ T Q. walkFrom T Q (r .flagged) stamp x v (e ∷ [])) (memory w l m h) ok
         (λ T Q g q. let a : Arrivals = arrivalsOf lay (memory w l m h) q in
@@ -117,7 +117,7 @@ module _ (lay : Lay) (r : Rules) (stamp x v e : ℕ) (t : List ℕ) (d : List Fl
     -- it is walked
     pub edge-walked : {k : Memory} → off ≡ false → v + D < h .best
         → Step lay stamp (λ T Q. EgressTable (Q .egress) lay w) (λ T Q. relax T Q stamp (y .to) (v + D) walkLabel) (memory w l m h) k
-        → Step lay stamp (Agree lay r t d b w) (λ T Q. walkFrom T Q (r .flagged) stamp x v (e ∷ [])) (memory w l m h) k
+        → Step lay stamp (WalksAgree lay r t d b w) (λ T Q. walkFrom T Q (r .flagged) stamp x v (e ∷ [])) (memory w l m h) k
     edge-walked s u p =
         record {
           view = λ T Q g q. let a : Arrivals = arrivalsOf lay (memory w l m h) q in

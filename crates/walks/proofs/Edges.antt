@@ -8,7 +8,7 @@ use native.Mathlib.Numerals.{add-one}
 use lib.Dec.{eqb, leb}
 use borrow.Author.Tests.{leb-true, leb-false, eqb-false, eq-eqb, ne-eqb}
 use Rattle.loops.specs.Count.{tabFrom, upto}
-use Rattle.loops.specs.Order.{Rising, Halved}
+use Rattle.loops.specs.Order.{KeysRise, Halved}
 use Rattle.sorts.specs.Orders.{keep}
 use Rattle.tables.specs.declared.Counts.{Counts}
 use Rattle.tables.specs.Tables.{edgeOf}
@@ -18,7 +18,7 @@ use Rattle.model.specs.Tables.{Tables, edgesFrom}
 use Rattle.walks.specs.Walking.{runFrom}
 
 -- the from-stops do not fall
-pub edges-rising : (t : List ℕ) (c : Counts) → OrderOk t c → Rising (λ i. edgeOf t c i 0) (c .edges)
+pub edges-rising : (t : List ℕ) (c : Counts) → OrderOk t c → KeysRise (λ i. edgeOf t c i 0) (c .edges)
 edges-rising t c o = record { rising = λ i j l u. let e : i + (j - i) ≡ j = omega arith in rw e at (go i (j - i) (omega arith)) }
   where
     go : (i d : ℕ) → i + d < c .edges → edgeOf t c i 0 ≤ edgeOf t c (i + d) 0
@@ -43,7 +43,7 @@ module _ (p : ℕ → Bool) where
       ap (λ (b : Bool). cond b (i ∷ keep p (tabFrom (λ i. i) (suc i) n)) (keep p (tabFrom (λ i. i) (suc i) n))) (h i (omega arith) (omega arith))
       ∙ keep-none (suc i) n (λ j a b. h j (omega arith) (omega arith))
 
-module _ (key : ℕ → ℕ) (x m : ℕ) (r : Rising key m) where
+module _ (key : ℕ → ℕ) (x m : ℕ) (r : KeysRise key m) where
   -- from a key that is not below x on, those with key x come first
   keep-run : (e n : ℕ) → e + n ≡ m → ((j : ℕ) → e ≤ j → j < m → x ≤ key j) → keep (λ k. eqb (key k) x) (tabFrom (λ i. i) e n) ≡ runFrom key x e n
   unfolding keep tabFrom runFrom

@@ -17,11 +17,10 @@ use Rattle.model.specs.Tables.{Tables, Query, rustSettings, isEgress, egressWal
 use Rattle.model.specs.Search.{Arrivals, improve, relax}
 use Rattle.scratch.specs.declared.Lay.{Lay}
 use Rattle.scratch.specs.Part.{part}
-use Rattle.scratch.specs.Places.{EgressTable, egressWord, tableWord, earliestOf}
+use Rattle.scratch.specs.Places.{EgressTable, egressWord, tableWord, earliestOf, Falls}
 use Rattle.scratch.specs.View.{Memory, arrivalsOf}
 use Rattle.scratch.specs.Step.{Step}
 use Rattle.scratch.proofs.Part.{first-at}
-use Rattle.walks.specs.Walking.{Falls}
 
 -- the egress stops that a table says: n stops from i on
 told : (ℕ → ℕ) → ℕ → ℕ → List (ℕ × ℕ)
@@ -111,17 +110,11 @@ relax-falls T Q stamp s v how a k = go (ltb v (getD (a .earliest) s 0)) refl
     go true q = set-falls (a .earliest) s v k (omega (arith, ltb-true v (getD (a .earliest) s 0) q))
     go false q = omega arith
 
-pub falls-refl : (lay : Lay) (w : List ℕ) → Falls lay w w
-falls-refl lay w = record { at = λ s h. omega arith }
-
-pub falls-then : {lay : Lay} {a b c : List ℕ} → Falls lay a b → Falls lay b c → Falls lay a c
-falls-then p q = record { at = λ s h. omega (arith, p .at s h, q .at s h) }
-
 -- `relax` in memory
 pub relaxed-falls : {lay : Lay} {stamp : ℕ} (s v : ℕ) (how : Label) {a b : Memory}
     → Step lay stamp (λ T Q. EgressTable (Q .egress) lay (a .work)) (λ T Q. relax T Q stamp s v how) a b → Falls lay (a .work) (b .work)
 unfolding asking
-relaxed-falls {lay} {stamp} s v how {a} {b} p = record { at = λ k h. go k h }
+relaxed-falls {lay} {stamp} s v how {a} {b} p = record { earlier = λ k h. go k h }
   where
     Q : Query
     Q = asking (told (tableWord lay (a .work)) 0 (lay .stops))

@@ -17,12 +17,12 @@ use Rattle.model.specs.Tables.{Tables, Query, edgesFrom}
 use Rattle.model.specs.Search.{Arrivals, at, walkFrom, walkAll}
 use Rattle.scratch.specs.declared.Lay.{Lay}
 use Rattle.scratch.specs.Part.{part}
-use Rattle.scratch.specs.Places.{Same, Sized}
+use Rattle.scratch.specs.Places.{Same, Sized, otherAt, Falls}
 use Rattle.scratch.specs.View.{Memory, arrivalsOf}
 use Rattle.scratch.specs.Step.{Step}
 use Rattle.scratch.proofs.Part.{first-at, part-at, part-length}
-use Rattle.walks.specs.Walking.{runFrom, Falls}
-use Rattle.walks.specs.Lists.{otherAt, Listed}
+use Rattle.walks.specs.Walking.{runFrom}
+use Rattle.walks.specs.Lists.{StopsListed}
 use Rattle.walks.proofs.Edges.{edges-run, run-turn, run-stop, run-end}
 use Rattle.walks.proofs.Edge.{walk-cons}
 
@@ -87,20 +87,20 @@ pub other-kept : {lay : Lay} {w w′ : List ℕ} (i : ℕ) → Same lay w w′ �
 other-kept {lay} {w} {w′} i s h =
     sym (part-at w′ (lay .other) (lay .stops + 64) i h) ∙ ap (λ (l : List ℕ). getD l i 0) (s .list) ∙ part-at w (lay .other) (lay .stops + 64) i h
 
-pub listed-kept : {lay : Lay} {w w′ : List ℕ} {n : ℕ} → Listed lay w n → Same lay w w′ → Falls lay w w′ → Listed lay w′ n
+pub listed-kept : {lay : Lay} {w w′ : List ℕ} {n : ℕ} → StopsListed lay w n → Same lay w w′ → Falls lay w w′ → StopsListed lay w′ n
 listed-kept {lay} {w} {w′} {n} p s f =
     record {
       few = p .few;
       inside = λ i h. rw (other-kept i s (k i h)) (p .inside i h);
-      early = λ i h. rw (other-kept i s (k i h)) (omega (arith, p .early i h, f .at (otherAt lay w i) (p .inside i h)));
+      early = λ i h. rw (other-kept i s (k i h)) (omega (arith, p .early i h, f .earlier (otherAt lay w i) (p .inside i h)));
     }
   where
     k : (i : ℕ) → i < n → i < lay .stops + 64
     k i h = omega (arith, p .few)
 
 -- the n stops of the other list
-pub other-length : {lay : Lay} {w : List ℕ} {n b c : ℕ} → Listed lay w n → Sized lay (length w) b c → length (part w (lay .other) n) ≡ n
+pub other-length : {lay : Lay} {w : List ℕ} {n b c : ℕ} → StopsListed lay w n → Sized lay (length w) b c → length (part w (lay .other) n) ≡ n
 other-length {lay} {w} {n} p s = part-length w (lay .other) n (omega (arith, p .few, s .sections .other-fits, s .sections .words))
 
-pub other-in : {lay : Lay} {w w′ : List ℕ} {n : ℕ} (i : ℕ) → Listed lay w n → Same lay w w′ → i < n → getD (part w (lay .other) n) i 0 ≡ otherAt lay w′ i
+pub other-in : {lay : Lay} {w w′ : List ℕ} {n : ℕ} (i : ℕ) → StopsListed lay w n → Same lay w w′ → i < n → getD (part w (lay .other) n) i 0 ≡ otherAt lay w′ i
 other-in {lay} {w} {w′} {n} i p s h = part-at w (lay .other) n i h ∙ sym (other-kept i s (omega (arith, p .few)))

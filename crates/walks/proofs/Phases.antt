@@ -14,15 +14,15 @@ use Rattle.model.specs.Search.{Arrivals, Boardings, State, stamped, walkAll, wa
 use Rattle.scratch.specs.declared.Lay.{Lay}
 use Rattle.scratch.specs.declared.Head.{Head}
 use Rattle.scratch.specs.Part.{part, tally}
-use Rattle.scratch.specs.Places.{Sized, stampsOf}
+use Rattle.scratch.specs.Places.{Sized, stampsOf, turned}
 use Rattle.scratch.specs.View.{Memory, memory, arrivalsOf, queueOf}
 use Rattle.scratch.specs.Step.{Ready, Step}
 use Rattle.scratch.proofs.Part.{tally-le}
 use Rattle.scratch.proofs.Marking.{same-then, stamps-length}
 use Rattle.scratch.proofs.Steps.{walks-kept}
 use Rattle.walks.specs.declared.Rules.{Rules}
-use Rattle.walks.specs.Walking.{Ground, Agree}
-use Rattle.walks.specs.Lists.{Listed, bearing, Appended, turned, noted, Phase}
+use Rattle.walks.specs.Walking.{WalkGround, WalksAgree}
+use Rattle.walks.specs.Lists.{StopsListed, bearing, Appended, noted, Phase}
 use Rattle.walks.proofs.Appending.{stamped-is, append-most}
 
 -- what holds of a layout holds where its lists have changed places
@@ -48,10 +48,10 @@ turned-sized s =
       metres = s .metres;
     }
 
-pub turned-ground : {lay : Lay} {r : Rules} {t : List ℕ} {d b : ℕ} → Ground lay r t d b → Ground (turned lay) r t d b
+pub turned-ground : {lay : Lay} {r : Rules} {t : List ℕ} {d b : ℕ} → WalkGround lay r t d b → WalkGround (turned lay) r t d b
 turned-ground g = record { sane = g .sane; order = g .order; stops = g .stops; distances = g .distances; few = g .few; bytes = g .bytes }
 
-turned-agree : {lay : Lay} {r : Rules} {t : List ℕ} {d : List Float} {b w : List ℕ} {T : Tables} {Q : Query} → Agree lay r t d b w T Q → Agree (turned lay) r t d b w T Q
+turned-agree : {lay : Lay} {r : Rules} {t : List ℕ} {d : List Float} {b w : List ℕ} {T : Tables} {Q : Query} → WalksAgree lay r t d b w T Q → WalksAgree (turned lay) r t d b w T Q
 turned-agree g =
     record {
       timetable = g .timetable;
@@ -98,7 +98,7 @@ pub sized-words : {lay : Lay} {a b c : ℕ} → Sized lay a b c → Sized lay a 
 sized-words s = record { sections = s .sections; rows = refl; metres = refl }
 
 module _ (lay : Lay) (r : Rules) (stamp : ℕ) (t : List ℕ) (d : List Float) (bs w l : List ℕ) (m : List Float) (h : Head) (ok : Ready lay stamp (memory w l m h))
-    {b : Memory} (p : Step (turned lay) stamp (Agree (turned lay) r t d bs w) (λ T Q. walkAll T Q (r .flagged) stamp (part w (lay .list) (h .count))) (memory w l m (emptyHead h)) b) where
+    {b : Memory} (p : Step (turned lay) stamp (WalksAgree (turned lay) r t d bs w) (λ T Q. walkAll T Q (r .flagged) stamp (part w (lay .list) (h .count))) (memory w l m (emptyHead h)) b) where
   -- the lists have room for all that was reached
   pub phase-room : b .head .count + h .count ≤ tally stamp (stampsOf lay (b .work))
   phase-room = omega (arith, p .grown .by, ok .counted .fits)
@@ -146,7 +146,7 @@ module _ (lay : Lay) (r : Rules) (stamp : ℕ) (t : List ℕ) (d : List Float) (
             ]) (sym f)
 
   -- with arc flags: the stops reached on foot
-  pub phase-flagged : r .flagged ≡ true → Phase lay (r .flagged) stamp (Agree lay r t d bs w) (memory w l m h) b
+  pub phase-flagged : r .flagged ≡ true → Phase lay (r .flagged) stamp (WalksAgree lay r t d bs w) (memory w l m h) b
   phase-flagged f =
       record {
         view = λ T Q g round e q s. after-flagged T Q q s f
@@ -158,7 +158,7 @@ module _ (lay : Lay) (r : Rules) (stamp : ℕ) (t : List ℕ) (d : List Float) (
       }
 
   -- without: those reached by transit after them
-  module _ (ls : Listed (turned lay) w (h .count)) (w″ : List ℕ) (count : ℕ)
+  module _ (ls : StopsListed (turned lay) w (h .count)) (w″ : List ℕ) (count : ℕ)
       (x : Appended (turned lay) (b .work) w″ (b .head .count) count (bearing (turned lay) stamp (b .work) (part (b .work) (lay .list) (h .count)))) where
     abbrev last : Memory
     last = memory w″ (b .labels) (b .distances) (record { best = b .head .best; count = count; queued = b .head .queued; full = b .head .full })
@@ -197,7 +197,7 @@ module _ (lay : Lay) (r : Rules) (stamp : ℕ) (t : List ℕ) (d : List Float) (
               | false ↦ part (b .work) (lay .other) (b .head .count) ++ stamped T Q stamp (stampsOf (turned lay) (b .work)) (part w (lay .list) (h .count))
             ]) (sym f)
 
-    pub phase-plain : r .flagged ≡ false → Phase lay (r .flagged) stamp (Agree lay r t d bs w) (memory w l m h)
+    pub phase-plain : r .flagged ≡ false → Phase lay (r .flagged) stamp (WalksAgree lay r t d bs w) (memory w l m h)
         (memory w″ (b .labels) (b .distances) (record { best = b .head .best; count = count; queued = b .head .queued; full = b .head .full }))
     phase-plain f =
         record {

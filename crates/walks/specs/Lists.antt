@@ -10,17 +10,13 @@ use Rattle.model.specs.Tables.{Tables, Query}
 use Rattle.model.specs.Search.{Boardings, walkPhase}
 use Rattle.scratch.specs.declared.Lay.{Lay}
 use Rattle.scratch.specs.Part.{part}
-use Rattle.scratch.specs.Places.{Same, earliestOf, stampsOf, reachOf}
+use Rattle.scratch.specs.Places.{Same, earliestOf, stampsOf, reachOf, otherAt, turned}
 use Rattle.scratch.specs.View.{Memory, arrivalsOf}
 use Rattle.scratch.specs.Step.{Ready}
 
--- the stop at place i of the other list
-abbrev pub otherAt : Lay → List ℕ → ℕ → ℕ
-otherAt lay w i = getD w (lay .other + i) 0
-
 -- the n stops of the other list: each one of the table's, and reached early enough (28 times 2 to the 20) that a walk from there, of at
 -- most 104,857,500 seconds, ends below 2 to the 27
-pub record Listed (lay : Lay) (w : List ℕ) (n : ℕ) : Type 0 where
+pub record StopsListed (lay : Lay) (w : List ℕ) (n : ℕ) : Type 0 where
   pub few : n ≤ lay .stops + 64
   pub inside : (i : ℕ) → i < n → otherAt lay w i < lay .stops
   pub early : (i : ℕ) → i < n → getD w (otherAt lay w i) 0 < 29360128
@@ -37,10 +33,6 @@ pub record Appended (lay : Lay) (w w′ : List ℕ) (count count′ : ℕ) (more
   pub counted : count′ ≡ count + length more
   pub segReach : reachOf lay w′ ≡ reachOf lay w
   pub same : Same lay w w′
-
--- the two lists change places
-abbrev pub turned : Lay → Lay
-turned lay = record { stops = lay .stops; trips = lay .trips; lines = lay .lines; list = lay .other; other = lay .list }
 
 -- how many segments were queued at a round's end enters the log
 abbrev pub noted : ℕ → Boardings → Boardings

@@ -12,7 +12,7 @@ use Rattle.model.specs.Tables.{Tables, Query}
 use Rattle.model.specs.Search.{targetCells}
 use Rattle.flags.specs.Flags.{Patterned}
 use Rattle.scratch.specs.declared.Lay.{Lay}
-use Rattle.scratch.specs.Places.{EgressTable}
+use Rattle.scratch.specs.Places.{EgressTable, Falls}
 use Rattle.walks.specs.declared.Rules.{Rules}
 
 -- of the n numbers from e on, those before the first whose key is not x
@@ -21,7 +21,7 @@ runFrom key x e zero = []
 runFrom key x e (suc n) = elim (eqb (key e) x) [ true ↦ e ∷ runFrom key x (suc e) n | false ↦ [] ]
 
 -- the slices that walks read are as the door leaves them: the timetable; of d distances one for each edge; b bytes, 64 to a pattern
-pub record Ground (lay : Lay) (r : Rules) (t : List ℕ) (d b : ℕ) : Type 0 where
+pub record WalkGround (lay : Lay) (r : Rules) (t : List ℕ) (d b : ℕ) : Type 0 where
   pub sane : Sane t (r .counts)
   pub order : OrderOk t (r .counts)
   pub stops : r .counts .stops ≡ lay .stops
@@ -31,14 +31,10 @@ pub record Ground (lay : Lay) (r : Rules) (t : List ℕ) (d b : ℕ) : Type 0 wh
 
 -- tables and a query that hold what is read: the timetable t, the edges' distances d, the patterns' bytes b, the cells of the egress
 -- stops, the egress table among the working numbers w
-pub record Agree (lay : Lay) (r : Rules) (t : List ℕ) (d : List Float) (b w : List ℕ) (T : Tables) (Q : Query) : Type 0 where
+pub record WalksAgree (lay : Lay) (r : Rules) (t : List ℕ) (d : List Float) (b w : List ℕ) (T : Tables) (Q : Query) : Type 0 where
   pub timetable : T .timetable ≡ timetable t (r .counts)
   pub distance : (e : ℕ) → e < r .counts .edges → T .distance e ≡ getD d e nan
   pub wheelchair : Q .wheelchair ≡ r .wheelchair
   pub patterned : Patterned T b (r .patterns)
   pub targets : r .targets ≡ targetCells T Q
   pub egress : EgressTable (Q .egress) lay w
-
--- no stop's earliest arrival is later than it was
-pub record Falls (lay : Lay) (w w′ : List ℕ) : Type 0 where
-  pub at : (s : ℕ) → s < lay .stops → getD w′ s 0 ≤ getD w s 0

@@ -15,12 +15,12 @@ ghost use mathlib.Core.Bool.{not, _&&_};
 ghost use Rattle.model.specs.Tables.{Tables, Query, edgesFrom};
 ghost use Rattle.model.specs.Search.{targetCells, holdsTarget, walkFrom, walkAll};
 ghost use Rattle.scratch.specs.Part.{part};
-ghost use Rattle.scratch.specs.Places.{Sized};
+ghost use Rattle.scratch.specs.Places.{Sized, otherAt, turned, Falls};
 ghost use Rattle.scratch.specs.View.{memory};
 ghost use Rattle.scratch.specs.Step.{Ready, Step};
-ghost use Rattle.walks.specs.Walking.{Ground, Agree, Falls};
+ghost use Rattle.walks.specs.Walking.{WalkGround, WalksAgree};
 ghost use Rattle.flags.specs.Flags.{Patterned, PatternsOk};
-ghost use Rattle.walks.specs.Lists.{otherAt, Listed, bearing, Appended, turned, Phase};
+ghost use Rattle.walks.specs.Lists.{StopsListed, bearing, Appended, Phase};
 use cell_bitset::CellBitSet;
 use label::Label;
 use scratch::Head;
@@ -83,8 +83,8 @@ fn walk_edge(
     metres: &mut [f64],
     h: Head,
 ) -> Head
-    requires { ⌜ Ready lay stamp (memory (now work) (now labels) (now metres) h) ⌝ ∗ ⌜ Ground lay rules (now t) (length (now distances)) (length (now patterns)) ⌝ ∗ ⌜ x < lay .stops ⌝ ∗ ⌜ v < 29360128 ⌝ ∗ ⌜ e < rules .counts .edges ⌝ }
-    ensures { λ r. ⌜ Step lay stamp (Agree lay rules (now (t .entry)) (now (distances .entry)) (now (patterns .entry)) (now (work .entry))) (λ T Q. walkFrom T Q (rules .flagged) stamp x v (e ∷ [])) (memory (now (work .entry)) (now (labels .entry)) (now (metres .entry)) h) (memory (now (work .exit)) (now (labels .exit)) (now (metres .exit)) r) ⌝ ∗ ⌜ Falls lay (now (work .entry)) (now (work .exit)) ⌝ }
+    requires { ⌜ Ready lay stamp (memory (now work) (now labels) (now metres) h) ⌝ ∗ ⌜ WalkGround lay rules (now t) (length (now distances)) (length (now patterns)) ⌝ ∗ ⌜ x < lay .stops ⌝ ∗ ⌜ v < 29360128 ⌝ ∗ ⌜ e < rules .counts .edges ⌝ }
+    ensures { λ r. ⌜ Step lay stamp (WalksAgree lay rules (now (t .entry)) (now (distances .entry)) (now (patterns .entry)) (now (work .entry))) (λ T Q. walkFrom T Q (rules .flagged) stamp x v (e ∷ [])) (memory (now (work .entry)) (now (labels .entry)) (now (metres .entry)) h) (memory (now (work .exit)) (now (labels .exit)) (now (metres .exit)) r) ⌝ ∗ ⌜ Falls lay (now (work .entry)) (now (work .exit)) ⌝ }
 {
     let c = rules.counts;
     let row = tables::edge_row(t, c, e);
@@ -122,8 +122,8 @@ fn walk_from(
     metres: &mut [f64],
     h: Head,
 ) -> Head
-    requires { ⌜ Ready lay stamp (memory (now work) (now labels) (now metres) h) ⌝ ∗ ⌜ Ground lay rules (now t) (length (now distances)) (length (now patterns)) ⌝ ∗ ⌜ x < lay .stops ⌝ ∗ ⌜ v < 29360128 ⌝ }
-    ensures { λ r. ⌜ Step lay stamp (Agree lay rules (now (t .entry)) (now (distances .entry)) (now (patterns .entry)) (now (work .entry))) (λ T Q. walkFrom T Q (rules .flagged) stamp x v (edgesFrom T x)) (memory (now (work .entry)) (now (labels .entry)) (now (metres .entry)) h) (memory (now (work .exit)) (now (labels .exit)) (now (metres .exit)) r) ⌝ ∗ ⌜ Falls lay (now (work .entry)) (now (work .exit)) ⌝ }
+    requires { ⌜ Ready lay stamp (memory (now work) (now labels) (now metres) h) ⌝ ∗ ⌜ WalkGround lay rules (now t) (length (now distances)) (length (now patterns)) ⌝ ∗ ⌜ x < lay .stops ⌝ ∗ ⌜ v < 29360128 ⌝ }
+    ensures { λ r. ⌜ Step lay stamp (WalksAgree lay rules (now (t .entry)) (now (distances .entry)) (now (patterns .entry)) (now (work .entry))) (λ T Q. walkFrom T Q (rules .flagged) stamp x v (edgesFrom T x)) (memory (now (work .entry)) (now (labels .entry)) (now (metres .entry)) h) (memory (now (work .exit)) (now (labels .exit)) (now (metres .exit)) r) ⌝ ∗ ⌜ Falls lay (now (work .entry)) (now (work .exit)) ⌝ }
 {
     let c = rules.counts;
     let mut e = first_edge(t, c, x);
@@ -166,8 +166,8 @@ fn walk_all(
     metres: &mut [f64],
     h: Head,
 ) -> Head
-    requires { ⌜ Ready lay stamp (memory (now work) (now labels) (now metres) h) ⌝ ∗ ⌜ Ground lay rules (now t) (length (now distances)) (length (now patterns)) ⌝ ∗ ⌜ Listed lay (now work) n ⌝ }
-    ensures { λ r. ⌜ Step lay stamp (Agree lay rules (now (t .entry)) (now (distances .entry)) (now (patterns .entry)) (now (work .entry))) (λ T Q. walkAll T Q (rules .flagged) stamp (part (now (work .entry)) (lay .other) n)) (memory (now (work .entry)) (now (labels .entry)) (now (metres .entry)) h) (memory (now (work .exit)) (now (labels .exit)) (now (metres .exit)) r) ⌝ ∗ ⌜ Falls lay (now (work .entry)) (now (work .exit)) ⌝ }
+    requires { ⌜ Ready lay stamp (memory (now work) (now labels) (now metres) h) ⌝ ∗ ⌜ WalkGround lay rules (now t) (length (now distances)) (length (now patterns)) ⌝ ∗ ⌜ StopsListed lay (now work) n ⌝ }
+    ensures { λ r. ⌜ Step lay stamp (WalksAgree lay rules (now (t .entry)) (now (distances .entry)) (now (patterns .entry)) (now (work .entry))) (λ T Q. walkAll T Q (rules .flagged) stamp (part (now (work .entry)) (lay .other) n)) (memory (now (work .entry)) (now (labels .entry)) (now (metres .entry)) h) (memory (now (work .exit)) (now (labels .exit)) (now (metres .exit)) r) ⌝ ∗ ⌜ Falls lay (now (work .entry)) (now (work .exit)) ⌝ }
 {
     let mut g = h;
     let mut i: usize = 0;
@@ -210,7 +210,7 @@ fn append_one(lay: Lay, stamp: u32, s: usize, work: &mut [u32], count: usize) ->
 
 // Those of the first n stops of the other list that bear the stamp are put behind the list.
 fn append_stamped(lay: Lay, stamp: u32, n: usize, work: &mut [u32], count: usize) -> usize
-    requires { ⌜ Sized lay (length (now work)) (lay .stops * 104) (lay .stops * 13) ⌝ ∗ ⌜ Listed lay (now work) n ⌝ ∗ ⌜ count + n ≤ lay .stops + 64 ⌝ }
+    requires { ⌜ Sized lay (length (now work)) (lay .stops * 104) (lay .stops * 13) ⌝ ∗ ⌜ StopsListed lay (now work) n ⌝ ∗ ⌜ count + n ≤ lay .stops + 64 ⌝ }
     ensures { λ r. ⌜ Appended lay (now (work .entry)) (now (work .exit)) count r (bearing lay stamp (now (work .entry)) (part (now (work .entry)) (lay .other) n)) ⌝ }
 {
     let mut k = count;
@@ -238,8 +238,8 @@ pub fn walk_phase(
     metres: &mut [f64],
     h: Head,
 ) -> Head
-    requires { ⌜ Ready lay stamp (memory (now work) (now labels) (now metres) h) ⌝ ∗ ⌜ Ground lay rules (now t) (length (now distances)) (length (now patterns)) ⌝ ∗ ⌜ Listed (turned lay) (now work) (h .count) ⌝ }
-    ensures { λ r. ⌜ Phase lay (rules .flagged) stamp (Agree lay rules (now (t .entry)) (now (distances .entry)) (now (patterns .entry)) (now (work .entry))) (memory (now (work .entry)) (now (labels .entry)) (now (metres .entry)) h) (memory (now (work .exit)) (now (labels .exit)) (now (metres .exit)) r) ⌝ }
+    requires { ⌜ Ready lay stamp (memory (now work) (now labels) (now metres) h) ⌝ ∗ ⌜ WalkGround lay rules (now t) (length (now distances)) (length (now patterns)) ⌝ ∗ ⌜ StopsListed (turned lay) (now work) (h .count) ⌝ }
+    ensures { λ r. ⌜ Phase lay (rules .flagged) stamp (WalksAgree lay rules (now (t .entry)) (now (distances .entry)) (now (patterns .entry)) (now (work .entry))) (memory (now (work .entry)) (now (labels .entry)) (now (metres .entry)) h) (memory (now (work .exit)) (now (labels .exit)) (now (metres .exit)) r) ⌝ }
 {
     let back = Lay {
         stops: lay.stops,

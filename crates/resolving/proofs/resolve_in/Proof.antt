@@ -6,7 +6,7 @@ use native.Mathlib.Omega.{arith}
 use mathlib.Core.Path.{_∙_, _≡_, sym}
 use Prim.Native.Nat.{_-_, _≤_, ℕ}
 use Rattle.model.specs.Tables.{Query, Tables}
-use Rattle.boarding.specs.Resolving.{Listed}
+use Rattle.boarding.specs.Resolving.{TripsAt}
 use Rattle.boarding.specs.Reads.{Agree, Asks}
 use Rattle.resolving.proofs.resolve_in.Statement.{statement}
 use Rattle.resolving.proofs.resolve_in.Tie as tie
@@ -17,7 +17,7 @@ use Rattle.tables.proofs.field.Reads as field-reads
 
 abbrev Inv-loop : tie.InvT-loop
 Inv-loop t c rows stop-rows built w is-fifo from k off after best j₀ j =
-    (j ≤ k) × ((T : Tables) (Q : Query) (trip : ℕ → ℕ) (p : ℕ) → Agree T Q t c rows stop-rows → Asks Q w → Listed trip p built from k → resolveIn T Q is-fifo off after best trip k p ≡ left T Q is-fifo off after best trip k p j)
+    (j ≤ k) × ((T : Tables) (Q : Query) (trip : ℕ → ℕ) (p : ℕ) → Agree T Q t c rows stop-rows → Asks Q w → TripsAt trip p built from k → resolveIn T Q is-fifo off after best trip k p ≡ left T Q is-fifo off after best trip k p j)
 
 abbrev μ-loop : tie.MeasureT-loop
 μ-loop t c rows stop-rows built w is-fifo from k off after best j₀ j = k - j

@@ -1,5 +1,5 @@
 use Rattle.totals.proofs.Laws.{bestAhead, best-first, best-step, best-end}
-use Rattle.totals.specs.Totals.{Reached, withStop}
+use Rattle.totals.specs.Totals.{EarliestAre, withStop}
 use Rattle.flags.specs.Flags.{egressRows}
 use Rattle.model.specs.Search.{Arrivals, bestTarget}
 use Rattle.model.specs.Tables.{Tables, Query, never}
@@ -18,7 +18,7 @@ use Rattle.totals.proofs.word.Reads as word-reads
 
 abbrev Inv-loop : tie.InvT-loop
 Inv-loop work stops egress n total₀ stop₀ i₀ total stop i =
-    (n ≡ length egress / 2) × ((T : Tables) (Q : Query) (a : Arrivals) → Reached a stops work → bestTarget T Q a (egressRows egress) (never, never) ≡ bestAhead T Q a egress n i (total, stop))
+    (n ≡ length egress / 2) × ((T : Tables) (Q : Query) (a : Arrivals) → EarliestAre a stops work → bestTarget T Q a (egressRows egress) (never, never) ≡ bestAhead T Q a egress n i (total, stop))
 
 abbrev μ-loop : tie.MeasureT-loop
 μ-loop work stops egress n total₀ stop₀ i₀ total stop i = n - i

@@ -6,7 +6,7 @@ use lib.ListN.{drop}
 use Rattle.model.specs.Search.{walkAll}
 use Rattle.scratch.specs.Part.{part}
 use Rattle.scratch.specs.View.{memory}
-use Rattle.walks.specs.Walking.{Agree}
+use Rattle.walks.specs.Walking.{WalksAgree}
 use Rattle.walks.proofs.Along.{Along, along-start, along-turn, along-end}
 use Rattle.walks.proofs.Edge.{agree-kept}
 use Rattle.walks.proofs.From.{all-turn, all-end, step-at, listed-kept, other-length, other-in}
@@ -18,7 +18,7 @@ use Rattle.walks.proofs.walk_from.Reads as walk-from-reads
 
 abbrev Inv-loop : tie.InvT-loop
 Inv-loop lay rules stamp n t distances patterns work₀ labels₀ metres₀ g₀ i₀ work labels metres g i =
-    Along lay stamp (Agree lay rules t distances patterns work₀) (λ T Q. walkAll T Q (rules .flagged) stamp (part work₀ (lay .other) n))
+    Along lay stamp (WalksAgree lay rules t distances patterns work₀) (λ T Q. walkAll T Q (rules .flagged) stamp (part work₀ (lay .other) n))
     (λ T Q. walkAll T Q (rules .flagged) stamp (drop i (part work₀ (lay .other) n))) (memory work₀ labels₀ metres₀ g₀) (memory work labels metres g)
 
 abbrev μ-loop : tie.MeasureT-loop

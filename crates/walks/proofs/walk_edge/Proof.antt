@@ -3,9 +3,10 @@ use mathlib.Core.Path.{refl, sym, _∙_}
 use native.Mathlib.Omega.{arith}
 use Rattle.walk.proofs.Laws.{duration-most}
 use Rattle.walks.proofs.Edge.{row-ok, edge-skipped, edge-late, edge-walked}
-use Rattle.walks.proofs.Falling.{falls-refl, relaxed-falls}
+use Rattle.walks.proofs.Falling.{relaxed-falls}
 use borrow.Author.Needs.{needs}
 use Rattle.walks.proofs.walk_edge.Statement.{statement}
+use Rattle.scratch.proofs.Falls.{falls-refl}
 use Rattle.walks.proofs.walk_edge.Tie as tie
 use Rattle.walks.proofs.walk_edge.Reads as reads
 use Rattle.walks.proofs.walk_edge.Lts as lts

@@ -4,7 +4,7 @@ use native.Mathlib.Omega.{arith}
 use Rattle.model.specs.Tables.{edgesFrom}
 use Rattle.model.specs.Search.{walkFrom}
 use Rattle.scratch.specs.View.{memory}
-use Rattle.walks.specs.Walking.{Agree}
+use Rattle.walks.specs.Walking.{WalksAgree}
 use Rattle.walks.proofs.Along.{Along, along-start, along-turn, along-end}
 use Rattle.walks.proofs.Edge.{agree-kept}
 use Rattle.walks.proofs.From.{walkLeft, left-start, left-turn, left-stop, left-end}
@@ -18,7 +18,7 @@ use Rattle.walks.proofs.walk_edge.Reads as walk-edge-reads
 
 abbrev Inv-loop : tie.InvT-loop
 Inv-loop lay rules stamp x v t distances patterns work₀ labels₀ metres₀ c e₀ g₀ work labels metres e g =
-    Along lay stamp (Agree lay rules t distances patterns work₀) (λ T Q. walkFrom T Q (rules .flagged) stamp x v (edgesFrom T x))
+    Along lay stamp (WalksAgree lay rules t distances patterns work₀) (λ T Q. walkFrom T Q (rules .flagged) stamp x v (edgesFrom T x))
     (λ T Q. walkLeft T Q (rules .flagged) stamp x v t (rules .counts) e) (memory work₀ labels₀ metres₀ g₀) (memory work labels metres g)
 
 abbrev μ-loop : tie.MeasureT-loop
