@@ -12,7 +12,6 @@ use Rattle.line_layout.specs.Listed.{runIn as lineRunIn, lineRunsOk, entriesOk}
 use Rattle.line_transfers.specs.Transfers.{eventsBefore}
 use Rattle.asking.specs.declared.QueryCounts.{QueryCounts}
 use Rattle.asking.specs.declared.Lengths.{Lengths}
-use Rattle.asking.specs.Lent.{Lent}
 use Rattle.asking.specs.Door.{question1, readOk, writtenOk, question2, transferRunsOk, question3, columnBelow, lineNumbers, queryNumbers, question4, markRanges, transferRanges, settingRanges, walkRanges, question5, notEarlier, partOrder, departureOrder, columnRises, question6, verdict}
 
 -- a stop time: stop, arrival, departure; a trip: first stop time, count

@@ -1,26 +1,25 @@
 -- What the door means: a verdict of 0 gives the model's door of the tables and the query that the lent slices say.
 use Prim.Native.Nat.{ℕ, zero, suc, _+_, _*_, _-_, _<_, _≤_}
 use mathlib.Core.Path.{_≡_, sym, _∙_, ap, subst}
-use mathlib.Core.List.{List, [], _∷_, List·Memᴰ, List·Memᴰ·cases-cons, List·Memᴰ·not-nil}
+use mathlib.Core.List.{List, List·Memᴰ, List·Memᴰ·cases-cons, List·Memᴰ·not-nil}
 use mathlib.Core.Logic.{⊎-elim}
 use native.Mathlib.Nat.{eq-or-lt-of-le}
 use native.Mathlib.Omega.{arith}
 use lib.ListN.{length, getD}
-use Rattle.loops.specs.Count.{tab, tabFrom}
+use Rattle.loops.specs.Count.{tabFrom}
 use Rattle.door.specs.Door.{timeLimit}
 use Rattle.tables.specs.Timetable.{Timetable, timetable}
 use Rattle.tables.specs.Tables.{firstOf, countOf, tripOf, stopOf}
 use Rattle.departures.specs.declared.DepartureRow.{DepartureRow}
-use Rattle.departures.specs.declared.StopRun.{StopRun}
-use Rattle.departures.specs.Departures.{rowAt, rowDeparture, runFirst, runLength, departuresOf, listedAt}
+use Rattle.departures.specs.Departures.{rowAt, rowDeparture, runFirst, runLength, departuresOf}
 use Rattle.departures.specs.Listed.{RowKnown}
 use Rattle.departures.proofs.Parts.{part-row, stop-known}
 use Rattle.line_layout.specs.Layout.{runAt}
-use Rattle.line_transfers.specs.Transfers.{Transfer, eventsBefore, transferAt, transfersAt}
-use Rattle.model.specs.Tables.{Tables, Origin, Query, departure}
+use Rattle.line_transfers.specs.Transfers.{Transfer, eventsBefore, transferAt}
+use Rattle.model.specs.Tables.{Tables, Origin, departure}
 use Rattle.model.specs.Door.{InOrder, EgressRising, Door}
 use Rattle.asking.specs.declared.Lengths.{Lengths}
-use Rattle.asking.specs.Lent.{egressAt, eventsOf, stopRuns, departureRows, lineRuns, transferRunAt, transferRows, originAt, egressStop, Lent, tablesOf, queryOf}
+use Rattle.asking.specs.Lent.{egressAt, stopRuns, departureRows, lineRuns, transferRunAt, transferRows, originAt, egressStop, Lent, tablesOf, queryOf}
 use Rattle.asking.specs.Door.{verdict}
 use Rattle.asking.specs.Sane.{Admitted}
 use Rattle.asking.proofs.Yes.{admitted}

@@ -1,5 +1,5 @@
 -- Questions 4 to 6 asked at once: the turns of the loops, and what they give together.
-use Prim.Native.Nat.{ℕ, suc, _+_, _*_, _-_, _%_, _^_, _<_, _≤_}
+use Prim.Native.Nat.{ℕ, _+_, _*_, _-_, _%_, _<_, _≤_}
 use mathlib.Core.Path.{_≡_, refl, sym, _∙_, ap, ap₂, subst}
 use mathlib.Core.Bool.{Bool, true, false, _&&_}
 use mathlib.Core.List.{List}
@@ -19,7 +19,6 @@ use Rattle.tables.specs.Timetable.{Timetable, timetable}
 use Rattle.tables.specs.Door.{numbersOk, rangesOk, orderOk}
 use Rattle.tables.specs.Sane.{SlicesOk, RunsOk}
 use Rattle.tables.proofs.Yes.{two}
-use Rattle.departures.specs.declared.DepartureRow.{DepartureRow}
 use Rattle.departures.specs.declared.StopRun.{StopRun}
 use Rattle.departures.specs.Departures.{rowAt, rowDeparture, runAt, runFirst, runLength, runEnd, departuresOf}
 use Rattle.departures.specs.Listed.{RowKnown, RunsListed}
@@ -28,7 +27,7 @@ use Rattle.departures.proofs.Parts.{part-row}
 use Rattle.delay_tables.specs.Door.{delayNumbers, delayRanges, delayOrder}
 use Rattle.asking.specs.declared.QueryCounts.{QueryCounts}
 use Rattle.asking.specs.Lent.{delaysOf, stopRuns, departureRows}
-use Rattle.asking.specs.Door.{columnAt, lineNumbers, queryNumbers, question4, markRanges, transferRanges, settingRanges, walkRanges, question5, notEarlier, partOrder, departureOrder, egressOrder, question6}
+use Rattle.asking.specs.Door.{lineNumbers, queryNumbers, question4, markRanges, transferRanges, settingRanges, walkRanges, question5, notEarlier, partOrder, departureOrder, egressOrder, question6}
 use Rattle.asking.specs.Once.{Leaving, RunRight, InTurn, queryOk, tablesOk, Passed}
 
 -- THE TRANSFERS' TIMES. All bits of those passed, and one more; the test of one is that of the column

@@ -1,10 +1,8 @@
 -- What a yes to each question gives.
-use Prim.Native.Nat.{ℕ, zero, suc, _+_, _*_, _-_, _<_, _≤_}
-use mathlib.Core.Path.{_≡_, refl, sym, _∙_, ap}
-use mathlib.Core.Bool.{Bool, true, false, _&&_}
+use Prim.Native.Nat.{ℕ, _+_, _*_, _-_, _<_}
+use mathlib.Core.Path.{_≡_, _∙_, ap}
+use mathlib.Core.Bool.{Bool, true, _&&_}
 use mathlib.Core.List.{List}
-use mathlib.Core.Logic.{⊎-elim}
-use native.Mathlib.Nat.{eq-or-lt-of-le}
 use native.Mathlib.Omega.{arith}
 use lib.ListN.{length, getD}
 use lib.Dec.{ltb, leb, eqb}
@@ -15,16 +13,14 @@ use Rattle.door.specs.Door.{ask, timeLimit}
 use Rattle.door.proofs.Laws.{ask-yes, ask-later}
 use Rattle.tables.specs.Timetable.{Timetable, timetable}
 use Rattle.tables.specs.Door.{countsOk, slicesOk, runsOk, numbersOk, rangesOk, orderOk}
-use Rattle.tables.specs.Sane.{SlicesOk}
 use Rattle.tables.proofs.Yes.{Two, two, counts-yes, slices-yes, runs-yes, numbers-yes, ranges-yes, order-yes}
 use Rattle.departures.specs.Departures.{rowAt, rowDeparture, runLength, departuresOf}
 use Rattle.departures.specs.Listed.{runIn, stopRunsOk, listedOk}
 use Rattle.departures.proofs.Yes.{runs-listed, rows-listed}
-use Rattle.line_layout.specs.Listed.{lineRunsOk, entriesOk, LinesListed}
+use Rattle.line_layout.specs.Listed.{lineRunsOk, entriesOk}
 use Rattle.line_layout.proofs.Yes.{lines-listed}
 use Rattle.label_table.specs.Table.{lengthsRight}
 use Rattle.delay_tables.specs.Door.{delayNumbers, delayRanges, delayOrder}
-use Rattle.delays.specs.Sane.{Delays}
 use Rattle.delays.proofs.Door.{delays-yes}
 use Rattle.asking.specs.declared.QueryCounts.{QueryCounts}
 use Rattle.asking.specs.declared.Lengths.{Lengths}

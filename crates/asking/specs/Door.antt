@@ -7,7 +7,6 @@ use lib.Dec.{ltb, leb, eqb}
 use Rattle.loops.specs.Iter.{everyIn}
 use Rattle.door.specs.declared.Answer.{Answer}
 use Rattle.door.specs.Door.{ask, answer, timeLimit}
-use Rattle.tables.specs.declared.Counts.{Counts}
 use Rattle.tables.specs.Timetable.{Timetable, timetable}
 use Rattle.tables.specs.Door.{countsOk, slicesOk, runsOk, numbersOk, rangesOk, orderOk}
 use Rattle.departures.specs.Departures.{rowAt, rowDeparture, runLength, departuresOf}
@@ -17,7 +16,7 @@ use Rattle.label_table.specs.Table.{lengthsRight}
 use Rattle.delay_tables.specs.Door.{delayNumbers, delayRanges, delayOrder}
 use Rattle.asking.specs.declared.QueryCounts.{QueryCounts}
 use Rattle.asking.specs.declared.Lengths.{Lengths}
-use Rattle.asking.specs.Lent.{marksAt, transferRunsAt, eventsOf, builtSize, originsAt, egressAt, querySize, lineRuns, lineEntries, stopRuns, departureRows, delaysOf, transferRunAt, transferRows, Lent}
+use Rattle.asking.specs.Lent.{marksAt, eventsOf, builtSize, originsAt, egressAt, querySize, lineRuns, lineEntries, stopRuns, departureRows, delaysOf, transferRunAt, transferRows, Lent}
 
 -- 1: ARE ALL COUNTS WITHIN THE LIMITS?
 unfoldable pub question1 : QueryCounts → Bool

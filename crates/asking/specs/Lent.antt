@@ -6,7 +6,7 @@ use lib.Seq.{slice}
 use lib.Dec.{eqb}
 use lib.Ieee.{Float, nan}
 use Rattle.loops.specs.Count.{tab}
-use Rattle.tables.specs.Timetable.{Timetable, timetable}
+use Rattle.tables.specs.Timetable.{timetable}
 use Rattle.departures.specs.declared.StopRun.{StopRun}
 use Rattle.departures.specs.Departures.{listedAt}
 use Rattle.line_layout.specs.Layout.{lineAt}

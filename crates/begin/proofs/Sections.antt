@@ -4,7 +4,7 @@ use mathlib.Core.Path.{_≡_, refl, sym, ap, ap₂, _∙_}
 use mathlib.Core.List.{List}
 use native.Mathlib.Omega.{arith}
 use lib.ListN.{length, getD, set, take, drop, length-set, length-drop}
-use lib.Seq.{slice, length-take-le, getD-take, getD-set-same, getD-set-other}
+use lib.Seq.{length-take-le, getD-take, getD-set-same, getD-set-other}
 use borrow.Rule.Slice.PartMut.{putMid}
 use Rattle.loops.specs.Count.{tab}
 use Rattle.loops.proofs.Count.{length-tabFrom, getD-tab}

@@ -1,5 +1,5 @@
 -- The model's tests and times by the numbers that the slices hold.
-use Prim.Native.Nat.{ℕ, zero, suc, _+_, _*_, _-_, _/_, _<_, _≤_}
+use Prim.Native.Nat.{ℕ, suc, _+_, _*_, _-_, _<_, _≤_}
 use mathlib.Core.Path.{_≡_, refl, ap, ap₂, sym, _∙_}
 use mathlib.Core.Bool.{Bool, true, false, cond, not, _&&_, _||_}
 use mathlib.Core.List.{List}
@@ -18,14 +18,14 @@ use Rattle.frequency.specs.Gtfs.{Window, windowOf, windowCount, windowAt, earli
 use Rattle.loops.specs.Iter.{Hit, hit, miss}
 use Rattle.loops.proofs.Search.{hit-below}
 use Rattle.tables.specs.declared.Counts.{Counts}
-use Rattle.tables.specs.Tables.{timeOf, tripOf, firstOf, countOf, windowsAt, windowOf as tableWindow}
+use Rattle.tables.specs.Tables.{timeOf, tripOf, firstOf, windowsAt, windowOf as tableWindow}
 use Rattle.tables.specs.Timetable.{Timetable, timetable}
 use Rattle.realtime.specs.declared.StopDelay.{StopDelay}
 use Rattle.realtime.specs.Times.{effectiveDeparture, effectiveArrival}
 use Rattle.delay_tables.specs.declared.Found.{Found}
-use Rattle.delay_tables.specs.declared.Found.the-variants.{At, Nothing}
+use Rattle.delay_tables.specs.declared.Found.the-variants.{At}
 use Rattle.delay_tables.specs.Delays.{delayRow, stopDelay, margin}
-use Rattle.delay_tables.specs.Flat.{delayCount, delaysAlone, delayTables, foundOf}
+use Rattle.delay_tables.specs.Flat.{delaysAlone, delayTables, foundOf}
 use Rattle.frequency.specs.declared.Boarding.{Boarding}
 use Rattle.frequency.specs.declared.FreqBoard.{FreqBoard}
 use Rattle.frequency.specs.declared.FreqBoard.the-variants.{Nothing as NoBoard, Board}
@@ -77,9 +77,6 @@ module _ (T : Tables) (Q : Query) (t : List ℕ) (c : Counts) (rows stops : List
 
   pub arrival-now-is : (h : Hit) (i o shift x : ℕ) (d : StopDelay) (r : ℕ) → x ≡ timeOf t (firstOf t c i + o) 1 → d ≡ delayAt T Q h i o → r ≡ effectiveArrival x shift d → r ≡ arrivalNow T Q h shift i o
   arrival-now-is h i o shift x d r ex ed er = er ∙ ap₂ (λ (y : ℕ) (z : StopDelay). effectiveArrival y shift z) (ex ∙ rw (g .timetable) refl) ed
-
-  pub departure-word : (i o : ℕ) → timeOf t (firstOf t c i + o) 2 ≡ departure T i o
-  departure-word i o = rw (g .timetable) refl
 
 -- a trip's stop time is one of the table's
 pub event-time : (t : List ℕ) (c : Counts) (i o : ℕ) → Sane t c → Event t c i o → firstOf t c i + o < c .times

@@ -1,5 +1,5 @@
 -- What boarding reads, and which tables and queries agree with it. Definitions only.
-use Prim.Native.Nat.{ℕ, _+_, _*_, _<_, _≤_}
+use Prim.Native.Nat.{ℕ, _<_}
 use mathlib.Core.Path.{_≡_}
 use mathlib.Core.List.{List}
 use Rattle.loops.specs.Iter.{Hit, hit, miss}

@@ -1,9 +1,9 @@
 -- What a boarding and an arrival leave alone of each other: arrivals, egress table, lines. Assumes nothing.
-use Prim.Native.Nat.{ℕ, zero, suc, _+_, _*_, _-_, _≤_, _<_}
-use mathlib.Core.Path.{_≡_, refl, sym, ap, ap₂, _∙_}
+use Prim.Native.Nat.{ℕ, _+_, _*_, _-_, _≤_, _<_}
+use mathlib.Core.Path.{_≡_, sym, ap, _∙_}
 use mathlib.Core.List.{List}
 use native.Mathlib.Omega.{arith}
-use lib.ListN.{length, getD, take}
+use lib.ListN.{length, getD}
 use lib.Seq.{getD-take}
 use lib.Ieee.{Float}
 use Rattle.loops.specs.Iter.{Hit}
@@ -11,9 +11,8 @@ use Rattle.tables.specs.declared.Counts.{Counts}
 use Rattle.scratch.specs.declared.Lay.{Lay}
 use Rattle.scratch.specs.declared.Head.{Head}
 use Rattle.scratch.specs.Part.{part}
-use Rattle.scratch.specs.Places.{Sized, Same, EgressTable, Walks, restAt}
+use Rattle.scratch.specs.Places.{Sized, Walks, restAt}
 use Rattle.scratch.specs.View.{memory, arrivalsOf}
-use Rattle.scratch.proofs.Part.{drop-at}
 use Rattle.model.specs.Tables.{Tables}
 use Rattle.pruning.specs.Chain.{positionsAt, tripStampsAt}
 use Rattle.pruning.specs.Books.{Agrees, Noted}
@@ -37,29 +36,13 @@ agrees-by T lay c built w w′ f ag =
       };
     }
 
--- after an arrival
-pub agrees-same : (T : Tables) (lay : Lay) (c : Counts) (built w w′ : List ℕ) → Same lay w w′ → Agrees T lay c built w → Agrees T lay c built w′
-agrees-same T lay c built w w′ s =
-    agrees-by T lay c built w w′ (λ i h l.
-    let e : restAt lay + (i - restAt lay) ≡ i = omega (arith, h) in
-    ap (λ (x : ℕ). getD w′ x 0) (sym e) ∙ drop-at w w′ (restAt lay) (i - restAt lay) (s .rest) ∙ ap (λ (x : ℕ). getD w x 0) e)
-
 -- after a boarding
 module _ (lay : Lay) (stamp : ℕ) (built : List ℕ) (adj : Hit) (t o dep : ℕ) (w w′ : List ℕ) (n : Noted lay stamp built adj t o dep w w′) where
   pub noted-at : (i : ℕ) → i < tripStampsAt lay → getD w′ i 0 ≡ getD w i 0
   noted-at i h = sym (getD-take (tripStampsAt lay) w′ i 0 h) ∙ ap (λ (l : List ℕ). getD l i 0) (n .below) ∙ getD-take (tripStampsAt lay) w i 0 h
 
-  pub agrees-noted : (T : Tables) (c : Counts) (lines : List ℕ) → Agrees T lay c lines w → Agrees T lay c lines w′
-  agrees-noted T c lines = agrees-by T lay c lines w w′ (λ i h l. noted-at i l)
-
-  pub egress-noted : (es : List (ℕ × ℕ)) → EgressTable es lay w → EgressTable es lay w′
-  egress-noted es e = record { at = λ s h. noted-at (restAt lay + s) (omega (arith, h)) ∙ e .at s h }
-
   pub walks-noted : Walks lay w → Walks lay w′
   walks-noted e = record { small = λ s h. rw (noted-at (restAt lay + s) (omega (arith, h))) (e .small s h) }
-
-  pub sized-noted : (b d : ℕ) → Sized lay (length w) b d → Sized lay (length w′) b d
-  sized-noted b d ok = rw (n .size) ok
 
   -- a section below the egress table
   pub part-noted : (b d : ℕ) → Sized lay (length w) b d → (a k : ℕ) → a + k ≤ restAt lay → part w′ a k ≡ part w a k

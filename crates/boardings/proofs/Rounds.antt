@@ -1,23 +1,20 @@
 -- A new round; a new query; what other calls leave alone. Assumes nothing.
-use Prim.Native.Nat.{ℕ, zero, suc, _+_, _*_, _-_, _≤_, _<_}
-use mathlib.Core.Path.{_≡_, refl, sym, ap, ap₂, _∙_}
-use mathlib.Core.Bool.{Bool, true, false, cond, not, _&&_, _||_}
-use mathlib.Core.List.{List, [], _∷_}
+use Prim.Native.Nat.{ℕ, zero, suc, _+_, _-_, _≤_, _<_}
+use mathlib.Core.Path.{_≡_, refl, sym, ap, _∙_}
+use mathlib.Core.Bool.{Bool, true, cond}
+use mathlib.Core.List.{List, []}
 use native.Mathlib.Omega.{arith}
 use lib.ListN.{length, getD, take, drop, replicate}
 use lib.Seq.{drop-drop}
-use lib.Dec.{ltb, leb, eqb}
 use borrow.Author.Tests.{ne-eqb}
 use Rattle.scratch.specs.declared.Lay.{Lay}
-use Rattle.scratch.specs.Part.{part, tally}
-use Rattle.scratch.specs.Places.{Sized, Same, restAt, listsAt, workSize}
-use Rattle.scratch.specs.View.{memory, Memory}
-use Rattle.reset.specs.Fill.{Fresh}
+use Rattle.scratch.specs.Part.{part}
+use Rattle.scratch.specs.Places.{Same, restAt, workSize}
 use Rattle.scratch.proofs.Part.{drop-at}
 use Rattle.reset.proofs.Filling.{part-same}
 use Rattle.model.specs.Tables.{Tables, Query, position, trips}
 use Rattle.model.specs.Search.{State, Boardings, lineAt, dominated, roundStart, newBoardings}
-use Rattle.pruning.specs.Chain.{positionsAt, tripStampsAt, offsetsAt, departuresAt, lineStampsAt, headsAt, linksAt, leastAt, firstOf, chainFrom, chain, isIn, someBefore}
+use Rattle.pruning.specs.Chain.{positionsAt, tripStampsAt, offsetsAt, departuresAt, lineStampsAt, headsAt, leastAt, firstOf, chainFrom, chain, isIn, someBefore}
 use Rattle.pruning.specs.Books.{Chains, Books}
 use Rattle.pruning.proofs.Chains.{chain-high, some-kept}
 use Rattle.pruning.proofs.Reading.{never}
@@ -93,13 +90,6 @@ books-zero lay T Q w ok e z =
   where
     zeros : (s : ℕ) → tripStampsAt lay ≤ s → s + lay .trips ≤ length w → replicate (trips T) 0 ≡ part w s (lay .trips)
     zeros s h r = ap (λ (n : ℕ). replicate n 0) e ∙ sym (part-same w s (lay .trips) 0 r (λ i u. z (s + i) (omega (arith, h))))
-
-pub chains-fresh : (lay : Lay) (a : Memory) → Fresh lay a → Chains lay 1 (a .work)
-chains-fresh lay a z = chains-zero lay (a .work) (λ i h. z .zero i (omega (arith, h)))
-
-pub books-fresh : (lay : Lay) (T : Tables) (Q : Query) (a : Memory) → Sized lay (length (a .work)) (lay .stops * 104) (lay .stops * 13) → trips T ≡ lay .trips → Fresh lay a
-    → Books lay 1 T Q (a .work) (newBoardings T Q)
-books-fresh lay T Q a ok e z = books-zero lay T Q (a .work) (ok .sections .words) e (λ i h. z .zero i (omega (arith, h)))
 
 -- where all from `restAt` on is as it came
 module _ (lay : Lay) (stamp : ℕ) (w w′ : List ℕ) (rest : drop (restAt lay) w′ ≡ drop (restAt lay) w) where

@@ -6,12 +6,12 @@ use mathlib.Core.Bool.{Bool, true, false, cond, _&&_, _||_, not}
 use mathlib.Core.List.{List, [], _∷_, List·Memᴰ, List·Memᴰ·head, List·Memᴰ·tail, List·Memᴰ·cases-cons, List·Memᴰ·not-nil}
 use native.Mathlib.Omega.{arith}
 use native.Mathlib.Nat.{eq-or-lt-of-le}
-use lib.ListN.{length, getD}
+use lib.ListN.{getD}
 use lib.Dec.{ltb, leb, eqb}
 use borrow.Author.Tests.{ltb-true, leb-true, eqb-true, eq-eqb, ne-eqb, not-true}
 use Rattle.loops.specs.Iter.{everyIn, someIn}
 use Rattle.loops.specs.Count.{tabFrom, upto}
-use Rattle.loops.proofs.Iter.{everyIn-at, some-found, Passes}
+use Rattle.loops.proofs.Iter.{everyIn-at, some-found}
 use Rattle.loops.proofs.Search.{clash}
 use Rattle.sorts.specs.Orders.{keep}
 use Rattle.door.specs.Door.{timeLimit}

@@ -1,10 +1,10 @@
 -- Worked rows computed of the definitions, as one tabulated check: document 01's rows on Timetable K; K with a pattern, with a frequency
 -- trip and with delays; queries without origin or egress; the day with walks. Each row: what is computed, and the numbers it must give.
-use Prim.Native.Nat.{ℕ, zero, suc, _+_, _*_, _-_, _/_, _%_}
+use Prim.Native.Nat.{ℕ, zero, suc, _+_}
 use mathlib.Core.Path.{_≡_, refl}
-use mathlib.Core.Bool.{Bool, true, false}
+use mathlib.Core.Bool.{true, false}
 use mathlib.Core.List.{List, [], _∷_, _++_, map, flatMap, flatten}
-use lib.ListN.{length, getD}
+use lib.ListN.{length}
 use Rattle.loops.specs.Iter.{iter, every, some, first}
 use Rattle.loops.specs.Count.{one, upto, count, tabFrom}
 use Rattle.sorts.specs.Sort.{insertBy, sortBy}
@@ -15,14 +15,13 @@ use Rattle.frequency.specs.declared.FreqBoard.the-variants.{Nothing, Board}
 use Rattle.frequency.specs.Gtfs.{windowOf, firstRun, earliestFreqBoard}
 use Rattle.realtime.specs.Times.{effectiveArrival}
 use Rattle.label.specs.declared.Label.{Label}
-use Rattle.label.specs.declared.Label.the-variants.{Empty, Access, Transit, Walk}
+use Rattle.label.specs.declared.Label.the-variants.{Access, Transit, Walk}
 use Rattle.label.specs.Label.{rowOf, noDistance}
-use Rattle.tables.specs.Timetable.{Timetable}
 use Rattle.line_numbers.specs.Lines.{lineOf, same, leadOf, isLead, lineTrips}
 use Rattle.line_layout.specs.Layout.{fifoLine, inOrder, neighbours, lastIn, positionIn}
 use Rattle.departures.specs.Departures.{frequencyListed}
 use Rattle.line_transfers.specs.Transfers.{Transfer, departuresOfLine, firstNotBefore, transferTo, transfersOf}
-use Rattle.model.specs.Tables.{never, Tables, Query, stops, changeBefore, isEgress, egressWalk, edgesFrom, position, fifo, modeWanted, usable, permitted}
+use Rattle.model.specs.Tables.{never, Tables, Query, changeBefore, isEgress, egressWalk, edgesFrom, fifo, modeWanted, usable, permitted}
 use Rattle.model.specs.Search.{Answer, targetsFrom, targetCells, holdsTarget, useArcFlags, someTransfer, skipsEdge, skipsTransfer, flagsInUse, departuresAt, markAt, lineAt, notBefore, marginOf, boardAt, bestAfter, improve, relax, resolveIn, lineTripsAt, resolve, enqueue, takeTransfers, alightings, transferring, scanTripForward, rideSegments, dominated, pruned, passedOver, boarding, board, scanDepartures, scanStops, walkFrom, walkAll, ridePhase, stamped, walkPhase, idle, rounds, setOut, access, bestTarget, rowTarget, candidatesFrom, final, answer, runTbr, query}
 use Rattle.days.specs.K.{built, timetableK, listedK, tablesK, patternK, frequentK, asks, queryK, noDelays, origin, delayedK, tablesW, queryW}
 

@@ -1,12 +1,12 @@
 -- Plain days that exist: Timetable K, K with a pattern that skips nothing, and a day with walks. On K with the pattern the Rust itself
 -- does not give what demand 3 asks.
-use Prim.Native.Nat.{ℕ, zero, suc, _+_, _≤_, _<_}
+use Prim.Native.Nat.{ℕ, zero, suc, _+_, _≤_}
 use mathlib.Core.Path.{_≡_, refl, sym, ap, subst, _∙_}
 use mathlib.Core.Logic.{⊎-elim}
 use mathlib.Core.Bool.{Bool, true, false, not, _||_}
 use mathlib.Core.List.{List, [], _∷_, flatten, List·Memᴰ, List·Memᴰ·head, List·Memᴰ·tail, List·Memᴰ·cases-cons, List·Memᴰ·not-nil, List·Memᴰ·eq-of-singleton}
 use native.Mathlib.Omega.{arith}
-use lib.ListN.{length, getD}
+use lib.ListN.{getD}
 use lib.Dec.{ltb, eqb}
 use borrow.Author.Tests.{leb-true, ltb-true, eq-eqb}
 use Rattle.loops.specs.Iter.{iter, every, first, some}
@@ -18,7 +18,7 @@ use Rattle.departures.specs.declared.DepartureRow.{DepartureRow}
 use Rattle.line_numbers.specs.Lines.{lineOf, same, leadOf, isLead, lineTrips}
 use Rattle.departures.specs.Departures.{frequencyListed}
 use Rattle.line_transfers.specs.Transfers.{departuresOfLine, firstNotBefore, transferTo, transfersOf}
-use Rattle.model.specs.Tables.{Tables, Origin, Query, stopAt, arrival, departure, changeBefore, edgesFrom, modeWanted, usable, permitted}
+use Rattle.model.specs.Tables.{Origin, Query, stopAt, arrival, departure, changeBefore, edgesFrom, modeWanted, usable, permitted}
 use Rattle.model.specs.Search.{Answer, targetsFrom, targetCells, holdsTarget, useArcFlags, someTransfer, skipsEdge, skipsTransfer, flagsInUse, runTbr}
 use Rattle.model.specs.Door.{Door}
 use Rattle.model.specs.Promise.{PlainDay, Boarding, Alighting, Journey, WholeJourney, Way, Arrives, Demand3}

@@ -6,8 +6,6 @@ use lib.ListN.{length, getD}
 use Rattle.cell_bitset.specs.declared.CellBitSet.{CellBitSet}
 use Rattle.cell_bitset.specs.CellSet.{emptySet, withCell}
 use Rattle.label.specs.Label.{noDistance}
-use Rattle.delay_tables.specs.declared.DelayRow.{DelayRow}
-use Rattle.delay_tables.specs.declared.StopRow.{StopRow}
 use Rattle.tables.specs.declared.StopTimeRow.{StopTimeRow}
 use Rattle.tables.specs.declared.TripRow.{TripRow}
 use Rattle.tables.specs.declared.WindowRow.{WindowRow}

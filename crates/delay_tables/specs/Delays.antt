@@ -1,7 +1,7 @@
 -- The delay tables by their rows' numbers (document 01, item 4): what they say of one stop time, and the margin. No memory is
 -- mentioned here; specs/Flat makes the tables from two lent slices. Definitions only.
 use Prim.Native.Nat.{ℕ, min, max}
-use mathlib.Core.Bool.{Bool, cond, _&&_}
+use mathlib.Core.Bool.{cond, _&&_}
 use lib.Dec.{eqb}
 use Rattle.loops.specs.Iter.{Hit, hit, miss, firstIn, range}
 use Rattle.realtime.specs.declared.StopDelay.{StopDelay}

@@ -10,7 +10,7 @@ use lib.ListN.{getD}
 use lib.Dec.{leb, eqb}
 use borrow.Author.Tests.{leb-true, leb-false, eqb-true, eqb-false, le-leb, lt-leb, eq-eqb, ne-eqb}
 use Rattle.loops.specs.Iter.{firstIn, Hit, hit, miss}
-use Rattle.loops.specs.Order.{Stays, KeysRise, Halved}
+use Rattle.loops.specs.Order.{KeysRise, Halved}
 use Rattle.loops.proofs.Search.{first-ext, halved-ext, stays-ext, keys-stay, same-found, same-past, same-other}
 use Rattle.delay_tables.specs.Flat.{delaysAlone, stopsAlone, delayCount, stopCount, delayRowAt, stopRowAt, foundOf}
 use Rattle.delay_tables.specs.Delays.{delayRow, stopRow}

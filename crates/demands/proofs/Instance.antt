@@ -1,24 +1,21 @@
 -- AN INSTANCE of demand 3's hypotheses, in one statement about what is lent: Timetable K of document 01 with Q1, as slices. The door admits
 -- them, the day that they say is a plain one, and the call's whole outcome is the answer with the total 385 at stop 2.
-use Prim.Native.Nat.{ℕ, zero, suc, _+_, _*_, _-_, _/_, _<_}
-use mathlib.Core.Path.{_≡_, refl, ap, _∙_}
-use mathlib.Core.Bool.{true}
-use mathlib.Core.List.{List, [], _∷_, _++_, flatten}
+use Prim.Native.Nat.{ℕ, zero, suc, _-_, _<_}
+use mathlib.Core.Path.{_≡_, refl, ap}
+use mathlib.Core.List.{[], _∷_, flatten}
 use native.Mathlib.Omega.{arith}
 use lib.ListN.{length, getD, replicate}
 use Rattle.label.specs.Label.{noDistance}
-use Rattle.departures.specs.declared.DepartureRow.{DepartureRow}
-use Rattle.built.specs.Built.{AsBuilt}
 use Rattle.model.specs.Tables.{Tables, Query, stopCount, changeBefore, isEgress, egressWalk, edgesFrom, fifo, modeWanted, usable, permitted}
 use Rattle.model.specs.Search.{targetsFrom, targetCells, holdsTarget, useArcFlags, someTransfer, skipsEdge, skipsTransfer, flagsInUse, departuresAt, markAt, lineAt, notBefore, boardAt, bestAfter, improve, relax, resolveIn, lineTripsAt, resolve, enqueue, takeTransfers, alightings, transferring, scanTripForward, rideSegments, dominated, pruned, passedOver, boarding, board, scanDepartures, scanStops, walkFrom, walkAll, ridePhase, stamped, walkPhase, idle, rounds, setOut, access, bestTarget, rowTarget, candidatesFrom, final, answer, query as thePromise}
 use Rattle.model.specs.Promise.{PlainDay, Demand3, transferInput}
-use Rattle.days.proofs.DayTests.{allOf, allIn, anyIn, sortedTest, risingTest, has, plainTests, plain-when}
+use Rattle.days.proofs.DayTests.{allOf, allIn, anyIn, sortedTest, risingTest, has, plain-when}
 use Rattle.asking.specs.Lent.{Lent, tablesOf, queryOf}
 use Rattle.asking.specs.Door.{question1, readOk, writtenOk, question2, transferRunsOk, question3, columnBelow, lineNumbers, queryNumbers, question4, markRanges, transferRanges, settingRanges, walkRanges, question5, notEarlier, partOrder, departureOrder, columnRises, question6, verdict}
 use Rattle.tables.specs.Door.{countsOk, slicesOk, tripRuns, stopTimeNumbers, edgeNumbers, stopTimeRanges, tripRanges, windowRanges, edgeRanges, edgeRises, runsOk, numbersOk, rangesOk, orderOk}
 use Rattle.departures.specs.Listed.{runIn, stopRunsOk, rowNumbers, rowsOk, rowAtStop, stopRowsOk, atStopsOk, listedOk}
 use Rattle.line_layout.specs.Listed.{runIn as lineRunIn, lineRunsOk, entriesOk}
-use Rattle.asking.proofs.Examples.{tK, builtK, transfersK, qK, query, time, trip, counts, lengths}
+use Rattle.asking.proofs.Examples.{tK, builtK, transfersK, qK, query, time, trip, counts}
 use Rattle.tables.specs.Tables.{timeOf, tripOf, windowOf, edgeOf, cellOf}
 use Rattle.line_transfers.specs.Transfers.{eventsBefore, departuresOfLine, firstNotBefore, transferTo, transfersOf, builtTransfers}
 use Rattle.line_numbers.specs.Lines.{same, leadOf, isLead, lineOf, lineTrips}

@@ -8,11 +8,10 @@ use Rattle.loops.specs.Iter.{someIn}
 use Rattle.loops.specs.Count.{tab}
 use Rattle.cell_bitset.specs.declared.CellBitSet.{CellBitSet}
 use Rattle.tables.specs.declared.Counts.{Counts}
-use Rattle.tables.specs.Tables.{tripOf}
-use Rattle.tables.specs.Timetable.{Timetable, timetable}
-use Rattle.line_transfers.specs.Transfers.{Transfer, transferAt, eventsBefore}
+use Rattle.tables.specs.Timetable.{timetable}
+use Rattle.line_transfers.specs.Transfers.{transferAt, eventsBefore}
 use Rattle.model.specs.Tables.{Tables, Query}
-use Rattle.model.specs.Search.{holdsTarget, targetCells}
+use Rattle.model.specs.Search.{holdsTarget}
 
 -- pattern p of a table of patterns, 64 bytes each
 abbrev pub patternAt : List ℕ → ℕ → CellBitSet

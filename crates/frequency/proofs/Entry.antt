@@ -1,14 +1,12 @@
 -- The entry's questions: what a yes to all of them gives the inner call, and the outcome by the code.
-use Prim.Native.Nat.{ℕ, zero, suc, _+_, _*_, _/_, _<_, _≤_}
-use mathlib.Core.Path.{_≡_, refl, ap₂, sym, _∙_}
+use Prim.Native.Nat.{ℕ, _*_, _<_, _≤_}
+use mathlib.Core.Path.{_≡_, ap₂, sym, _∙_}
 use mathlib.Core.Bool.{true, _&&_}
-use mathlib.Core.Logic.{⊎-elim}
-use mathlib.Core.List.{List, [], _∷_}
+use mathlib.Core.List.{List}
 use native.Mathlib.Omega.{arith}
-use lib.ListN.{length, getD}
+use lib.ListN.{length}
 use borrow.Author.Tests.{eq-eqb, le-leb, leb-true}
 use Rattle.loops.proofs.Iter.{and-left, and-right, everyIn-at}
-use Rattle.loops.proofs.Search.{split}
 use Rattle.frequency.specs.declared.FreqBoard.{FreqBoard}
 use Rattle.frequency.specs.declared.FreqAnswer.{FreqAnswer}
 use Rattle.frequency.specs.Gtfs.{windowCount, windowAt, earliestFreqBoard, Nominal}

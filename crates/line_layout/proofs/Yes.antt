@@ -1,15 +1,14 @@
 -- What a yes to the questions on the lines' table gives, and that a table with those facts is answered yes.
-use Prim.Native.Nat.{ℕ, suc, _+_, _*_, _-_, _≤_}
-use mathlib.Core.Path.{_≡_, _∙_, sym, ap, ap₂}
+use Prim.Native.Nat.{ℕ, _+_, _*_, _-_, _≤_}
+use mathlib.Core.Path.{_≡_, _∙_, sym, ap₂}
 use mathlib.Core.Bool.{Bool, true, false, _&&_, not}
 use mathlib.Core.List.{List}
 use native.Mathlib.Omega.{arith}
 use lib.ListN.{length, getD}
-use lib.Dec.{ltb, leb}
+use lib.Dec.{ltb}
 use borrow.Author.Tests.{leb-true, ltb-true, le-leb, lt-ltb, not-true, not-false}
 use Rattle.loops.proofs.Iter.{everyIn-at, every-all}
 use Rattle.tables.specs.declared.Counts.{Counts}
-use Rattle.tables.proofs.Yes.{two}
 use Rattle.line_layout.specs.Layout.{runAt}
 use Rattle.line_layout.specs.Listed.{runIn, lineRunsOk, entriesOk, LinesListed}
 

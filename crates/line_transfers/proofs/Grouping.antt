@@ -1,8 +1,8 @@
 -- The departures of a stop, sorted by line and departure: one line after the other.
-use Prim.Native.Nat.{ℕ, zero, suc, _+_, _*_, _-_, _/_, _%_, _<_, _≤_, min}
+use Prim.Native.Nat.{ℕ, zero, suc, _+_, _*_, _-_, _<_, _≤_, min}
 use mathlib.Core.Path.{_≡_, refl, sym, _∙_, ap, ap₂}
 use mathlib.Core.Bool.{Bool, true, false, not, cond}
-use mathlib.Core.List.{List, [], _∷_, _++_, append-assoc, append-nil, flatten}
+use mathlib.Core.List.{List, [], _∷_, _++_, append-nil, flatten}
 use mathlib.Core.Logic.{⊎-elim}
 use native.Mathlib.Nat.{eq-or-lt-of-le}
 use native.Mathlib.Omega.{arith}
@@ -10,12 +10,12 @@ use lib.ListN.{length, getD, set, take, drop, length-append, length-take, length
 use lib.Seq.{getD-set-other, getD-set-same, getD-take, getD-drop, drop-drop}
 use lib.Dec.{leb, eqb}
 use borrow.Author.Tests.{leb-true, leb-false, le-leb, lt-leb, eq-eqb, ne-eqb}
-use Rattle.loops.specs.Count.{one, tab, tabFrom}
-use Rattle.loops.specs.Order.{Halved, KeysRise}
+use Rattle.loops.specs.Count.{one, tab}
+use Rattle.loops.specs.Order.{Halved}
 use Rattle.sorts.specs.Sort.{hi, pick}
 use Rattle.sorts.specs.Orders.{keep}
 use Rattle.departures.specs.Packed.{unTrip}
-use Rattle.line_transfers.specs.Packed.{Group, Keys, AreaSoFar, LineEnd, Lines, Stretch, depX, laid, lay, layRow, lineX, targets, toGroup}
+use Rattle.line_transfers.specs.Packed.{Group, Keys, AreaSoFar, LineEnd, Lines, Stretch, depX, lay, layRow, lineX, targets, toGroup}
 use Rattle.line_transfers.proofs.Laying.{lay-append}
 use Rattle.line_transfers.proofs.Lists.{first-kept, flatten-none, flatten-one, keep-append, keep-no, keep-none, keep-yes, length-keep}
 

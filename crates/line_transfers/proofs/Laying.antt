@@ -1,21 +1,20 @@
 -- Laws of writing row by row.
 use Rattle.departures.proofs.Yes.{joined}
 use Rattle.loops.specs.Count.{count}
-use Prim.Native.Nat.{ℕ, zero, suc, _+_, _*_, _-_, _<_, _≤_, min}
+use Prim.Native.Nat.{ℕ, suc, _+_, _*_, _-_, _<_, _≤_, min}
 use mathlib.Core.Path.{_≡_, refl, sym, _∙_, ap, ap₂}
 use mathlib.Core.Bool.{Bool, true, false, cond}
-use mathlib.Core.List.{List, [], _∷_, _++_, append-assoc, append-nil, flatten}
+use mathlib.Core.List.{List, [], _∷_, _++_, append-assoc, flatten}
 use native.Mathlib.Omega.{arith}
-use native.Mathlib.Numerals.{add-one}
 use lib.ListN.{length, set, take, drop, length-append, take-append-drop}
 use lib.Seq.{sets-eq}
-use lib.Dec.{ltb, leb}
+use lib.Dec.{ltb}
 use borrow.Author.Tests.{ltb-true, ltb-false, lt-ltb, le-ltb, le-leb}
 use Rattle.sorts.specs.Sort.{within}
 use Rattle.sorts.proofs.Within.{within-length}
 use Rattle.departures.specs.Packed.{unTrip, unOffset}
 use Rattle.line_transfers.specs.Transfers.{runsFrom}
-use Rattle.line_transfers.specs.Packed.{AreaSoFar, Walk, laid, lay, layEvent, layEvents, layRow, noted, putRow, putRun, walk}
+use Rattle.line_transfers.specs.Packed.{AreaSoFar, Walk, laid, lay, layEvent, layEvents, layRow, putRow, putRun}
 use Rattle.line_transfers.proofs.Lists.{within-join}
 
 -- stores in a row
@@ -73,11 +72,6 @@ lay-n time (x ∷ l) s h = go (ltb 65536 (s .n)) refl (lay-n time l (layRow time
 unfoldable pub keyWords : ℕ → List ℕ → List ℕ
 keyWords time [] = []
 keyWords time (x ∷ l) = unTrip x ∷ unOffset x ∷ time ∷ 0 ∷ keyWords time l
-
-length-keyWords : (time : ℕ) (l : List ℕ) → length (keyWords time l) ≡ length l * 4
-unfolding keyWords
-length-keyWords time [] = refl
-length-keyWords time (x ∷ l) = omega (arith, length-keyWords time l)
 
 put-fits : (time : ℕ) (a : List ℕ) (n x : ℕ) → n * 4 + 4 ≤ length a → putRow time a n x ≡ within (n * 4) (n * 4 + 4) (unTrip x ∷ unOffset x ∷ time ∷ 0 ∷ []) a
 unfolding putRow

@@ -1,12 +1,11 @@
 -- Laws of lists: what is kept, the first that passes, lists joined.
 use lib.Dec.{leb, ltb}
 use borrow.Author.Tests.{le-leb, lt-leb, ltb-false, ltb-true}
-use Rattle.loops.proofs.Search.{halved-down, halved-start, halved-up, split}
-use Rattle.departures.proofs.Yes.{joined}
+use Rattle.loops.proofs.Search.{halved-down, halved-start, halved-up}
 use Prim.Native.Nat.{ℕ, zero, suc, _+_, _*_, _-_, _/_, _<_, _≤_}
 use mathlib.Core.Path.{_≡_, refl, sym, _∙_, ap, ap₂}
 use mathlib.Core.Bool.{Bool, true, false, not, cond}
-use mathlib.Core.List.{List, [], _∷_, _++_, append-assoc, append-nil, map, flatten}
+use mathlib.Core.List.{List, [], _∷_, _++_, append-assoc, map, flatten}
 use mathlib.Core.Logic.{⊎-elim}
 use native.Mathlib.Nat.{eq-or-lt-of-le}
 use native.Mathlib.Omega.{arith}
@@ -15,7 +14,7 @@ use lib.Seq.{slice, take-at}
 use Rattle.loops.specs.Count.{one, tab, tabFrom}
 use Rattle.loops.proofs.Count.{tabFrom-ext}
 use Rattle.loops.specs.Order.{Halved, Stays}
-use Rattle.sorts.specs.Sort.{within, hi}
+use Rattle.sorts.specs.Sort.{within}
 use Rattle.sorts.specs.Orders.{All, Rising, cons, keep, nil}
 use Rattle.sorts.proofs.Places.{all-at, rising-all, rising-tail}
 use Rattle.sorts.proofs.Within.{within-drop}

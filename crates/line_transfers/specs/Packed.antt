@@ -1,8 +1,8 @@
 -- How the code holds a departure in one number and writes row by row. Inner: the call's outcome does not speak of it.
 -- Definitions only.
-use Prim.Native.Nat.{ℕ, zero, suc, _+_, _*_, _-_, _/_, _%_, _<_, _≤_, min}
+use Prim.Native.Nat.{ℕ, _+_, _*_, _-_, _/_, _%_, _<_, _≤_}
 use mathlib.Core.Path.{_≡_}
-use mathlib.Core.Bool.{Bool, true, false, not, cond}
+use mathlib.Core.Bool.{not, cond}
 use mathlib.Core.List.{List, [], _∷_, flatten}
 use lib.ListN.{length, getD, take}
 use lib.Seq.{slice}

@@ -6,7 +6,7 @@ use native.Mathlib.Omega.{arith}
 use native.Mathlib.Numerals.{add-one}
 use mathlib.Core.Bool.{Bool, true, false, _&&_, _||_}
 use mathlib.Core.Logic.{⊎-elim}
-use Rattle.loops.specs.Iter.{iter, range, every, everyIn, some, someIn, first, firstIn, Hit, hit, miss, until, untilIn}
+use Rattle.loops.specs.Iter.{iter, range, every, everyIn, some, first, hit, miss, until}
 
 pub range-turn : {S : Type 0} (f : ℕ → S → S) (i b : ℕ) (s : S) → i < b → range f i b s ≡ range f (i + 1) b (f i s)
 unfolding iter
@@ -127,20 +127,6 @@ every-both f g i (suc n) = ap (λ (x : Bool). (f i && g i) && x) (every-both f g
     go true false false y = refl
     go false b x y = refl
 
--- A search, with the invariant `whole ≡ firstIn f i b`: a turn that goes on, one that finds it, the end.
-pub first-again : (f : ℕ → Bool) (i b : ℕ) {whole : Hit} → whole ≡ firstIn f i b → f i ≡ false → i < b → whole ≡ firstIn f (i + 1) b
-first-again f i b inv e h =
-    let n : b - i ≡ suc (b - (i + 1)) = omega arith in
-    inv ∙ rw n (first-next f i (b - (i + 1)) e ∙ rw add-one)
-
-pub first-hit : (f : ℕ → Bool) (i b : ℕ) {whole : Hit} → whole ≡ firstIn f i b → f i ≡ true → i < b → hit i ≡ whole
-first-hit f i b inv e h =
-    let n : b - i ≡ suc (b - (i + 1)) = omega arith in
-    sym (inv ∙ rw n (first-yes f i (b - (i + 1)) e))
-
-pub first-left : (f : ℕ → Bool) (i b : ℕ) {whole : Hit} → whole ≡ firstIn f i b → b ≤ i → miss ≡ whole
-first-left f i b inv h = sym (inv ∙ first-done f i b h)
-
 pub everyIn-at : (f : ℕ → Bool) (b k : ℕ) → everyIn f 0 b ≡ true → k < b → f k ≡ true
 everyIn-at f b k h u = every-at f 0 (b - 0) k h (omega arith) (omega arith)
 
@@ -161,24 +147,6 @@ until-next stop f i n s e = ap (λ (x : Bool). elim x [ true ↦ s | false ↦ u
 pub until-yes : {S : Type 0} (stop : ℕ → S → Bool) (f : ℕ → S → S) (i n : ℕ) (s : S) → stop i s ≡ true → until stop f i (suc n) s ≡ s
 unfolding until
 until-yes stop f i n s e = ap (λ (x : Bool). elim x [ true ↦ s | false ↦ until stop f (suc i) n (f i s) ]) e
-
-pub until-again : {S : Type 0} (stop : ℕ → S → Bool) (f : ℕ → S → S) (i b : ℕ) {whole s s' : S}
-    → whole ≡ untilIn stop f i b s → stop i s ≡ false → s' ≡ f i s → i < b → whole ≡ untilIn stop f (i + 1) b s'
-until-again stop f i b {whole} {s} inv q e h =
-    let n : b - i ≡ suc (b - (i + 1)) = omega arith in
-    inv ∙ rw n (until-next stop f i (b - (i + 1)) s q ∙ rw (e, add-one))
-
-pub until-stop : {S : Type 0} (stop : ℕ → S → Bool) (f : ℕ → S → S) (i b : ℕ) {whole s : S}
-    → whole ≡ untilIn stop f i b s → stop i s ≡ true → i < b → s ≡ whole
-until-stop stop f i b {whole} {s} inv q h =
-    let n : b - i ≡ suc (b - (i + 1)) = omega arith in
-    sym (inv ∙ rw n (until-yes stop f i (b - (i + 1)) s q))
-
-pub until-left : {S : Type 0} (stop : ℕ → S → Bool) (f : ℕ → S → S) (i b : ℕ) {whole s : S} → whole ≡ untilIn stop f i b s → b ≤ i → s ≡ whole
-unfolding until
-until-left stop f i b {whole} {s} inv h =
-    let n : b - i ≡ 0 = omega arith in
-    sym (inv ∙ rw n)
 
 -- a check of every number holds where it holds of each
 pub every-all : (f : ℕ → Bool) (i n : ℕ) → ((k : ℕ) → i ≤ k → k < i + n → f k ≡ true) → every f i n ≡ true

@@ -1,13 +1,13 @@
 -- Laws of a search by halving, one for each need of its loop, and what it finds among keys that do not fall.
-use Prim.Native.Nat.{ℕ, zero, suc, _+_, _-_, _<_, _≤_}
+use Prim.Native.Nat.{ℕ, _+_, _-_, _<_, _≤_}
 use mathlib.Core.Path.{_≡_, refl, ap, _∙_, sym}
 use mathlib.Core.Bool.{Bool, true, false}
 use mathlib.Core.Logic.{_⊎_, inl, inr, ⊎-elim}
 use native.Mathlib.Nat.{eq-or-lt-of-le}
 use native.Mathlib.Omega.{arith}
 use lib.Dec.{ltb, leb, eqb}
-use borrow.Author.Tests.{ltb-true, ltb-false, leb-true, leb-false, eqb-true, le-leb, lt-leb, eq-eqb, ne-eqb}
-use Rattle.loops.specs.Iter.{first, firstIn, Hit, hit, miss, foundOr}
+use borrow.Author.Tests.{ltb-true, ltb-false, leb-true, leb-false, le-leb, eq-eqb, ne-eqb}
+use Rattle.loops.specs.Iter.{firstIn, Hit, hit, miss}
 use Rattle.loops.specs.Order.{Stays, KeysRise, Halved}
 use Rattle.loops.proofs.Iter.{first-found, first-before, first-bound, first-none}
 
@@ -82,14 +82,6 @@ stays-ext f g n e s = record { stays = λ i j l u h. sym (e j) ∙ s .stays i j 
 pub halved-end : (f : ℕ → Bool) (n lo hi : ℕ) → Halved f n lo hi → hi ≤ lo → Halved f n lo lo
 halved-end f n lo hi h l =
     record { order = omega arith; inside = omega (arith, h .order, h .inside); below = h .below; above = λ k a b. h .above k (omega arith) b }
-
--- .. and the first that passes is found
-pub halved-found : (f : ℕ → Bool) (n lo hi : ℕ) → Halved f n lo hi → hi ≤ lo → lo ≡ foundOr (firstIn f 0 n) n
-halved-found f n lo hi h l =
-    ⊎-elim
-    (λ (q : lo < n). ap (λ (x : Hit). foundOr x n) (sym (first-is f n lo (h .above lo l q) (h .below) q)))
-    (λ (q : n ≤ lo). let e : lo ≡ n = omega (arith, h .order, h .inside) in e ∙ ap (λ (x : Hit). foundOr x n) (sym (first-isnt f n (λ j u. h .below j (omega arith)))))
-    (split lo n)
 
 -- Among keys that do not fall, the first key t is the first that is not below t, if that one is t.
 module _ (key : ℕ → ℕ) (t n : ℕ) (r : KeysRise key n) where

@@ -6,17 +6,15 @@ use mathlib.Core.Bool.{Bool, true, false}
 use mathlib.Core.List.{List, [], _∷_, _++_, List·Memᴰ, List·Memᴰ·head, List·Memᴰ·tail, List·Memᴰ·cases-cons, List·Memᴰ·not-nil, List·Memᴰ·append-cases, List·Memᴰ·eq-of-singleton, Memᴰ·append-left, Memᴰ·append-right}
 use native.Mathlib.Nat.{le-refl, le-trans}
 use native.Mathlib.Omega.{arith}
-use lib.ListN.{getD, set, replicate, getD-replicate, length}
+use lib.ListN.{getD, set, replicate, getD-replicate}
 use lib.Dec.{ltb}
 use borrow.Author.Tests.{ltb-true, ltb-false}
-use Rattle.model.proofs.Base.{set-cases, set-le, set-hit, split}
+use Rattle.model.proofs.Base.{set-cases, set-le, set-hit}
 use Rattle.model.proofs.Net.{Net, Plain}
-use Rattle.model.proofs.PlainSearch.{Core, Book, St, at, best, change, arrive, access, begin}
-use Rattle.model.proofs.Coverage.{Le, Le-refl, Le-trans, Cov, cov-le, cov-later, by-at, by-best, best-le}
+use Rattle.model.proofs.PlainSearch.{Core, at, best, change, arrive, access, begin}
+use Rattle.model.proofs.Coverage.{Le, Le-refl, Le-trans, Cov, by-at, by-best, best-le}
 use Rattle.model.proofs.Departures.{ridden-best}
-use Rattle.model.proofs.Stops.{Closed}
 use Rattle.model.proofs.Improvements.{Att, att-none, best-att}
-use Rattle.model.proofs.Walks.{Walked}
 use Rattle.model.proofs.Rounds.{Reach, j-access, Inv}
 
 -- what one access walk, or a run of them, does

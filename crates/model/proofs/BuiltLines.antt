@@ -1,12 +1,12 @@
 -- What a plain day's lines give, since they are as built: trips of one line have the same stops; in a FIFO line a lower position is
 -- nowhere later, and the codes are equal.
 use Prim.Native.Nat.{ℕ, _≤_, _<_}
-use mathlib.Core.Path.{_≡_, refl, sym, ap, subst, _∙_}
+use mathlib.Core.Path.{_≡_, sym, ap, subst, _∙_}
 use mathlib.Core.Logic.{⊎-elim}
-use mathlib.Core.Bool.{true, _&&_}
+use mathlib.Core.Bool.{true}
 use native.Mathlib.Omega.{arith}
 use lib.Dec.{ltb, eqb}
-use Rattle.line_numbers.specs.Lines.{lineOf, linesOf}
+use Rattle.line_numbers.specs.Lines.{lineOf}
 use Rattle.lines.proofs.Laws.{line-counts, line-stops}
 use Rattle.line_layout.specs.Layout.{fifoLine, positionIn}
 use Rattle.line_layout.specs.Claims.{NotLater}

@@ -9,7 +9,7 @@ use Rattle.departures.specs.declared.DepartureRow.{DepartureRow}
 use Rattle.departures.specs.Departures.{sorted, markOf, frequencyListed}
 use Rattle.tables.specs.Timetable.{Timetable, frequencyTrip}
 use Rattle.line_numbers.specs.Lines.{same, leadOf, isLead, lineOf, linesOf, lineTrips}
-use Rattle.line_transfers.specs.Transfers.{Input, departuresOfLine, firstNotBefore, transferTo, transfersOf, builtTransfers}
+use Rattle.line_transfers.specs.Transfers.{departuresOfLine, firstNotBefore, transferTo, transfersOf, builtTransfers}
 
 -- the timetable with these bytes
 abbrev pub withBytes : (ℕ → ℕ) → (ℕ → ℕ) → Timetable → Timetable

@@ -1,30 +1,28 @@
 -- Demand 3, whole: on every plain day, of every answered query.
-use Prim.Native.Nat.{ℕ, zero, suc, _+_, _*_, _-_, _≤_, _<_, zero-le}
-use mathlib.Core.Path.{_≡_, refl, sym, ap, subst, _∙_}
-use mathlib.Core.Logic.{_⊎_, inl, inr, ⊎-elim}
-use mathlib.Core.Bool.{Bool, true, false, cond, _&&_, _||_, not}
-use mathlib.Core.List.{List, [], _∷_, _++_, map, List·Memᴰ, List·Memᴰ·not-nil, Memᴰ·map}
+use Prim.Native.Nat.{ℕ, zero, suc, _+_, _*_, _-_, _≤_, _<_}
+use mathlib.Core.Path.{_≡_, refl, sym, subst}
+use mathlib.Core.Bool.{Bool, true, false, cond, _&&_, not}
+use mathlib.Core.List.{List, [], List·Memᴰ, List·Memᴰ·not-nil, Memᴰ·map}
 use native.Mathlib.Omega.{arith}
 use native.Mathlib.Nat.{min-le-left}
-use lib.Dec.{ltb, leb, eqb}
+use lib.Dec.{eqb}
 use borrow.Author.Tests.{not-true, ne-eqb}
 use Rattle.door.specs.Door.{timeLimit}
 use Rattle.walk.specs.Walk.{effectiveDuration, stairsOrEscalator, roundCount}
-use Rattle.departures.specs.declared.DepartureRow.{DepartureRow}
-use Rattle.model.specs.Tables.{never, Tables, Origin, Query, roundsOf, changeBefore, isEgress, egressWalk, stops, trips, stopCount, stopAt, arrival, departure, noPickup, noDropOff, edgesFrom, edgeTo, walkTime, permitted}
-use Rattle.model.specs.Search.{State, Answer, bestTarget, final, answer, useArcFlags, flagsInUse, runTbr, query}
+use Rattle.model.specs.Tables.{never, Tables, Query, roundsOf, changeBefore, egressWalk, stops, trips, stopAt, arrival, edgeTo, walkTime}
+use Rattle.model.specs.Search.{Answer, bestTarget, final, answer, useArcFlags, runTbr, query}
 use Rattle.model.specs.Door.{Door}
-use Rattle.model.specs.Promise.{PlainDay, Boarding, Alighting, Journey, JourneyOf, WholeJourney, Way, Arrives, Demand3, Pareto}
+use Rattle.model.specs.Promise.{PlainDay, Journey, Way, Arrives, Demand3, Pareto}
 use Rattle.model.proofs.Base.{no-both}
-use Rattle.model.proofs.Net.{Net, Plain}
+use Rattle.model.proofs.Net.{Plain}
 use Rattle.model.proofs.PlainSearch
 use Rattle.model.proofs.Rounds.{Reach, j-access, j-ride, j-walk}
 use Rattle.model.proofs.Ways
 use Rattle.model.proofs.PlainTotals
 use Rattle.model.proofs.Pareto
-use Rattle.model.proofs.NetOf.{net, walkOf, originOf, countAt, undelay, undelay-same}
+use Rattle.model.proofs.NetOf.{net, originOf, undelay, undelay-same}
 use Rattle.model.proofs.Simulation.{Calm, small, sim-answer, sim-scans}
-use Rattle.model.proofs.PlainNet.{row-of, of-row, count-at, at-count, edge-in, EdgeOf, edge-of, of-edge, OriginOf, origin-of, egress-is, calm-mark, calm-trips, plain}
+use Rattle.model.proofs.PlainNet.{row-of, of-row, count-at, at-count, edge-in, edge-of, of-edge, origin-of, egress-is, calm-mark, calm-trips, plain}
 
 not-yes : (b : Bool) → b ≡ false → not b ≡ true
 not-yes true e = absurd (no-both refl e)

@@ -1,19 +1,19 @@
 -- The departures of one stop: after them every permitted departure not before the given time is ridden, or dominated.
-use Prim.Native.Nat.{ℕ, zero, suc, _+_, _-_, _≤_, _<_}
+use Prim.Native.Nat.{ℕ, _-_, _≤_, _<_}
 use mathlib.Core.Path.{_≡_, refl, sym, ap, subst, _∙_}
 use mathlib.Core.Logic.{_⊎_, inl, inr, ⊎-elim}
 use mathlib.Core.Bool.{Bool, true, false, cond, _&&_, _||_, not}
-use mathlib.Core.List.{List, [], _∷_, _++_, List·Memᴰ, List·Memᴰ·head, List·Memᴰ·tail, List·Memᴰ·cases-cons, List·Memᴰ·not-nil}
-use native.Mathlib.Nat.{le-refl, le-trans}
+use mathlib.Core.List.{List, [], _∷_, List·Memᴰ, List·Memᴰ·head, List·Memᴰ·tail, List·Memᴰ·cases-cons, List·Memᴰ·not-nil}
+use native.Mathlib.Nat.{le-trans}
 use native.Mathlib.Omega.{arith}
 use lib.ListN.{getD, set, length, length-set}
 use lib.Dec.{ltb, leb, eqb}
-use borrow.Author.Tests.{ltb-true, ltb-false, leb-true, leb-false, eqb-true, eqb-false, not-true, not-false}
-use Rattle.model.proofs.Base.{split, split-eq, no-both, or-true, or-false, and-true, and-false, set3}
-use Rattle.model.proofs.Net.{Net, Plain, Sorted, none, more}
-use Rattle.model.proofs.PlainSearch.{Core, Book, St, at, relax, scan, ride, board, blocked, passed, skips, departures}
-use Rattle.model.proofs.Coverage.{Le, Le-refl, Le-trans, Cov, cov-le, cov-later, by-at, by-best}
-use Rattle.model.proofs.Scan.{Scan, scan-graph, scan-le, scan-cov}
+use borrow.Author.Tests.{ltb-true, ltb-false, leb-true, eqb-true, eqb-false, not-true, not-false}
+use Rattle.model.proofs.Base.{split, no-both, or-true, or-false, and-true, and-false, set3}
+use Rattle.model.proofs.Net.{Net, Plain, Sorted, more}
+use Rattle.model.proofs.PlainSearch.{Core, Book, St, ride, board, blocked, passed, skips, departures}
+use Rattle.model.proofs.Coverage.{Le, Le-refl, Le-trans, Cov, cov-le, cov-later, by-best}
+use Rattle.model.proofs.Scan.{scan-graph, scan-le, scan-cov}
 
 -- every later stop where trip t sets down, boarded at o, is covered
 pub record Ridden (N : Net) (c : Core) (t o : ℕ) : Type 0 where

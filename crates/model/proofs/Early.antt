@@ -1,13 +1,12 @@
 -- The scan of departures may begin at the first that is not too early.
-use Prim.Native.Nat.{ℕ, zero, suc, _+_, _-_, _≤_, _<_}
-use mathlib.Core.Path.{_≡_, refl, sym, ap, subst, _∙_}
+use Prim.Native.Nat.{ℕ, _+_, _-_, _≤_, _<_}
+use mathlib.Core.Path.{_≡_, refl, ap, _∙_}
 use mathlib.Core.Bool.{Bool, true, false, _||_, _&&_, not}
 use mathlib.Core.List.{List, [], _∷_, _++_, List·Memᴰ, List·Memᴰ·head, List·Memᴰ·tail}
 use native.Mathlib.Omega.{arith}
-use lib.Dec.{ltb, leb}
 use borrow.Author.Tests.{lt-ltb, lt-leb}
 use Rattle.model.proofs.Net.{Net}
-use Rattle.model.proofs.PlainSearch.{Core, Book, St, departures, skips, ride, board, passed, blocked}
+use Rattle.model.proofs.PlainSearch.{Book, St, departures, skips, ride, board, blocked}
 
 module _ (N : Net) (round stamp after : ℕ) where
   or-right : (a : Bool) → (a || true) ≡ true

@@ -1,6 +1,6 @@
 -- Members of sorted, kept and counted lists.
 use Prim.Native.Nat.{ℕ, zero, suc, _+_, _≤_, _<_}
-use mathlib.Core.Path.{_≡_, refl, sym, ap, subst, _∙_}
+use mathlib.Core.Path.{_≡_, refl, sym, ap, _∙_}
 use mathlib.Core.Logic.{_⊎_, inl, inr, ⊎-elim}
 use mathlib.Core.Bool.{Bool, true, false, cond}
 use mathlib.Core.List.{List, [], _∷_, List·Memᴰ, List·Memᴰ·head, List·Memᴰ·tail, List·Memᴰ·cases-cons, List·Memᴰ·not-nil}
@@ -60,6 +60,3 @@ from-has : (i n a : ℕ) → i ≤ a → a < i + n → List·Memᴰ a (tabFrom (
 unfolding tabFrom
 from-has i zero a h l = absurd (omega arith)
 from-has i (suc n) a h l = ⊎-elim (λ e. List·Memᴰ·head (sym e)) (λ q. List·Memᴰ·tail (from-has (suc i) n a q (omega arith))) (split-eq h)
-
-pub upto-has : (n a : ℕ) → a < n → List·Memᴰ a (upto n)
-upto-has n a h = from-has 0 n a (omega arith) (omega arith)

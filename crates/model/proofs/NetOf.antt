@@ -1,11 +1,10 @@
 -- Tables and query as the net of the optimality proof, and the full search's state as the plain search's.
-use Prim.Native.Nat.{ℕ, zero, suc, _+_, _*_, _-_, _≤_, _<_}
-use mathlib.Core.Path.{_≡_, refl, sym, ap, subst, _∙_}
-use mathlib.Core.Bool.{Bool, true, false, not}
-use mathlib.Core.List.{List, [], _∷_, _++_, map}
+use Prim.Native.Nat.{ℕ, _-_}
+use mathlib.Core.Path.{_≡_, ap, _∙_}
+use mathlib.Core.Bool.{true, false, not}
+use mathlib.Core.List.{map}
 use lib.Dec.{ltb}
 use Rattle.departures.specs.declared.DepartureRow.{DepartureRow}
-use Rattle.delay_tables.specs.Delays.{DelayTables}
 use Rattle.model.specs.Tables.{never, Tables, Origin, Query, isEgress, egressWalk, stops, trips, stopCount, stopAt, arrival, departure, noPickup, noDropOff, edgesFrom, edgeTo, walkTime, position, fifo, permitted}
 use Rattle.model.specs.Search.{reachedBy, Arrivals, Boardings, State, departuresAt, lineAt}
 use Rattle.model.proofs.Net.{Net}

@@ -1,10 +1,10 @@
 -- Demand 3, first half: no journey arrives before the best total.
-use Prim.Native.Nat.{ℕ, zero, suc, _+_, _-_, _≤_, _<_, zero-le}
-use mathlib.Core.Path.{_≡_, refl, sym, ap, subst, _∙_}
-use mathlib.Core.Bool.{Bool, true, false}
+use Prim.Native.Nat.{ℕ, _+_, _-_, _≤_, _<_}
+use mathlib.Core.Path.{_≡_, subst}
+use mathlib.Core.Bool.{Bool, true}
 use native.Mathlib.Omega.{arith}
 use Rattle.model.proofs.Net.{Net, Plain}
-use Rattle.model.proofs.PlainSearch.{Core, St, at, run, begin, rounds}
+use Rattle.model.proofs.PlainSearch.{at, run, begin, rounds}
 use Rattle.model.proofs.Coverage.{Cov, by-at, by-best}
 use Rattle.model.proofs.Improvements.{Att, att-none, att-stop}
 use Rattle.model.proofs.Rounds.{Reach, Inv, rounds-inv}

@@ -5,14 +5,14 @@ use mathlib.Core.Path.{_≡_, refl, sym, ap, subst, _∙_}
 use mathlib.Core.Logic.{_⊎_, inl, inr, ⊎-elim}
 use mathlib.Core.Bool.{Bool, true, false, _&&_}
 use mathlib.Core.List.{List, [], _∷_, _++_, List·Memᴰ, List·Memᴰ·head, List·Memᴰ·tail, List·Memᴰ·cases-cons, List·Memᴰ·not-nil}
-use native.Mathlib.Nat.{le-refl, le-trans}
+use native.Mathlib.Nat.{le-refl}
 use native.Mathlib.Omega.{arith}
-use lib.ListN.{length, getD, set, replicate, getD-replicate, length-set, length-replicate}
+use lib.ListN.{length, getD, set, getD-replicate, length-set, length-replicate}
 use lib.Dec.{ltb, leb, eqb}
-use borrow.Author.Tests.{ltb-true, ltb-false, leb-true, leb-false, eqb-true, eqb-false}
-use Rattle.model.proofs.Base.{set-cases, and-true, and-false, split, split-eq}
+use borrow.Author.Tests.{ltb-true, ltb-false, leb-false, eqb-true, eqb-false}
+use Rattle.model.proofs.Base.{set-cases, and-false, split-eq}
 use Rattle.model.proofs.Net.{Net, Plain}
-use Rattle.model.proofs.PlainSearch.{Core, St, at, best, imp, rideSt, walkSt, walks, rounds, begin, run, access, arrive, target, rowBest, cands, Answer, answer}
+use Rattle.model.proofs.PlainSearch.{Core, St, at, best, imp, rideSt, walkSt, walks, rounds, begin, run, access, arrive, rowBest, cands, answer}
 use Rattle.model.proofs.Coverage.{Cov, by-at, by-best}
 use Rattle.model.proofs.Stops.{stops-graph}
 use Rattle.model.proofs.Improvements.{Steps, stay, step, steps-queue, Att, att-none, att-stop}

@@ -1,27 +1,24 @@
 -- A plain day's tables and query make a net with the laws that the optimality proof needs.
-use Prim.Native.Nat.{ℕ, zero, suc, _+_, _*_, _-_, _≤_, _<_}
+use Prim.Native.Nat.{ℕ, suc, _-_, _≤_, _<_}
 use mathlib.Core.Path.{_≡_, refl, sym, ap, subst, _∙_}
 use mathlib.Core.Logic.{_⊎_, inl, inr, ⊎-elim}
-use mathlib.Core.Bool.{Bool, true, false, cond, _&&_, _||_, not}
-use mathlib.Core.List.{List, [], _∷_, _++_, map, List·Memᴰ, List·Memᴰ·head, List·Memᴰ·tail, List·Memᴰ·cases-cons, List·Memᴰ·not-nil, Memᴰ·map, Memᴰ·of-map}
+use mathlib.Core.Bool.{Bool, true, false, _&&_, _||_, not}
+use mathlib.Core.List.{List, [], _∷_, map, List·Memᴰ, List·Memᴰ·head, List·Memᴰ·tail, List·Memᴰ·cases-cons, List·Memᴰ·not-nil, Memᴰ·map, Memᴰ·of-map}
 use native.Mathlib.Omega.{arith}
-use native.Mathlib.Nat.{le-refl, le-trans}
-use lib.ListN.{length, getD}
-use lib.Dec.{ltb, leb, eqb}
-use borrow.Author.Tests.{ltb-true, ltb-false, leb-true, leb-false, eqb-true, eqb-false, lt-ltb, le-ltb, eq-eqb, ne-eqb}
+use lib.Dec.{ltb, eqb}
+use borrow.Author.Tests.{ltb-true, eqb-true, eqb-false, lt-ltb, le-ltb}
 use Rattle.loops.specs.Count.{one}
 use Rattle.departures.specs.declared.DepartureRow.{DepartureRow}
-use Rattle.tables.specs.Timetable.{Timetable, timeAt, frequencyTrip}
-use Rattle.departures.specs.Departures.{sorted, frequencyListed, markOf, rowDeparture}
-use Rattle.model.specs.Tables.{never, Tables, Origin, Query, isEgress, egressWalk, stops, trips, stopCount, stopAt, arrival, departure, noPickup, noDropOff, noWindows, edgesFrom, edgeTo, walkTime, position, fifo}
+use Rattle.departures.specs.Departures.{sorted, frequencyListed, rowDeparture}
+use Rattle.model.specs.Tables.{never, Tables, Origin, Query, isEgress, egressWalk, stops, trips, stopCount, arrival, departure, noWindows, edgesFrom, edgeTo, walkTime, fifo}
 use Rattle.model.specs.Search.{departuresAt, markAt, lineAt}
 use Rattle.model.specs.Door.{Door, InOrder, EgressRising}
 use Rattle.model.specs.Promise.{PlainDay}
-use Rattle.model.proofs.Base.{split, split-eq, no-both, and-true}
-use Rattle.model.proofs.Net.{Net, Plain, Sorted, none, more}
+use Rattle.model.proofs.Base.{split, no-both}
+use Rattle.model.proofs.Net.{Plain, Sorted, none, more}
 use Rattle.model.proofs.Times
 use Rattle.model.proofs.NetOf.{net, pairOf, walkOf, originOf, countAt}
-use Rattle.model.proofs.Lists.{sort-has, keep-has, keep-only, upto-only}
+use Rattle.model.proofs.Lists.{sort-has, keep-only, upto-only}
 use Rattle.model.proofs.BuiltLines.{same-count, same-stop, no-later-arrival, same-drop-off}
 
 -- what the clamped readings give

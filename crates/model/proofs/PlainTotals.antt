@@ -1,21 +1,21 @@
 -- Demand 3, whole, of the model.
-use Prim.Native.Nat.{ℕ, zero, suc, _+_, _*_, _-_, _≤_, _<_, _%_, zero-le}
+use Prim.Native.Nat.{ℕ, zero, suc, _+_, _*_, _-_, _≤_, _<_}
 use mathlib.Core.Path.{_≡_, refl, sym, ap, subst, _∙_}
 use mathlib.Core.Logic.{_⊎_, inl, inr, ⊎-elim}
 use mathlib.Core.Bool.{Bool, true, false, _&&_}
 use mathlib.Core.List.{List, [], _∷_, _++_, List·Memᴰ, List·Memᴰ·head, List·Memᴰ·tail, List·Memᴰ·cases-cons, List·Memᴰ·not-nil}
-use native.Mathlib.Nat.{le-refl, le-trans, mul-add-mod-self-right, mod-eq-of-lt}
+use native.Mathlib.Nat.{le-refl}
 use native.Mathlib.Omega.{arith}
 use lib.ListN.{getD, set, replicate, getD-replicate}
 use lib.Dec.{ltb, leb, eqb}
-use borrow.Author.Tests.{ltb-true, ltb-false, leb-true, leb-false, eqb-true, eqb-false}
+use borrow.Author.Tests.{ltb-true, ltb-false, eqb-true}
 use Rattle.model.proofs.Base.{set-cases, and-true}
 use Rattle.model.proofs.Net.{Net, Plain}
-use Rattle.model.proofs.PlainSearch.{Core, St, at, run, begin, rounds, access, arrive, target, rowBest, cands, Answer, answer}
+use Rattle.model.proofs.PlainSearch.{Core, at, run, begin, rounds, access, arrive, target, rowBest, cands, Answer, answer}
 use Rattle.model.proofs.Rounds.{Reach}
 use Rattle.model.proofs.Access.{Acc, begin-acc, begin-inv}
-use Rattle.model.proofs.Optimal.{no-better, no-way}
-use Rattle.model.proofs.Ways.{Way, w-access, Good, Rows, Ways, rounds-ways}
+use Rattle.model.proofs.Optimal.{no-better}
+use Rattle.model.proofs.Ways.{w-access, Good, Rows, Ways, rounds-ways}
 
 module _ (N : Net) where
   access-rows : (L : List (ℕ × ℕ × ℕ)) → Plain N → (os : List (ℕ × ℕ)) → ((s d : ℕ) → List·Memᴰ (s, d) os → List·Memᴰ (s, d) (N .orig)) → (c : Core) → Rows N (Good N L 0) c → Rows N (Good N L 0) (access N os c)

@@ -1,18 +1,17 @@
 -- The transit phase is a run of improvements, each with its reason; trip stamps never pass the round's.
-use Prim.Native.Nat.{ℕ, zero, suc, _+_, _-_, _≤_, _<_}
-use mathlib.Core.Path.{_≡_, refl, sym, ap, subst, _∙_}
-use mathlib.Core.Logic.{_⊎_, inl, inr, ⊎-elim}
-use mathlib.Core.Bool.{Bool, true, false}
-use mathlib.Core.List.{List, [], _∷_, _++_, List·Memᴰ, List·Memᴰ·head, List·Memᴰ·tail, List·Memᴰ·cases-cons, List·Memᴰ·not-nil}
+use Prim.Native.Nat.{ℕ, _+_, _-_, _≤_, _<_}
+use mathlib.Core.Path.{_≡_, refl, sym, subst}
+use mathlib.Core.Logic.{_⊎_, ⊎-elim}
+use mathlib.Core.Bool.{true}
+use mathlib.Core.List.{List, List·Memᴰ, List·Memᴰ·head, List·Memᴰ·tail}
 use native.Mathlib.Nat.{le-refl, le-trans}
 use native.Mathlib.Omega.{arith}
-use lib.ListN.{getD, set, length-set}
+use lib.ListN.{length-set}
 use Rattle.model.proofs.Base.{set-cases}
 use Rattle.model.proofs.Net.{Net, Plain}
-use Rattle.model.proofs.PlainSearch.{Core, Book, St, at, relax, ride, board, change}
-use Rattle.model.proofs.Coverage.{Le, Le-trans}
+use Rattle.model.proofs.PlainSearch.{Core, St, at, ride, board, change}
 use Rattle.model.proofs.Scan.{Scan, done, bar, cut, step, scan-graph}
-use Rattle.model.proofs.Departures.{Deps, nil, skip, go, Take, deps-le, tS, Even}
+use Rattle.model.proofs.Departures.{Deps, nil, skip, go, Take, tS, Even}
 use Rattle.model.proofs.Stops.{Stops}
 use Rattle.model.proofs.Improvements.{Steps, stay, steps-trans, relax-steps, steps-le, steps-changed}
 

@@ -1,19 +1,19 @@
 -- A round, and all rounds: every journey of at most as many rides is covered.
 use Prim.Native.Nat.{ℕ, zero, suc, _+_, _-_, _≤_, _<_, zero-le}
-use mathlib.Core.Path.{_≡_, refl, sym, ap, subst, _∙_}
+use mathlib.Core.Path.{_≡_, refl, sym, ap, subst}
 use mathlib.Core.Logic.{_⊎_, inl, inr, ⊎-elim}
 use mathlib.Core.Bool.{Bool, true, false}
-use mathlib.Core.List.{List, [], _∷_, _++_, List·Memᴰ, List·Memᴰ·head, List·Memᴰ·tail, List·Memᴰ·cases-cons, List·Memᴰ·not-nil, List·Memᴰ·append-cases, Memᴰ·append-left, Memᴰ·append-right}
+use mathlib.Core.List.{List, [], List·Memᴰ, List·Memᴰ·not-nil, List·Memᴰ·append-cases, Memᴰ·append-left, Memᴰ·append-right}
 use native.Mathlib.Nat.{le-refl, le-trans}
 use native.Mathlib.Omega.{arith}
-use lib.ListN.{getD, set}
+use lib.ListN.{getD}
 use Rattle.model.proofs.Base.{split-eq}
 use Rattle.model.proofs.Net.{Net, Plain}
-use Rattle.model.proofs.PlainSearch.{Core, Book, St, at, change, stops, walks, rideSt, walkSt, rounds}
-use Rattle.model.proofs.Coverage.{Le, Le-refl, Le-trans, Cov, cov-le, cov-later, by-at, by-best}
-use Rattle.model.proofs.Departures.{Ridden, ridden-le, ridden-best, Kept, tS, Even}
+use Rattle.model.proofs.PlainSearch.{Core, St, at, change, walks, rideSt, walkSt, rounds}
+use Rattle.model.proofs.Coverage.{Le, Cov, cov-le, cov-later, by-at, by-best}
+use Rattle.model.proofs.Departures.{Kept, tS, Even}
 use Rattle.model.proofs.Stops.{Stops, stops-graph, stops-le, stops-handled, Closed, closed-le, closed-later, Handled}
-use Rattle.model.proofs.Improvements.{Steps, steps-le, steps-changed, steps-pend, steps-att, steps-queue, Pend, Att, att-on}
+use Rattle.model.proofs.Improvements.{Steps, steps-le, steps-pend, steps-att, steps-queue, Pend, Att, att-on}
 use Rattle.model.proofs.Rides.{stops-steps, stops-stamp, stops-even}
 use Rattle.model.proofs.Walks.{Walked, walked-le, Walks, walks-graph, walks-closed, walks-steps}
 

@@ -1,16 +1,16 @@
 -- The scan of a trip: its graph, and its laws.
 use Prim.Native.Nat.{ℕ, zero, suc, _+_, _-_, _≤_, _<_}
 use mathlib.Core.Path.{_≡_, refl, sym, ap, subst, _∙_}
-use mathlib.Core.Logic.{_⊎_, inl, inr, ⊎-elim}
-use mathlib.Core.Bool.{Bool, true, false, cond}
-use native.Mathlib.Nat.{le-refl, le-trans}
+use mathlib.Core.Logic.{_⊎_, ⊎-elim}
+use mathlib.Core.Bool.{Bool, true, false}
+use native.Mathlib.Nat.{le-trans}
 use native.Mathlib.Omega.{arith}
-use lib.Dec.{ltb, leb, eqb}
+use lib.Dec.{ltb}
 use borrow.Author.Tests.{ltb-true, ltb-false}
 use Rattle.model.proofs.Base.{split-eq}
 use Rattle.model.proofs.Net.{Net, Plain}
-use Rattle.model.proofs.PlainSearch.{Core, at, relax, scan, ride}
-use Rattle.model.proofs.Coverage.{Le, Le-refl, Le-trans, relax-le, relax-cov, Cov, cov-le, cov-later, by-at, by-best}
+use Rattle.model.proofs.PlainSearch.{Core, relax, scan}
+use Rattle.model.proofs.Coverage.{Le, Le-refl, Le-trans, relax-le, relax-cov, Cov, cov-le, by-best}
 
 module _ (N : Net) (stamp t : ℕ) where
   pub data Scan : ℕ → ℕ → Core → Core → Type 0 where

@@ -7,22 +7,20 @@ use native.Mathlib.Omega.{arith}
 use native.Mathlib.Nat.{add-zero, sub-zero, min-zero}
 use lib.ListN.{length, getD, set, replicate, length-set, length-replicate, List·getD-map}
 use lib.Dec.{ltb, leb, eqb}
-use borrow.Author.Tests.{ltb-true, ltb-false, leb-true, leb-false, lt-ltb, le-ltb, lt-leb, le-leb, eqb-true, eq-eqb, ne-eqb}
+use borrow.Author.Tests.{ltb-true, leb-false, lt-ltb, le-ltb, lt-leb, eqb-true, eq-eqb, ne-eqb}
 use lib.IntN.{pos, subℕ}
-use Rattle.loops.specs.Iter.{Hit, hit, miss, iter, first}
-use Rattle.signed.specs.Signed.{bitsOf, ofBits, floored}
-use Rattle.walk.specs.Walk.{roundCount}
+use Rattle.loops.specs.Iter.{miss, iter, first}
+use Rattle.signed.specs.Signed.{bitsOf}
 use Rattle.frequency.specs.declared.Boarding.{Boarding}
 use Rattle.frequency.specs.declared.FreqBoard.{FreqBoard}
 use Rattle.frequency.specs.declared.FreqBoard.the-variants.{Nothing, Board}
-use Rattle.realtime.specs.Times.{noDelay, shifted, effectiveArrival, effectiveDeparture}
+use Rattle.realtime.specs.Times.{shifted}
 use Rattle.label.specs.declared.Label.{Label}
 use Rattle.label.specs.declared.Label.the-variants.{Empty, Access, Transit, Walk}
 use Rattle.label_table.specs.Table.{recordOf}
 use Rattle.departures.specs.declared.DepartureRow.{DepartureRow}
 use Rattle.frequency.specs.Gtfs.{earliestFreqBoard}
-use Rattle.delay_tables.specs.Delays.{DelayTables, margin}
-use Rattle.model.specs.Tables.{never, Tables, Origin, Query, roundsOf, changeBefore, isEgress, egressWalk, stops, trips, stopCount, stopAt, arrival, departure, sequence, noPickup, noDropOff, noWindows, edgesFrom, edgeTo, walkTime, position, fifo, permitted}
+use Rattle.model.specs.Tables.{never, Tables, Origin, Query, roundsOf, changeBefore, isEgress, egressWalk, stops, trips, stopCount, stopAt, arrival, departure, noPickup, noDropOff, noWindows, edgesFrom, edgeTo, walkTime, position, fifo, permitted}
 use Rattle.model.specs.Search.{reachedBy, Arrivals, Boardings, State, Answer, tripWindow, departureNow, marginOf, boardAt, notBefore, departuresAt, markAt, lineAt, bestAfter, improve, relax, alightings, scanTripForward, dominated, pruned, passedOver, boarding, board, scanDepartures, scanStops, walkFrom, walkAll, stamped, emptied, roundStart, ridePhase, walkPhase, idle, rounds, setOut, access, newArrivals, begin, bestTarget, rowTarget, candidatesFrom, final, answer}
 use Rattle.model.proofs.Base.{no-both}
 use Rattle.model.proofs.Net.{Net, Plain}

@@ -1,16 +1,15 @@
 -- Every stop listed in a phase bears the round's stamp; a round without stops does nothing.
-use Prim.Native.Nat.{ℕ, zero, suc, _+_, _*_, _-_, _≤_, _<_}
-use mathlib.Core.Path.{_≡_, refl, sym, ap, subst, _∙_}
-use mathlib.Core.Logic.{_⊎_, inl, inr, ⊎-elim}
-use mathlib.Core.Bool.{Bool, true, false, cond, _&&_, _||_, not}
-use mathlib.Core.List.{List, [], _∷_, _++_, List·Memᴰ, List·Memᴰ·head, List·Memᴰ·tail, List·Memᴰ·not-nil, List·Memᴰ·append-cases, List·Memᴰ·eq-of-singleton}
+use Prim.Native.Nat.{ℕ, zero, suc, _+_, _-_, _<_}
+use mathlib.Core.Path.{_≡_, refl, ap, _∙_}
+use mathlib.Core.Logic.{_⊎_, ⊎-elim}
+use mathlib.Core.Bool.{Bool, true, false, cond, not}
+use mathlib.Core.List.{List, [], _∷_, _++_, List·Memᴰ, List·Memᴰ·not-nil, List·Memᴰ·append-cases, List·Memᴰ·eq-of-singleton}
 use native.Mathlib.Omega.{arith}
 use lib.ListN.{length, getD, set, length-set}
-use lib.Dec.{ltb, leb, eqb}
-use borrow.Author.Tests.{eqb-true, eqb-false}
+use lib.Dec.{eqb}
 use Rattle.model.proofs.Base.{set-cases}
 use Rattle.model.proofs.Net.{Net, Plain}
-use Rattle.model.proofs.PlainSearch.{Core, Book, St, at, imp, stops, walks, rideSt, walkSt, rounds}
+use Rattle.model.proofs.PlainSearch.{Core, Book, St, imp, stops, walks, rideSt, walkSt, rounds}
 use Rattle.model.proofs.Stops.{stops-graph}
 use Rattle.model.proofs.Improvements.{Steps, stay, step, steps-queue}
 use Rattle.model.proofs.Rides.{stops-steps}

@@ -1,6 +1,6 @@
 -- A run as improvements, each with its reason; which predicates a run keeps.
 -- A round's stamp is its number plus two, and its label row the stamp less one; the origins have stamp 1.
-use Prim.Native.Nat.{ℕ, zero, suc, _+_, _-_, _≤_, _<_}
+use Prim.Native.Nat.{ℕ, suc, _+_, _-_, _≤_, _<_}
 use mathlib.Core.Path.{_≡_, refl, sym, ap, subst, _∙_}
 use mathlib.Core.Logic.{_⊎_, inl, inr, ⊎-elim}
 use mathlib.Core.Bool.{true, false}

@@ -1,18 +1,16 @@
 -- The stops of a round: after them each is handled, at a value between its earliest before and after.
-use Prim.Native.Nat.{ℕ, zero, suc, _+_, _-_, _≤_, _<_}
-use mathlib.Core.Path.{_≡_, refl, sym, ap, subst, _∙_}
-use mathlib.Core.Logic.{_⊎_, inl, inr, ⊎-elim}
-use mathlib.Core.Bool.{Bool, true, false, cond, _&&_, _||_, not}
-use mathlib.Core.List.{List, [], _∷_, _++_, List·Memᴰ, List·Memᴰ·head, List·Memᴰ·tail, List·Memᴰ·cases-cons, List·Memᴰ·not-nil}
+use Prim.Native.Nat.{ℕ, _+_, _-_, _≤_, _<_}
+use mathlib.Core.Path.{_≡_, refl, sym, subst}
+use mathlib.Core.Logic.{_⊎_, ⊎-elim}
+use mathlib.Core.Bool.{Bool, true, false}
+use mathlib.Core.List.{List, [], _∷_, List·Memᴰ, List·Memᴰ·cases-cons, List·Memᴰ·not-nil}
 use native.Mathlib.Nat.{le-refl, le-trans}
-use native.Mathlib.Omega.{arith}
-use lib.ListN.{getD, set}
-use lib.Dec.{ltb, leb, eqb}
-use borrow.Author.Tests.{ltb-true, ltb-false, leb-true, leb-false, eqb-true, eqb-false, not-true, not-false}
-use Rattle.model.proofs.Net.{Net, Plain, Sorted}
-use Rattle.model.proofs.PlainSearch.{Core, Book, St, at, departures, change, stops}
-use Rattle.model.proofs.Coverage.{Le, Le-refl, Le-trans, Cov, cov-le, cov-later, by-at, by-best}
-use Rattle.model.proofs.Departures.{Ridden, ridden-le, ridden-best, Deps, Take, Kept, deps-le, deps-kept, deps-ridden, deps-graph}
+use lib.Dec.{leb}
+use borrow.Author.Tests.{leb-true, leb-false}
+use Rattle.model.proofs.Net.{Net, Plain}
+use Rattle.model.proofs.PlainSearch.{Core, St, at, departures, change, stops}
+use Rattle.model.proofs.Coverage.{Le, Le-refl, Le-trans}
+use Rattle.model.proofs.Departures.{Ridden, ridden-le, ridden-best, Deps, Kept, deps-le, deps-kept, deps-ridden, deps-graph}
 
 -- from stop x, reached at v, every permitted departure at least w later is ridden
 pub record Closed (N : Net) (c : Core) (x v : ℕ) : Type 0 where

@@ -1,6 +1,6 @@
 -- No trip's times fall: from neighbours to any two offsets.
 use Prim.Native.Nat.{ℕ, zero, suc, _+_, _-_, _≤_, _<_}
-use mathlib.Core.Path.{_≡_, refl, sym, ap, subst, _∙_}
+use mathlib.Core.Path.{_≡_, subst}
 use native.Mathlib.Nat.{le-refl, le-trans, suc-add, zero-add}
 use native.Mathlib.Omega.{arith}
 use Rattle.model.proofs.Net.{Net}

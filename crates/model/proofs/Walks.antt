@@ -1,18 +1,16 @@
 -- The walk phase: after it every earliest is closed under the walk edges.
-use Prim.Native.Nat.{ℕ, zero, suc, _+_, _-_, _≤_, _<_}
-use mathlib.Core.Path.{_≡_, refl, sym, ap, subst, _∙_}
+use Prim.Native.Nat.{ℕ, _+_, _-_, _≤_, _<_}
+use mathlib.Core.Path.{_≡_, refl, sym, ap, subst}
 use mathlib.Core.Logic.{_⊎_, inl, inr, ⊎-elim}
-use mathlib.Core.Bool.{Bool, true, false, cond, _&&_, _||_, not}
-use mathlib.Core.List.{List, [], _∷_, _++_, List·Memᴰ, List·Memᴰ·head, List·Memᴰ·tail, List·Memᴰ·cases-cons, List·Memᴰ·not-nil}
-use native.Mathlib.Nat.{le-refl, le-trans}
+use mathlib.Core.Bool.{Bool, true, false}
+use mathlib.Core.List.{List, [], _∷_, List·Memᴰ, List·Memᴰ·head, List·Memᴰ·tail, List·Memᴰ·cases-cons, List·Memᴰ·not-nil}
 use native.Mathlib.Omega.{arith}
 use native.Mathlib.Decide.{ℕ-discrete}
-use lib.ListN.{getD, set}
-use lib.Dec.{ltb, leb, eqb}
-use borrow.Author.Tests.{ltb-true, ltb-false, leb-true, leb-false, eqb-true, eqb-false, not-true, not-false}
+use lib.Dec.{ltb}
+use borrow.Author.Tests.{ltb-true, ltb-false}
 use Rattle.model.proofs.Net.{Net, Plain}
 use Rattle.model.proofs.PlainSearch.{Core, at, relax, walk, walks}
-use Rattle.model.proofs.Coverage.{Le, Le-refl, Le-trans, Cov, cov-le, cov-later, by-at, by-best, relax-cov, relax-le}
+use Rattle.model.proofs.Coverage.{Le, Cov, cov-le, cov-later, by-at, by-best, relax-cov}
 use Rattle.model.proofs.Improvements.{Steps, stay, steps-trans, relax-steps, steps-le, steps-changed}
 
 pub record Walked (N : Net) (c : Core) (x v : ℕ) : Type 0 where

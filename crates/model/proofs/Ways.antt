@@ -1,23 +1,20 @@
 -- Demand 3, second half: every earliest and every label is the arrival of a way.
-use Prim.Native.Nat.{ℕ, zero, suc, _+_, _*_, _-_, _≤_, _<_, _%_, zero-le}
-use mathlib.Core.Path.{_≡_, refl, sym, ap, subst, _∙_}
-use mathlib.Core.Logic.{_⊎_, inl, inr, ⊎-elim}
-use mathlib.Core.Bool.{Bool, true, false}
-use mathlib.Core.List.{List, [], _∷_, _++_, List·Memᴰ, List·Memᴰ·head, List·Memᴰ·tail, List·Memᴰ·cases-cons, List·Memᴰ·not-nil}
-use native.Mathlib.Nat.{le-refl, le-trans, mul-add-mod-self-right, mod-eq-of-lt}
+use Prim.Native.Nat.{ℕ, zero, suc, _+_, _*_, _-_, _≤_, _<_}
+use mathlib.Core.Path.{_≡_, sym, subst, _∙_}
+use mathlib.Core.Logic.{_⊎_, ⊎-elim}
+use mathlib.Core.Bool.{true}
+use mathlib.Core.List.{List, [], List·Memᴰ, List·Memᴰ·not-nil}
+use native.Mathlib.Nat.{le-refl}
 use native.Mathlib.Omega.{arith}
-use lib.ListN.{getD, set, replicate, getD-replicate}
+use lib.ListN.{getD}
 use Rattle.model.proofs.Base.{set-cases}
 use Rattle.model.proofs.Net.{Net, Plain}
-use Rattle.model.proofs.PlainSearch.{Core, Book, St, at, change, imp, rideSt, walkSt, rounds, walks, begin, run, access, arrive}
-use Rattle.model.proofs.Coverage.{Le}
-use Rattle.model.proofs.Departures.{Take}
-use Rattle.model.proofs.Stops.{Stops, stops-graph}
-use Rattle.model.proofs.Improvements.{Steps, stay, step, steps-le, steps-changed, steps-fell}
+use Rattle.model.proofs.PlainSearch.{Core, St, at, change, imp, rideSt, walkSt, rounds, walks}
+use Rattle.model.proofs.Stops.{stops-graph}
+use Rattle.model.proofs.Improvements.{Steps, stay, step, steps-changed, steps-fell}
 use Rattle.model.proofs.Rides.{stops-steps, stops-log}
-use Rattle.model.proofs.Walks.{Walks, walks-graph, walks-steps}
+use Rattle.model.proofs.Walks.{walks-graph, walks-steps}
 use Rattle.model.proofs.Rounds.{Inv, round-inv}
-use Rattle.model.proofs.Access.{Acc, begin-acc, begin-inv}
 
 module _ (N : Net) where
   -- a way to a stop, by when, and the round of its last ride; L has the scans (round, trip, offset)

@@ -3,9 +3,8 @@
 use Prim.Native.Nat.{ℕ, zero, suc, _+_, _≤_, _<_}
 use mathlib.Core.Path.{_≡_}
 use mathlib.Core.Bool.{Bool, true, false}
-use mathlib.Core.List.{List, [], _∷_, List·Memᴰ}
+use mathlib.Core.List.{List, List·Memᴰ}
 use Rattle.departures.specs.declared.DepartureRow.{DepartureRow}
-use Rattle.tables.specs.Timetable.{Timetable}
 use Rattle.line_numbers.specs.Lines.{lineOf, linesOf}
 use Rattle.built.specs.Built.{AsBuilt}
 use Rattle.departures.specs.Departures.{sorted, markOf}

@@ -23,11 +23,10 @@ use Rattle.label.specs.declared.Label.the-variants.{Empty, Access, Transit, Wal
 use Rattle.label.specs.Label.{noDistance}
 use Rattle.label_table.specs.Table.{recordOf}
 use Rattle.departures.specs.declared.DepartureRow.{DepartureRow}
-use Rattle.tables.specs.Timetable.{Timetable, timeAt}
 use Rattle.line_layout.specs.Layout.{LineTrips}
 use Rattle.line_transfers.specs.Transfers.{Transfer}
-use Rattle.delay_tables.specs.Delays.{DelayTables, delayRow, stopDelay, margin}
-use Rattle.model.specs.Tables.{Settings, never, Tables, Origin, Query, roundsOf, changeBefore, isEgress, egressWalk, stops, trips, stopCount, stopAt, arrival, departure, sequence, noPickup, noDropOff, noWindows, edgesFrom, edgeTo, walkTime, position, fifo, usable, permitted}
+use Rattle.delay_tables.specs.Delays.{delayRow, stopDelay, margin}
+use Rattle.model.specs.Tables.{never, Tables, Origin, Query, roundsOf, changeBefore, isEgress, egressWalk, stops, trips, stopCount, stopAt, arrival, departure, sequence, noPickup, noDropOff, noWindows, edgesFrom, edgeTo, walkTime, position, fifo, usable, permitted}
 
 -- a segment (`seg_queue`), queued for the next round: trip, boarding offset, boarding stop, time shift
 pub record Segment : Type 0 where

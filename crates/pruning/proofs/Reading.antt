@@ -2,10 +2,10 @@
 use Prim.Native.Nat.{ℕ, zero, suc, _+_, _*_, _-_, _≤_, _<_}
 use mathlib.Core.Path.{_≡_, refl, sym, ap, ap₂, _∙_}
 use mathlib.Core.Bool.{Bool, true, false, cond, not, _&&_, _||_}
-use mathlib.Core.List.{List, [], _∷_}
+use mathlib.Core.List.{List, _∷_}
 use native.Mathlib.Omega.{arith}
-use lib.ListN.{length, getD, set}
-use lib.Dec.{ltb, leb, eqb}
+use lib.ListN.{getD, set}
+use lib.Dec.{ltb, eqb}
 use borrow.Author.Tests.{eq-eqb, ne-eqb, lt-ltb, le-ltb}
 use Rattle.loops.specs.Count.{one}
 use Rattle.loops.specs.Iter.{Hit}
@@ -14,9 +14,9 @@ use Rattle.line_layout.specs.Layout.{fifoLine}
 use Rattle.scratch.specs.declared.Lay.{Lay}
 use Rattle.scratch.specs.Part.{part}
 use Rattle.scratch.proofs.Part.{part-at}
-use Rattle.model.specs.Tables.{Tables, Query, position, fifo}
+use Rattle.model.specs.Tables.{Tables, Query, fifo}
 use Rattle.model.specs.Search.{Boardings, lineAt, undelayed, prunable, dominated, pruned, passedOver}
-use Rattle.pruning.specs.Chain.{positionsAt, fifoAt, tripStampsAt, offsetsAt, departuresAt, lineStampsAt, headsAt, linksAt, leastAt, firstOf, chainFrom, chain, isIn, before, someBefore, lowered, listed, linked, stampedAs}
+use Rattle.pruning.specs.Chain.{positionsAt, fifoAt, tripStampsAt, offsetsAt, departuresAt, lineStampsAt, headsAt, linksAt, leastAt, firstOf, chainFrom, isIn, before, someBefore, lowered, listed, linked, stampedAs}
 use Rattle.pruning.specs.Books.{Agrees, Books, Inside}
 use Rattle.pruning.proofs.Chains.{in-here, in-there}
 use Rattle.pruning.proofs.Noting.{line-is, position-is}

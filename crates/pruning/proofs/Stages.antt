@@ -1,20 +1,20 @@
 -- What putting a trip into its line's chain does to the chains and to the test of line pruning. Assumes nothing.
-use Prim.Native.Nat.{ℕ, zero, suc, _+_, _*_, _-_, _≤_, _<_}
+use Prim.Native.Nat.{ℕ, suc, _+_, _*_, _-_, _≤_, _<_}
 use mathlib.Core.Path.{_≡_, refl, sym, ap, ap₂, _∙_}
 use mathlib.Core.Logic.{_⊎_, inl, inr}
 use mathlib.Core.Bool.{Bool, true, false, cond, not, _&&_, _||_}
-use mathlib.Core.List.{List, [], _∷_}
+use mathlib.Core.List.{List, _∷_}
 use native.Mathlib.Omega.{arith}
 use lib.ListN.{length, getD, set, take, drop, length-set}
 use lib.Seq.{getD-set-same, getD-set-other, take-set-le, drop-set-lt}
 use lib.Dec.{ltb, leb, eqb}
-use borrow.Author.Tests.{eqb-true, eqb-false, eq-eqb, ne-eqb}
+use borrow.Author.Tests.{eq-eqb, ne-eqb}
 use Rattle.loops.specs.Count.{one}
 use Rattle.scratch.specs.declared.Lay.{Lay}
-use Rattle.scratch.specs.Part.{part, tally}
+use Rattle.scratch.specs.Part.{part}
 use Rattle.scratch.specs.Places.{Sized}
 use Rattle.scratch.proofs.Part.{part-at, part-length, tally-room}
-use Rattle.pruning.specs.Chain.{positionsAt, tripStampsAt, lineStampsAt, headsAt, linksAt, leastAt, firstOf, chainFrom, chain, isIn, before, someBefore, linked, lowered, listed}
+use Rattle.pruning.specs.Chain.{positionsAt, tripStampsAt, lineStampsAt, headsAt, linksAt, leastAt, firstOf, chainFrom, chain, isIn, someBefore, linked, lowered}
 use Rattle.pruning.specs.Books.{Chains}
 use Rattle.pruning.proofs.Chains.{same-or, in-here, in-there, in-either, chain-kept, some-kept, some-lower, first-kept, chain-front}
 

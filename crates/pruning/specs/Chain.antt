@@ -2,7 +2,7 @@
 -- From `restAt` on, with S stops, T trips, L lines: egress table S, positions T, FIFO flags L, events before each trip T, trip stamps T,
 -- boarding offsets T, boarding departures T, line stamps L, line heads L, links T, least offsets T.
 use Prim.Native.Nat.{ℕ, zero, suc, _+_, _*_}
-use mathlib.Core.Bool.{Bool, true, false, cond, _&&_, _||_}
+use mathlib.Core.Bool.{Bool, false, cond, _&&_, _||_}
 use mathlib.Core.List.{List, [], _∷_}
 use lib.ListN.{getD, set}
 use lib.Dec.{ltb, leb, eqb}

@@ -8,19 +8,16 @@ use lib.ListN.{length, getD, set, replicate, length-set, length-replicate, getD-
 use lib.Seq.{getD-set-same, getD-set-other}
 use lib.Ieee.{Float, nan}
 use borrow.Author.Tests.{eq-eqb, ne-eqb}
-use Rattle.loops.specs.Count.{tab, tabFrom}
+use Rattle.loops.specs.Count.{tabFrom}
 use Rattle.loops.proofs.Count.{tab-ext}
-use Rattle.label.specs.declared.Label.{Label}
 use Rattle.label.specs.declared.Label.the-variants.{Empty}
 use Rattle.label.specs.Label.{noDistance, labelRow, rowOf}
 use Rattle.label_table.specs.Table.{loaded}
-use Rattle.model.specs.Tables.{Tables, Query, never, isEgress, egressWalk, stops, trips}
-use Rattle.model.specs.Search.{Arrivals, newArrivals}
+use Rattle.model.specs.Tables.{never, isEgress, egressWalk, stops, trips}
 use Rattle.scratch.specs.declared.Lay.{Lay}
-use Rattle.scratch.specs.declared.Head.{Head}
 use Rattle.scratch.specs.Part.{part}
-use Rattle.scratch.specs.Places.{WorkSized, EgressTable, Walks, egressWord, tableWord, restAt, listsAt}
-use Rattle.scratch.specs.View.{Memory, memory, Written, arrivalsOf, labelsOf, queueOf}
+use Rattle.scratch.specs.Places.{WorkSized, egressWord, restAt}
+use Rattle.scratch.specs.View.{memory, Written, labelsOf, queueOf}
 use Rattle.reset.specs.Fill.{Filled, newHead, Fresh, egressAt, egressOf, EgressRows, Egressed}
 use Rattle.scratch.proofs.Part.{part-at, part-length}
 use Rattle.scratch.proofs.Labels.{same-or}

@@ -1,23 +1,19 @@
 -- From one phase of a query to the next: a new state with its egress table, the lists exchanged, a list emptied. Assumes nothing.
-use Prim.Native.Nat.{ℕ, zero, suc, _+_, _*_, _-_, _≤_, _<_}
+use Prim.Native.Nat.{ℕ, _+_, _*_, _-_, _≤_, _<_}
 use mathlib.Core.Path.{_≡_, refl, sym, ap, _∙_}
 use mathlib.Core.Logic.{_⊎_, inl, inr}
-use mathlib.Core.Bool.{Bool, true, false, cond}
-use mathlib.Core.List.{List, [], _∷_}
+use mathlib.Core.List.{List}
 use native.Mathlib.Omega.{arith}
-use lib.ListN.{length, getD, take, drop}
-use lib.Dec.{ltb}
+use lib.ListN.{length, getD}
 use lib.Ieee.{Float}
-use Rattle.loops.specs.Count.{tab, tabFrom}
 use Rattle.loops.proofs.Count.{tab-is}
 use Rattle.model.specs.Tables.{Tables, Query}
-use Rattle.model.specs.Search.{Arrivals, at, emptied, relax, improve}
-use Rattle.label.specs.declared.Label.{Label}
+use Rattle.model.specs.Search.{at, emptied}
 use Rattle.scratch.specs.declared.Lay.{Lay}
 use Rattle.scratch.specs.declared.Head.{Head}
-use Rattle.scratch.specs.Part.{part, tally}
-use Rattle.scratch.specs.Places.{WorkSized, Sized, Same, Counted, Walks, EgressTable, turned, restAt, stampsOf}
-use Rattle.scratch.specs.View.{Memory, memory, Written, arrivalsOf, queueOf}
+use Rattle.scratch.specs.Part.{part}
+use Rattle.scratch.specs.Places.{WorkSized, Sized, Same, Walks, turned, restAt}
+use Rattle.scratch.specs.View.{memory, Written, arrivalsOf, queueOf}
 use Rattle.scratch.specs.Step.{Ready, Starting, Stamp}
 use Rattle.reset.specs.Fill.{Egressed}
 use Rattle.scratch.proofs.Part.{part-at, part-length}
@@ -100,15 +96,6 @@ pub turned-ready : (lay : Lay) (stamp : ℕ) (w l : List ℕ) (m : List Float) (
     → Written (lay .stops * 13) l m → Ready (turned lay) stamp (memory w l m (emptiedHead n h))
 turned-ready lay stamp w l m h n ok g s r =
     record { sized = turned-sized ok; walks = record { small = g .small }; counted = record { fits = omega arith }; round = s; written = r }
-
--- no step of an arrival queues a segment, and queuing one loses none (for `queue-over`)
-pub relax-queue : (T : Tables) (Q : Query) (stamp s v : ℕ) (how : Label) (a : Arrivals) → relax T Q stamp s v how a .segQueue ≡ a .segQueue
-unfolding relax improve
-relax-queue T Q stamp s v how a = go (ltb v (at a s))
-  where
-    go : (b : Bool) → cond b (improve T Q stamp s v how a) a .segQueue ≡ a .segQueue
-    go true = refl
-    go false = refl
 
 -- two stops, a trip, a line: the sections as they lie
 pub small : Lay

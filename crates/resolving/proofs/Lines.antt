@@ -1,14 +1,14 @@
 -- `resolve` of the model by what the slices hold.
-use Prim.Native.Nat.{ℕ, zero, suc, _+_, _*_, _-_, _<_, _≤_, min}
+use Prim.Native.Nat.{ℕ, _+_, _-_, _<_, _≤_, min}
 use mathlib.Core.Path.{_≡_, refl, ap, ap₂, sym, _∙_}
-use mathlib.Core.Bool.{Bool, true, false, cond, not, _&&_, _||_}
+use mathlib.Core.Bool.{Bool, true, false, _&&_}
 use mathlib.Core.List.{List}
-use mathlib.Core.Option.{Option, none, some}
+use mathlib.Core.Option.{Option, none}
 use native.Mathlib.Omega.{arith}
-use native.Mathlib.Nat.{add-zero, min-le-left}
-use lib.ListN.{length, getD}
-use lib.Dec.{ltb, leb, eqb}
-use borrow.Author.Tests.{lt-ltb, le-ltb, eq-eqb, ne-eqb, ltb-true, ltb-false}
+use native.Mathlib.Nat.{min-le-left}
+use lib.ListN.{getD}
+use lib.Dec.{ltb, eqb}
+use borrow.Author.Tests.{lt-ltb, le-ltb, eq-eqb, ne-eqb, ltb-true}
 use Rattle.loops.specs.Count.{one}
 use Rattle.loops.proofs.Iter.{and-left}
 use Rattle.tables.specs.declared.Counts.{Counts}
@@ -18,10 +18,9 @@ use Rattle.line_transfers.specs.Transfers.{Transfer}
 use Rattle.model.specs.Tables.{never, Tables, Query, trips, position, fifo}
 use Rattle.model.specs.Search.{lineAt, lineTripsAt, resolveIn, resolve}
 use Rattle.boarding.specs.declared.Tried.{Tried}
-use Rattle.boarding.specs.declared.Tried.the-variants.{Next, Stop, Take}
 use Rattle.boarding.specs.declared.Lined.{Lined}
-use Rattle.boarding.specs.Resolving.{tried, goOn, TripsAt, Names, runFirst, runCount, LinesHeld, LinesOf}
-use Rattle.boarding.proofs.Laws.{left, left-first, left-step, left-end}
+use Rattle.boarding.specs.Resolving.{tried, goOn, TripsAt, Names, runFirst, runCount, LinesOf}
+use Rattle.boarding.proofs.Laws.{left-first, left-step, left-end}
 
 -- the line of a trip
 module _ (T : Tables) (c : Counts) (n : Lined) (built work : List ℕ) (e : trips T ≡ c .trips) (h : LinesOf T c n built work) where

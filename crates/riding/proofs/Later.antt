@@ -19,7 +19,7 @@ use Rattle.label.specs.Label.{noDistance}
 use Rattle.departures.specs.declared.DepartureRow.{DepartureRow}
 use Rattle.line_transfers.specs.Transfers.{Transfer}
 use Rattle.model.specs.Tables.{never, Tables, Query, changeBefore, stopCount, stopAt, departure, noDropOff, noWindows, edgesFrom, edgeTo, walkTime, permitted}
-use Rattle.model.specs.Search.{Segment, Arrivals, State, at, holdsTarget, departuresAt, markAt, notBefore, delayOf, skipped, arrivalNow, marginOf, improve, relax, resolve, enqueue, takeTransfers, alightings, transferring, scanTripForward, logged, rideSegments, boarding, board, scanDepartures, scanStops, walkFrom, walkAll, emptied, roundStart, ridePhase}
+use Rattle.model.specs.Search.{Segment, Arrivals, State, at, holdsTarget, departuresAt, markAt, notBefore, delayOf, skipped, arrivalNow, marginOf, improve, relax, resolve, enqueue, takeTransfers, alightings, transferring, scanTripForward, logged, rideSegments, boarding, board, scanDepartures, scanStops, walkFrom, walkAll}
 use Rattle.model.proofs.Moves.{pushed}
 use Rattle.model.proofs.Stores.{set-le}
 use Rattle.transferring.proofs.Taking.{enqueue-grows}
@@ -214,14 +214,6 @@ module _ (T : Tables) (Q : Query) where
       go true m on = on s
       go false true on = later-trans (one true (departuresAt T x)) (on (next true (departuresAt T x)))
       go false false on = later-trans (one false listed) (on (next false listed))
-
-  -- THE RIDE PHASE
-  pub ride-later : (flagged : Bool) (round : ℕ) (s : State) → Later (emptied T Q [] (s .arrivals)) (ridePhase T Q flagged round s .arrivals)
-  unfolding ridePhase
-  ride-later true round s =
-      later-trans (segments-later true round (suc (suc round)) (s .arrivals .segQueue) (roundStart T Q s))
-      (stops-later true round (suc (suc round)) (s .arrivals .reached) _)
-  ride-later false round s = stops-later false round (suc (suc round)) (s .arrivals .reached) (roundStart T Q s)
 
   -- the walk edges of a stop
   pub edges-later : (flagged : Bool) (stamp x v : ℕ) (es : List ℕ) (a : Arrivals) → Later a (walkFrom T Q flagged stamp x v es a)

@@ -1,9 +1,9 @@
 -- What the parts of the ride phase need, and what they do. Definitions only.
-use Prim.Native.Nat.{ℕ, _≤_, _<_}
+use Prim.Native.Nat.{ℕ}
 use mathlib.Core.Path.{_≡_}
 use mathlib.Core.Bool.{Bool, false}
 use mathlib.Core.List.{List}
-use lib.ListN.{length, getD}
+use lib.ListN.{length}
 use Rattle.frequency.specs.declared.FreqBoard.{FreqBoard}
 use Rattle.frequency.specs.declared.FreqBoard.the-variants.{Nothing, Board}
 use Rattle.departures.specs.declared.DepartureRow.{DepartureRow}

@@ -1,17 +1,17 @@
 -- A stop reached, among the working numbers: it is stamped already, or new. Assumes nothing.
-use Prim.Native.Nat.{ℕ, zero, suc, _+_, _*_, _-_, _≤_, _<_}
+use Prim.Native.Nat.{ℕ, suc, _+_, _*_, _-_, _≤_, _<_}
 use mathlib.Core.Path.{_≡_, refl, sym, ap, _∙_}
 use mathlib.Core.Logic.{_⊎_, inl, inr}
-use mathlib.Core.Bool.{Bool, true, false, cond, not}
+use mathlib.Core.Bool.{true, false}
 use mathlib.Core.List.{List, [], _∷_, _++_}
 use native.Mathlib.Omega.{arith}
-use lib.ListN.{length, getD, set, drop, length-set}
+use lib.ListN.{length, getD, set, length-set}
 use lib.Seq.{drop-set-lt}
 use lib.Dec.{eqb}
 use borrow.Author.Tests.{eq-eqb, ne-eqb}
 use Rattle.scratch.specs.declared.Lay.{Lay}
 use Rattle.scratch.specs.Part.{part, tally}
-use Rattle.scratch.specs.Places.{WorkSized, Same, Counted, Grown, restAt, workSize, earliestOf, stampsOf, reachOf}
+use Rattle.scratch.specs.Places.{WorkSized, Same, Counted, restAt, stampsOf}
 use Rattle.scratch.specs.Step.{Entered, Marked}
 use Rattle.scratch.proofs.Part.{first-in, part-at, part-in, part-below, part-above, part-more, part-length, tally-le, tally-room, tally-set}
 

@@ -1,7 +1,6 @@
 -- Laws of a section: what is read in it, a store in it, below it, above it, just past it. Assumes nothing.
 use Prim.Native.Nat.{ℕ, zero, suc, _+_, _-_, _≤_, _<_}
 use mathlib.Core.Path.{_≡_, refl, sym, ap, _∙_}
-use mathlib.Core.Bool.{Bool, true, false}
 use mathlib.Core.List.{List, [], _∷_, _++_}
 use native.Mathlib.Omega.{arith}
 use native.Mathlib.Numerals.{add-one}
@@ -9,7 +8,6 @@ use lib.ListN.{length, getD, set, take, drop, length-drop}
 use lib.Dec.{eqb}
 use lib.Seq.{length-take-le, getD-take, getD-drop, drop-set-add, drop-set-lt, take-set-lt, take-set-le, take-suc-set}
 use borrow.Author.Tests.{eq-eqb, ne-eqb}
-use Rattle.loops.specs.Count.{one}
 use Rattle.loops.proofs.Count.{one-le}
 use Rattle.scratch.specs.Part.{part, tally}
 

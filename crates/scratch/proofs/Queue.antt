@@ -10,7 +10,7 @@ use lib.Seq.{getD-set-same, getD-set-other}
 use lib.Dec.{leb, ltb}
 use lib.Ieee.{Float}
 use borrow.Author.Tests.{leb-true, leb-false, le-ltb, lt-ltb}
-use Rattle.loops.specs.Count.{tab, tabFrom}
+use Rattle.loops.specs.Count.{tabFrom}
 use Rattle.loops.proofs.Count.{tab-ext, length-tabFrom}
 use Rattle.loops.proofs.Search.{clash}
 use Rattle.model.specs.Tables.{Tables, Query, noWindows}
@@ -18,7 +18,7 @@ use Rattle.model.specs.Search.{Arrivals, Segment, enqueue}
 use Rattle.scratch.specs.declared.Lay.{Lay}
 use Rattle.scratch.specs.declared.Head.{Head}
 use Rattle.scratch.specs.Part.{part}
-use Rattle.scratch.specs.Places.{WorkSized, Sized, Same, Counted, Grown, earliestOf, stampsOf, reachOf}
+use Rattle.scratch.specs.Places.{WorkSized, Same, earliestOf, stampsOf, reachOf}
 use Rattle.scratch.specs.View.{Memory, memory, arrivalsOf, segmentAt, queueOf, putSegment}
 use Rattle.scratch.specs.Step.{Ready, Step, QueueStep}
 use Rattle.scratch.proofs.Part.{part-at, part-in, part-above, part-below}

@@ -1,11 +1,9 @@
 -- An origin in memory is the model's. Assumes nothing.
-use Prim.Native.Nat.{ℕ, zero, suc, _+_, _*_, _-_, _≤_, _<_}
+use Prim.Native.Nat.{ℕ, _+_, _*_, _-_, _≤_, _<_}
 use mathlib.Core.Path.{_≡_, refl, sym, ap, ap₂, _∙_}
-use mathlib.Core.Bool.{Bool, true, false}
 use mathlib.Core.List.{List, [], _∷_, _++_}
 use native.Mathlib.Omega.{arith}
 use lib.ListN.{length, getD, set}
-use lib.Dec.{ltb}
 use lib.Ieee.{Float}
 use borrow.Author.Tests.{lt-ltb, le-ltb}
 use Rattle.label.specs.declared.Label.{Label}
@@ -18,7 +16,7 @@ use Rattle.model.specs.Search.{Arrivals, at, bestAfter, setOut}
 use Rattle.scratch.specs.declared.Lay.{Lay}
 use Rattle.scratch.specs.declared.Head.{Head}
 use Rattle.scratch.specs.Places.{EgressTable, tableWord}
-use Rattle.scratch.specs.View.{Memory, memory, arrivalsOf, labelsOf}
+use Rattle.scratch.specs.View.{memory, arrivalsOf, labelsOf}
 use Rattle.scratch.specs.Step.{Starting, StartStep, Entered, bestBy}
 use Rattle.scratch.proofs.Part.{first-at}
 use Rattle.scratch.proofs.Labels.{labels-put, written-put}

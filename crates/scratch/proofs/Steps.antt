@@ -1,11 +1,11 @@
 -- An arrival in memory is the model's. Assumes nothing.
-use Prim.Native.Nat.{ℕ, zero, suc, _+_, _*_, _-_, _≤_, _<_}
-use mathlib.Core.Path.{_≡_, refl, sym, ap, ap₂, _∙_}
-use mathlib.Core.Bool.{Bool, true, false, cond, not, _&&_}
+use Prim.Native.Nat.{ℕ, _+_, _*_, _-_, _≤_, _<_}
+use mathlib.Core.Path.{_≡_, refl, ap, ap₂, _∙_}
+use mathlib.Core.Bool.{Bool, true, false, cond, _&&_}
 use mathlib.Core.List.{List}
 use native.Mathlib.Omega.{arith}
 use lib.ListN.{length, getD}
-use lib.Dec.{eqb, ltb}
+use lib.Dec.{ltb}
 use lib.Ieee.{Float}
 use borrow.Author.Tests.{eq-eqb, ne-eqb, lt-ltb, le-ltb}
 use Rattle.label.specs.declared.Label.{Label}
@@ -16,9 +16,9 @@ use Rattle.model.specs.Tables.{Tables, Query, isEgress, egressWalk}
 use Rattle.model.specs.Search.{Arrivals, at, bestAfter, improve, relax}
 use Rattle.scratch.specs.declared.Lay.{Lay}
 use Rattle.scratch.specs.declared.Head.{Head}
-use Rattle.scratch.specs.Places.{Sized, Same, Counted, Grown, EgressTable, Walks, egressWord, tableWord, restAt}
+use Rattle.scratch.specs.Places.{Same, Grown, EgressTable, Walks, egressWord, tableWord, restAt}
 use Rattle.scratch.specs.View.{Memory, memory, arrivalsOf, labelsOf}
-use Rattle.scratch.specs.Step.{Stamp, Ready, Step, Marked, bestBy}
+use Rattle.scratch.specs.Step.{Ready, Step, Marked, bestBy}
 use Rattle.scratch.proofs.Part.{first-at, drop-at}
 use Rattle.scratch.proofs.Labels.{labels-put, written-put}
 use Rattle.scratch.proofs.Marking.{same-refl, same-then}
@@ -57,9 +57,6 @@ walks-kept {lay} {w} {w′} p e = record { small = λ s h. rw (drop-at w w′ (r
 
 pub grown-then : {lay : Lay} {stamp x y z : ℕ} {a b c : List ℕ} → Grown lay stamp a b x y → Grown lay stamp b c y z → Grown lay stamp a c x z
 grown-then p q = record { by = omega (arith, p .by, q .by) }
-
-pub grown-counted : {lay : Lay} {stamp x y : ℕ} {a b : List ℕ} → Grown lay stamp a b x y → Counted lay stamp a x → Counted lay stamp b y
-grown-counted p k = record { fits = omega (arith, p .by, k .fits) }
 
 -- COMPOSING STEPS. The same step, said of what agrees with more, as an equal function
 pub step-as : {lay : Lay} {stamp : ℕ} {agree agree′ : Tables → Query → Type 0} {f : Tables → Query → Arrivals → Arrivals} {a b : Memory}

@@ -1,12 +1,12 @@
 -- What 32 bits mean, below 2 ^ 31 (no sign) and from there on (a sign), in numbers without sign.
-use Prim.Native.Nat.{ℕ, zero, suc, _+_, _-_, _<_, _≤_}
+use Prim.Native.Nat.{ℕ, suc, _+_, _-_, _<_, _≤_}
 use mathlib.Core.Path.{_≡_, refl, ap, _∙_}
 use mathlib.Core.Bool.{Bool, true, false, cond}
 use native.Mathlib.Omega.{arith}
 use lib.Dec.{ltb}
 use lib.IntN.{ℤ, pos, negsuc, natAbs, subℕ, _+ℤ_}
 use mir.Val.{sel}
-use borrow.Author.Tests.{lt-ltb, le-ltb, ltb-true, ltb-false}
+use borrow.Author.Tests.{lt-ltb, le-ltb, ltb-true}
 use Rattle.signed.specs.Signed.{ofBits, bitsOf, floored}
 
 pub of-low : (b : ℕ) → b < 2147483648 → ofBits b ≡ pos b

@@ -1,7 +1,7 @@
 -- What a yes to each question gives.
 use Rattle.loops.specs.Iter.{some}
 use Rattle.loops.specs.Count.{one}
-use Prim.Native.Nat.{ℕ, suc, max, _+_, _*_, _-_, _^_, _<_, _≤_}
+use Prim.Native.Nat.{ℕ, suc, max, _+_, _*_, _-_, _^_, _<_}
 use mathlib.Core.Path.{_≡_, _∙_, ap, ap₂, sym, refl}
 use mathlib.Core.Bool.{Bool, true, false, _&&_}
 use mathlib.Core.List.{List}
@@ -16,7 +16,7 @@ use Rattle.loops.proofs.Most.{max-most, or-most}
 use Rattle.tables.specs.declared.Counts.{Counts}
 use Rattle.tables.specs.declared.Check.{Check}
 use Rattle.tables.specs.declared.Check.the-variants.{TripRuns, StopTimeNumbers, EdgeNumbers, StopTimeRanges, TripRanges, WindowRanges, EdgeRanges, EdgeOrder}
-use Rattle.tables.specs.Tables.{countOf, firstOf, sizeOf, tripOf, edgeOf, timeOf, windowOf, stopTimeAt, tripAt, windowAt, edgeAt}
+use Rattle.tables.specs.Tables.{countOf, firstOf, sizeOf, tripOf, edgeOf, timeOf, windowOf}
 use Rattle.tables.specs.Door.{countsOk, slicesOk, tripRuns, stopTimeNumbers, edgeNumbers, stopTimeRanges, tripRanges, windowRanges, edgeRanges, edgeRises, rowsOf, rowOk, everyRow, runsOk, numbersOk, rangesOk, orderOk}
 use Rattle.tables.specs.Sane.{CountsOk, SlicesOk, RunsOk, NumbersOk, RangesOk, OrderOk, Sane}
 

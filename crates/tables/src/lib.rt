@@ -6,9 +6,9 @@
 // Assumes nothing.
 ghost use mathlib.Core.Path.{_≡_};
 ghost use mathlib.Core.Bool.{_&&_};
-ghost use Prim.Native.Nat.{_+_, _*_, _≤_, _<_, max};
+ghost use Prim.Native.Nat.{_+_, _*_, _<_, max};
 ghost use lib.ListN.{length, getD};
-ghost use Rattle.tables.specs.Tables.{timeOf, tripOf, edgeOf, windowOf, sizeOf, stopTimeAt, tripAt, windowAt, edgeAt};
+ghost use Rattle.tables.specs.Tables.{timeOf, tripOf, edgeOf, windowOf, stopTimeAt, tripAt, windowAt, edgeAt};
 ghost use Rattle.tables.specs.Door.{countsOk, slicesOk, tripRuns, stopTimeNumbers, edgeNumbers, stopTimeRanges, tripRanges, windowRanges, edgeRanges, edgeRises, rowsOf, rowOk, everyRow, runsOk, numbersOk, rangesOk, orderOk};
 ghost use Rattle.tables.specs.Sane.{CountsOk, SlicesOk};
 use door::both;

@@ -8,7 +8,6 @@ use lib.ListN.{length, getD}
 use lib.Dec.{ltb, eqb}
 use lib.Ieee.{Float}
 use Rattle.loops.specs.Count.{tab}
-use Rattle.label.specs.declared.Label.{Label}
 use Rattle.label.specs.declared.Label.the-variants.{Empty}
 use Rattle.label_table.specs.Table.{recordOf, loaded}
 use Rattle.model.specs.Tables.{never}

@@ -3,7 +3,7 @@
 // Proves: each function equal to the model's definition of the same name, for all states that agree.
 // Assumes nothing.
 ghost use mathlib.Core.Path.{_≡_};
-ghost use Prim.Native.Nat.{ℕ, suc, _+_, _*_, _/_, _≤_, _<_};
+ghost use Prim.Native.Nat.{suc, _+_, _*_, _/_, _≤_, _<_};
 ghost use lib.ListN.{length, getD};
 ghost use Rattle.model.specs.Tables.{Tables, Query, never};
 ghost use Rattle.model.specs.Search.{Arrivals, bestTarget, rowTarget, reachedBy, candidatesFrom};

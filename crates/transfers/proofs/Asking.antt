@@ -1,25 +1,23 @@
 -- What each question gives when it is answered yes.
 use Rattle.loops.specs.Count.{one}
-use Prim.Native.Nat.{ℕ, zero, suc, _*_, _<_, _≤_}
+use Prim.Native.Nat.{ℕ, zero, suc, _*_, _≤_}
 use mathlib.Core.Path.{_≡_, refl, sym, _∙_, ap, ap₂}
 use mathlib.Core.Bool.{Bool, true, false, _&&_}
 use mathlib.Core.List.{List}
-use native.Mathlib.Omega.{arith}
 use lib.ListN.{length, getD}
 use lib.Dec.{ltb, leb, eqb}
 use borrow.Author.Tests.{eqb-true, leb-true, ltb-true}
-use Rattle.loops.proofs.Iter.{and-left, and-right, everyIn-at}
+use Rattle.loops.proofs.Iter.{everyIn-at}
 use Rattle.door.specs.Door.{ask}
 use Rattle.door.proofs.Laws.{ask-later, ask-no, ask-on, ask-yes}
 use Rattle.tables.specs.declared.Counts.{Counts}
 use Rattle.tables.specs.Timetable.{timetable}
 use Rattle.tables.specs.Door.{countsOk, slicesOk, runsOk, numbersOk, rangesOk}
-use Rattle.tables.specs.Sane.{CountsOk, SlicesOk, RunsOk, Sane}
-use Rattle.tables.proofs.Yes.{Two, two, counts-yes, slices-yes, runs-yes, sane}
-use Rattle.departures.specs.Listed.{RowsListed, RunsListed, listedOk, stopRunsOk}
+use Rattle.tables.specs.Sane.{CountsOk, SlicesOk, RunsOk}
+use Rattle.tables.proofs.Yes.{two, counts-yes, slices-yes, runs-yes, sane}
+use Rattle.departures.specs.Listed.{RunsListed, listedOk, stopRunsOk}
 use Rattle.departures.proofs.Yes.{rows-listed, runs-listed}
-use Rattle.transfers.specs.declared.Built.{Built}
-use Rattle.transfers.specs.declared.Built.the-variants.{Refused, Rows}
+use Rattle.transfers.specs.declared.Built.the-variants.{Refused}
 use Rattle.line_transfers.specs.Transfers.{eventsBefore}
 use Rattle.transfers.specs.Call.{Admitted, Areas, Lent, LinesBelow, inputOf, linesOk, outcome, outcomeOf, question1, question2, question3, question4, question5, settle, settled, sizesOk, verdict}
 

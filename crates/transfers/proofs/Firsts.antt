@@ -9,8 +9,8 @@ use native.Mathlib.Omega.{arith}
 use Rattle.loops.proofs.Search.{clash}
 use lib.ListN.{length, take}
 use lib.Dec.{leb, eqb}
-use borrow.Author.Tests.{eq-eqb, eqb-true, leb-false, leb-true, ne-eqb}
-use Rattle.loops.specs.Count.{tab, tabFrom}
+use borrow.Author.Tests.{eq-eqb, leb-false, leb-true, ne-eqb}
+use Rattle.loops.specs.Count.{tabFrom}
 use Rattle.sorts.specs.Sort.{insertBy, sortBy}
 use Rattle.sorts.specs.Orders.{All, Rising, cons, keep, nil}
 use Rattle.sorts.proofs.Orders.{sort-rising, sort-stable}

@@ -20,7 +20,6 @@ use Rattle.tables.specs.Timetable.{Timetable, timetable, timeAt}
 use Rattle.departures.specs.declared.DepartureRow.{DepartureRow}
 use Rattle.departures.specs.Departures.{rowDeparture, runAt, runFirst}
 use Rattle.departures.proofs.All.{all-tab}
-use Rattle.transfers.specs.declared.Built.{Built}
 use Rattle.transfers.specs.declared.Built.the-variants.{Refused, Rows}
 use Rattle.line_transfers.specs.Transfers.{Input, Transfer, allTransfers, builtTransfers, departuresOfLine, eventsBefore, eventsOf, firstNotBefore, runsFrom, transferAt, transferTo, transfersAt, transfersOf, wordsOf}
 use Rattle.transfers.specs.Call.{Admitted, Areas, Lent, Outcome, areaWith, inputOf, outcome, outcomeOf, roomOk, settle, settled, verdict, written}

@@ -1,21 +1,21 @@
 -- The events' numbers are those of the transfers as they are defined.
 use Rattle.tables.proofs.Yes.{sane}
-use Prim.Native.Nat.{ℕ, zero, suc, _+_, _*_, _-_, _<_, _≤_}
-use mathlib.Core.Path.{_≡_, refl, sym, _∙_, ap, ap₂}
+use Prim.Native.Nat.{ℕ, _+_, _-_, _<_, _≤_}
+use mathlib.Core.Path.{_≡_, refl, sym, _∙_, ap}
 use mathlib.Core.Bool.{Bool, true, false, not, cond}
-use mathlib.Core.List.{List, [], _∷_, _++_, flatten, map}
+use mathlib.Core.List.{List, [], flatten, map}
 use native.Mathlib.Omega.{arith}
-use lib.ListN.{length, getD, take}
+use lib.ListN.{take}
 use lib.Dec.{leb, eqb}
-use borrow.Author.Tests.{eq-eqb, eqb-true, le-leb, leb-false, leb-true, lt-leb, ne-eqb}
-use Rattle.loops.specs.Count.{tab, tabFrom}
+use borrow.Author.Tests.{eqb-true, le-leb, leb-false, leb-true, lt-leb, ne-eqb}
+use Rattle.loops.specs.Count.{tab}
 use Rattle.loops.proofs.Count.{map-tabFrom, tab-ext}
 use Rattle.sorts.specs.Sort.{hi, sortBy}
-use Rattle.sorts.specs.Orders.{All, cons, keep, nil}
+use Rattle.sorts.specs.Orders.{All, keep, nil}
 use Rattle.sorts.proofs.Orders.{sort-all, sort-cong, sort-map}
 use Rattle.sorts.proofs.Places.{sort-keep}
 use Rattle.tables.specs.Timetable.{Timetable, timeAt}
-use Rattle.tables.specs.Tables.{arrivalOf, countOf, firstOf, stopOf, timeOf}
+use Rattle.tables.specs.Tables.{arrivalOf, countOf, firstOf, stopOf}
 use Rattle.departures.specs.declared.DepartureRow.{DepartureRow}
 use Rattle.departures.specs.Departures.{listedAt, rowDeparture, sorted}
 use Rattle.departures.specs.Packed.{unTrip}

@@ -1,10 +1,10 @@
 -- Each stop's run of the numbers, packed and sorted, is the sort of the packed rows listed there.
 use Rattle.tables.proofs.Yes.{sane}
-use Prim.Native.Nat.{ℕ, zero, suc, _+_, _*_, _-_, _<_, _≤_}
-use mathlib.Core.Path.{_≡_, refl, sym, _∙_, ap, ap₂}
+use Prim.Native.Nat.{ℕ, _-_, _<_}
+use mathlib.Core.Path.{_≡_, sym, _∙_, ap}
 use mathlib.Core.List.{List, map}
 use native.Mathlib.Omega.{arith}
-use lib.ListN.{length, getD}
+use lib.ListN.{length}
 use lib.Seq.{slice}
 use Rattle.loops.specs.Count.{tab}
 use Rattle.loops.proofs.Count.{length-tabFrom, map-tabFrom}
@@ -17,7 +17,7 @@ use Rattle.departures.specs.Departures.{departuresOf, listedAt, rowAt, rowsOf, 
 use Rattle.departures.proofs.Apart.{Apart, sorted-length, sorted-run}
 use Rattle.departures.proofs.Flat.{listed-slice}
 use Rattle.departures.proofs.Laws.{stops-apart}
-use Rattle.departures.proofs.Parts.{part-row, stop-known}
+use Rattle.departures.proofs.Parts.{stop-known}
 use Rattle.departures.proofs.All.{all-tab}
 use Rattle.line_transfers.specs.Packed.{Keys, Lines, SortedRuns, lineX, packLine, packedAt}
 use Rattle.transfers.specs.Call.{Admitted, Lent, inputOf}

@@ -1,29 +1,27 @@
 -- What the walk over the numbers counts and writes is what is defined.
-use Prim.Native.Nat.{ℕ, zero, suc, _+_, _*_, _-_, _<_, _≤_, min}
+use Prim.Native.Nat.{ℕ, zero, suc, _+_, _*_, _-_, _≤_, min}
 use mathlib.Core.Path.{_≡_, refl, sym, _∙_, ap, ap₂}
 use mathlib.Core.Bool.{Bool, true, false, _&&_, cond}
 use mathlib.Core.List.{List, [], _∷_, _++_, flatten, map}
 use native.Mathlib.Omega.{arith}
-use native.Mathlib.Numerals.{add-one}
 use lib.ListN.{length, drop, length-append}
 use lib.Dec.{leb}
 use borrow.Author.Tests.{le-leb, leb-false, leb-true, lt-leb}
 use Rattle.loops.specs.Count.{tab, tabFrom}
 use Rattle.loops.proofs.Count.{length-tabFrom}
 use Rattle.loops.proofs.Iter.{and-left, and-right}
-use Rattle.sorts.specs.Sort.{hi, within}
+use Rattle.sorts.specs.Sort.{hi}
 use Rattle.sorts.specs.Orders.{All, cons, nil}
-use Rattle.sorts.proofs.Orders.{sort-all}
 use Rattle.sorts.proofs.Within.{within-whole}
 use Rattle.tables.specs.Timetable.{Timetable}
 use Rattle.departures.specs.declared.DepartureRow.{DepartureRow}
 use Rattle.departures.specs.Departures.{sortStops}
 use Rattle.transfers.specs.declared.Built.the-variants.{Refused, Rows}
 use Rattle.line_transfers.specs.Transfers.{Input, allTransfers, builtTransfers, eventsBefore, eventsOf, runsFrom, transferOf, wordsOf}
-use Rattle.line_transfers.specs.Packed.{AreaSoFar, Lines, Most, Prepared, SortedRuns, Walk, allKeys, laid, lay, layEvents, prepared, walk}
+use Rattle.line_transfers.specs.Packed.{AreaSoFar, Lines, Most, Prepared, SortedRuns, Walk, allKeys, layEvents, prepared, walk}
 use Rattle.transfers.specs.Settled.{settledKeys, walkAreas}
 use Rattle.transfers.specs.Call.{Admitted, Areas, Lent, Outcome, areaWith, areas, inputOf, outcomeOf, roomOk, settled, written}
-use Rattle.line_transfers.proofs.Lists.{all-flatten, flatten-map, length-map, within-is}
+use Rattle.line_transfers.proofs.Lists.{flatten-map, length-map, within-is}
 use Rattle.event_transfers.proofs.Events.{total-is}
 use Rattle.line_transfers.proofs.Laying.{events-laid, events-runs, keyWords, lay-area}
 use Rattle.transfers.proofs.Packing.{pack-offset, pack-trip}

@@ -16,7 +16,6 @@ use Rattle.tables.specs.Timetable.{timetable}
 use Rattle.model.specs.Tables.{Tables, Query, rustSettings, isEgress, egressWalk}
 use Rattle.model.specs.Search.{Arrivals, improve, relax}
 use Rattle.scratch.specs.declared.Lay.{Lay}
-use Rattle.scratch.specs.Part.{part}
 use Rattle.scratch.specs.Places.{EgressTable, egressWord, tableWord, earliestOf, Falls}
 use Rattle.scratch.specs.View.{Memory, arrivalsOf}
 use Rattle.scratch.specs.Step.{Step}

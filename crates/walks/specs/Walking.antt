@@ -1,5 +1,5 @@
 -- What the walks of a round read, and which tables and queries agree with it. Definitions only.
-use Prim.Native.Nat.{ℕ, zero, suc, _*_, _-_, _≤_, _<_}
+use Prim.Native.Nat.{ℕ, zero, suc, _*_, _≤_, _<_}
 use mathlib.Core.Path.{_≡_}
 use mathlib.Core.Bool.{true, false}
 use mathlib.Core.List.{List, [], _∷_}
@@ -12,7 +12,7 @@ use Rattle.model.specs.Tables.{Tables, Query}
 use Rattle.model.specs.Search.{targetCells}
 use Rattle.flags.specs.Flags.{Patterned}
 use Rattle.scratch.specs.declared.Lay.{Lay}
-use Rattle.scratch.specs.Places.{EgressTable, Falls}
+use Rattle.scratch.specs.Places.{EgressTable}
 use Rattle.walks.specs.declared.Rules.{Rules}
 
 -- of the n numbers from e on, those before the first whose key is not x

@@ -6,7 +6,7 @@
 ghost use mathlib.Core.Path.{_≡_};
 ghost use mathlib.Core.List.{[], _∷_};
 ghost use Prim.Native.Nat.{_+_, _*_, _-_, _≤_, _<_};
-ghost use lib.ListN.{length, getD};
+ghost use lib.ListN.{length};
 ghost use lib.Dec.{leb};
 ghost use Rattle.loops.specs.Order.{Halved};
 ghost use Rattle.tables.specs.Tables.{edgeOf};
@@ -15,7 +15,7 @@ ghost use mathlib.Core.Bool.{not, _&&_};
 ghost use Rattle.model.specs.Tables.{Tables, Query, edgesFrom};
 ghost use Rattle.model.specs.Search.{targetCells, holdsTarget, walkFrom, walkAll};
 ghost use Rattle.scratch.specs.Part.{part};
-ghost use Rattle.scratch.specs.Places.{Sized, otherAt, turned, Falls};
+ghost use Rattle.scratch.specs.Places.{Sized, turned, Falls};
 ghost use Rattle.scratch.specs.View.{memory};
 ghost use Rattle.scratch.specs.Step.{Ready, Step};
 ghost use Rattle.walks.specs.Walking.{WalkGround, WalksAgree};

@@ -14,12 +14,6 @@ use mathlib.Core.Path.{_∙_, _≡_, ap, refl, sym}
 use native.Mathlib.Omega.{arith}
 use Rattle.alighting.proofs.alightings.Statement.{statement}
 use Rattle.alighting.proofs.alightings.Tie as tie
-use Rattle.alighting.proofs.alightings.Reads as reads
-use Rattle.alighting.proofs.alightings.Lts as lts
-use Rattle.boarding.proofs.arrival_now.Reads as arrival-now-reads
-use Rattle.scratch.proofs.alight.Reads as alight-reads
-use Rattle.tables.proofs.trip.Reads as trip-reads
-use Rattle.alighting.proofs.shut.Reads as shut-reads
 
 abbrev Inv-loop : tie.InvT-loop
 Inv-loop t rows stop-rows s p work₀ labels₀ distances₀ trip adj n x₀ o₀ work labels distances x o =

@@ -7,10 +7,6 @@ use mathlib.Core.Path.{_∙_, ap}
 use native.Mathlib.Omega.{arith}
 use Rattle.alighting.proofs.no_drop_off.Statement.{statement}
 use Rattle.alighting.proofs.no_drop_off.Tie as tie
-use Rattle.alighting.proofs.no_drop_off.Reads as reads
-use Rattle.alighting.proofs.no_drop_off.Lts as lts
-use Rattle.tables.proofs.time.Reads as time-reads
-use Rattle.tables.proofs.trip.Reads as trip-reads
 
 trip-requires : tie.Need-trip-requires
 trip-requires c κs = search needs

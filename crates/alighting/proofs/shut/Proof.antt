@@ -8,11 +8,6 @@ use Rattle.alighting.proofs.Alighting.{shut-by}
 use borrow.Author.Needs.{needs}
 use Rattle.alighting.proofs.shut.Statement.{statement}
 use Rattle.alighting.proofs.shut.Tie as tie
-use Rattle.alighting.proofs.shut.Reads as reads
-use Rattle.alighting.proofs.shut.Lts as lts
-use Rattle.boarding.proofs.skipped.Reads as skipped-reads
-use Rattle.door.proofs.either.Reads as either-reads
-use Rattle.alighting.proofs.no_drop_off.Reads as no-drop-off-reads
 
 no-drop-off-requires : tie.Need-no-drop-off-requires
 no-drop-off-requires c κs = search needs

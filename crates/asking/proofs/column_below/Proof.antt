@@ -9,9 +9,6 @@ use mathlib.Core.Path.{_≡_, refl}
 use Prim.Native.Nat.{_-_}
 use Rattle.asking.proofs.column_below.Statement.{statement}
 use Rattle.asking.proofs.column_below.Tie as tie
-use Rattle.asking.proofs.column_below.Reads as reads
-use Rattle.asking.proofs.column_below.Lts as lts
-use Rattle.tables.proofs.field.Reads as field-reads
 
 abbrev Inv-loop : tie.InvT-loop
 Inv-loop s first stride count bound i₀ i = columnBelow s first stride count bound ≡ everyIn (λ j. ltb (columnAt s first stride j) bound) i count

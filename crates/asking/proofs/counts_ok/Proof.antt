@@ -4,10 +4,6 @@ use Rattle.asking.specs.Door.{question1}
 use borrow.Author.Needs.{needs}
 use Rattle.asking.proofs.counts_ok.Statement.{statement}
 use Rattle.asking.proofs.counts_ok.Tie as tie
-use Rattle.asking.proofs.counts_ok.Reads as reads
-use Rattle.asking.proofs.counts_ok.Lts as lts
-use Rattle.door.proofs.both.Reads as both-reads
-use Rattle.tables.proofs.counts_ok.Reads as counts-ok-reads
 
 counts-ok-requires : tie.Need-counts-ok-requires
 counts-ok-requires c κs = search needs

@@ -7,8 +7,6 @@ use Rattle.sorts.proofs.Within.{part-slice}
 use borrow.Author.Needs.{needs}
 use Rattle.asking.proofs.part.Statement.{statement}
 use Rattle.asking.proofs.part.Tie as tie
-use Rattle.asking.proofs.part.Reads as reads
-use Rattle.asking.proofs.part.Lts as lts
 
 add-result : tie.Need-add-result
 add-result c = search needs

@@ -7,12 +7,6 @@ use mathlib.Core.Bool.{Bool, _&&_}
 use borrow.Author.Needs.{needs}
 use Rattle.asking.proofs.read_ok.Statement.{statement}
 use Rattle.asking.proofs.read_ok.Tie as tie
-use Rattle.asking.proofs.read_ok.Reads as reads
-use Rattle.asking.proofs.read_ok.Lts as lts
-use Rattle.asking.proofs.query_size.Reads as query-size-reads
-use Rattle.asking.proofs.transfer_runs_at.Reads as transfer-runs-at-reads
-use Rattle.door.proofs.both.Reads as both-reads
-use Rattle.transfers.proofs.event_count.Reads as event-count-reads
 
 event-count-requires : tie.Need-event-count-requires
 event-count-requires c κs = search needs

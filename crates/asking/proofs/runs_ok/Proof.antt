@@ -14,16 +14,6 @@ use mathlib.Core.List.{List}
 use denote.Ref.{now}
 use Rattle.asking.proofs.runs_ok.Statement.{statement}
 use Rattle.asking.proofs.runs_ok.Tie as tie
-use Rattle.asking.proofs.runs_ok.Reads as reads
-use Rattle.asking.proofs.runs_ok.Lts as lts
-use Rattle.asking.proofs.line_runs.Reads as line-runs-reads
-use Rattle.asking.proofs.stop_runs.Reads as stop-runs-reads
-use Rattle.asking.proofs.transfer_runs_ok.Reads as transfer-runs-ok-reads
-use Rattle.departures.proofs.stop_runs_ok.Reads as stop-runs-ok-reads
-use Rattle.door.proofs.both.Reads as both-reads
-use Rattle.line_layout.proofs.line_runs_ok.Reads as line-runs-ok-reads
-use Rattle.tables.proofs.runs_ok.Reads as runs-ok-reads
-use Rattle.transfers.proofs.event_count.Reads as event-count-reads
 
 line-runs-requires : tie.Need-line-runs-requires
 line-runs-requires c κs = (c .before .before .pre .0, omega (arith, c .before .before .pre .1 .1 .0))

@@ -7,12 +7,6 @@ use Rattle.tables.proofs.Yes.{slices-yes}
 use borrow.Author.Needs.{needs}
 use Rattle.asking.proofs.sizes_ok.Statement.{statement}
 use Rattle.asking.proofs.sizes_ok.Tie as tie
-use Rattle.asking.proofs.sizes_ok.Reads as reads
-use Rattle.asking.proofs.sizes_ok.Lts as lts
-use Rattle.asking.proofs.read_ok.Reads as read-ok-reads
-use Rattle.asking.proofs.written_ok.Reads as written-ok-reads
-use Rattle.door.proofs.both.Reads as both-reads
-use Rattle.tables.proofs.slices_ok.Reads as slices-ok-reads
 
 slices-ok-requires : tie.Need-slices-ok-requires
 slices-ok-requires c κs = search needs

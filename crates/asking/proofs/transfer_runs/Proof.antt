@@ -8,9 +8,6 @@ use Rattle.sorts.proofs.Within.{part-slice}
 use borrow.Author.Needs.{needs}
 use Rattle.asking.proofs.transfer_runs.Statement.{statement}
 use Rattle.asking.proofs.transfer_runs.Tie as tie
-use Rattle.asking.proofs.transfer_runs.Reads as reads
-use Rattle.asking.proofs.transfer_runs.Lts as lts
-use Rattle.asking.proofs.transfer_runs_at.Reads as transfer-runs-at-reads
 
 transfer-runs-at-requires : tie.Need-transfer-runs-at-requires
 transfer-runs-at-requires c κs = search needs

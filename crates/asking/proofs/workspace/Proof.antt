@@ -6,12 +6,6 @@ use Rattle.asking.proofs.Yes.{limits-yes}
 use borrow.Author.Needs.{needs}
 use Rattle.asking.proofs.workspace.Statement.{statement}
 use Rattle.asking.proofs.workspace.Tie as tie
-use Rattle.asking.proofs.workspace.Reads as reads
-use Rattle.asking.proofs.workspace.Lts as lts
-use Rattle.asking.proofs.counts_ok.Reads as counts-ok-reads
-use Rattle.asking.proofs.work_size.Reads as work-size-reads
-use Rattle.door.proofs.given.Reads as given-reads
-use Rattle.door.proofs.refused.Reads as refused-reads
 
 counts-ok-requires : tie.Need-counts-ok-requires
 counts-ok-requires c κs = search needs

@@ -5,10 +5,6 @@ use mathlib.Core.Bool.{_&&_}
 use borrow.Author.Needs.{needs}
 use Rattle.asking.proofs.written_ok.Statement.{statement}
 use Rattle.asking.proofs.written_ok.Tie as tie
-use Rattle.asking.proofs.written_ok.Reads as reads
-use Rattle.asking.proofs.written_ok.Lts as lts
-use Rattle.asking.proofs.work_size.Reads as work-size-reads
-use Rattle.door.proofs.both.Reads as both-reads
 
 mul-both : tie.Need-mul-both
 mul-both c = search needs

@@ -7,12 +7,6 @@ use Rattle.boarding.proofs.Laws.{barred-is}
 use borrow.Author.Needs.{needs}
 use Rattle.boarding.proofs.barred.Statement.{statement}
 use Rattle.boarding.proofs.barred.Tie as tie
-use Rattle.boarding.proofs.barred.Reads as reads
-use Rattle.boarding.proofs.barred.Lts as lts
-use Rattle.boarding.proofs.event_word.Reads as event-word-reads
-use Rattle.boarding.proofs.skipped.Reads as skipped-reads
-use Rattle.boarding.proofs.usable.Reads as usable-reads
-use Rattle.door.proofs.either.Reads as either-reads
 
 usable-requires : tie.Need-usable-requires
 usable-requires c κs = search needs

@@ -10,13 +10,6 @@ use Prim.Native.Nat.{_+_}
 use borrow.Author.Needs.{needs}
 use Rattle.boarding.proofs.board_at.Statement.{statement}
 use Rattle.boarding.proofs.board_at.Tie as tie
-use Rattle.boarding.proofs.board_at.Reads as reads
-use Rattle.boarding.proofs.board_at.Lts as lts
-use Rattle.boarding.proofs.departure_now.Reads as departure-now-reads
-use Rattle.boarding.proofs.event_word.Reads as event-word-reads
-use Rattle.boarding.proofs.freq_board_at.Reads as freq-board-at-reads
-use Rattle.signed.proofs.difference.Reads as difference-reads
-use Rattle.tables.proofs.trip.Reads as trip-reads
 
 departure-now-requires : tie.Need-departure-now-requires
 departure-now-requires c κs = search needs

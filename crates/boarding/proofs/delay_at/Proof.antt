@@ -6,11 +6,6 @@ use Rattle.boarding.proofs.Laws.{delay-at-is}
 use borrow.Author.Needs.{needs}
 use Rattle.boarding.proofs.delay_at.Statement.{statement}
 use Rattle.boarding.proofs.delay_at.Tie as tie
-use Rattle.boarding.proofs.delay_at.Reads as reads
-use Rattle.boarding.proofs.delay_at.Lts as lts
-use Rattle.boarding.proofs.event_word.Reads as event-word-reads
-use Rattle.delays.proofs.stop_delay.Reads as stop-delay-reads
-use Rattle.realtime.proofs.no_delay.Reads as no-delay-reads
 
 event-word-requires : tie.Need-event-word-requires
 event-word-requires c κs = search needs

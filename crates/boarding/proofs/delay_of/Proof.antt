@@ -1,12 +1,8 @@
 use denote.Ref.{now}
-use Rattle.model.specs.Tables.{stops}
 use Rattle.boarding.proofs.Laws.{delay-of-is, known-of}
 use borrow.Author.Needs.{needs}
 use Rattle.boarding.proofs.delay_of.Statement.{statement}
 use Rattle.boarding.proofs.delay_of.Tie as tie
-use Rattle.boarding.proofs.delay_of.Reads as reads
-use Rattle.boarding.proofs.delay_of.Lts as lts
-use Rattle.delays.proofs.delay_row.Reads as delay-row-reads
 
 delay-row-requires : tie.Need-delay-row-requires
 delay-row-requires c κs = search needs

@@ -10,11 +10,6 @@ use Prim.Native.Nat.{_+_}
 use borrow.Author.Needs.{needs}
 use Rattle.boarding.proofs.departure_now.Statement.{statement}
 use Rattle.boarding.proofs.departure_now.Tie as tie
-use Rattle.boarding.proofs.departure_now.Reads as reads
-use Rattle.boarding.proofs.departure_now.Lts as lts
-use Rattle.boarding.proofs.delay_at.Reads as delay-at-reads
-use Rattle.boarding.proofs.event_word.Reads as event-word-reads
-use Rattle.realtime.proofs.rt_effective_dep_s.Reads as rt-effective-dep-s-reads
 
 delay-at-requires : tie.Need-delay-at-requires
 delay-at-requires c κs = search needs

@@ -7,10 +7,6 @@ use Prim.Native.Nat.{_+_, ℕ}
 use borrow.Author.Needs.{needs}
 use Rattle.boarding.proofs.event_word.Statement.{statement}
 use Rattle.boarding.proofs.event_word.Tie as tie
-use Rattle.boarding.proofs.event_word.Reads as reads
-use Rattle.boarding.proofs.event_word.Lts as lts
-use Rattle.tables.proofs.time.Reads as time-reads
-use Rattle.tables.proofs.trip.Reads as trip-reads
 
 trip-requires : tie.Need-trip-requires
 trip-requires c κs = search needs

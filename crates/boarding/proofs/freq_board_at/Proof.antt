@@ -8,11 +8,6 @@ use Prim.Native.Nat.{ℕ, _+_, _*_}
 use borrow.Author.Needs.{needs}
 use Rattle.boarding.proofs.freq_board_at.Statement.{statement}
 use Rattle.boarding.proofs.freq_board_at.Tie as tie
-use Rattle.boarding.proofs.freq_board_at.Reads as reads
-use Rattle.boarding.proofs.freq_board_at.Lts as lts
-use Rattle.boarding.proofs.event_word.Reads as event-word-reads
-use Rattle.frequency.proofs.earliest_freq_board.Reads as earliest-freq-board-reads
-use Rattle.tables.proofs.trip.Reads as trip-reads
 
 event-word-requires : tie.Need-event-word-requires
 event-word-requires c κs = let s = c .before in (s .pre .0, (record { trip = s .pre .1 .0; offset = s .pre .0 .runs .some (s .args .trip) (s .pre .1 .0) }, omega arith))

@@ -2,9 +2,6 @@ use Rattle.model.specs.Tables.{modeWanted}
 use borrow.Author.Needs.{needs}
 use Rattle.boarding.proofs.mode_wanted.Statement.{statement}
 use Rattle.boarding.proofs.mode_wanted.Tie as tie
-use Rattle.boarding.proofs.mode_wanted.Reads as reads
-use Rattle.boarding.proofs.mode_wanted.Lts as lts
-use Rattle.door.proofs.either.Reads as either-reads
 
 shr-either : tie.Need-shr-either
 shr-either c = search needs

@@ -4,12 +4,6 @@ use native.Mathlib.Omega.{arith}
 use borrow.Author.Needs.{needs}
 use Rattle.boarding.proofs.permitted.Statement.{statement}
 use Rattle.boarding.proofs.permitted.Tie as tie
-use Rattle.boarding.proofs.permitted.Reads as reads
-use Rattle.boarding.proofs.permitted.Lts as lts
-use Rattle.boarding.proofs.mode_wanted.Reads as mode-wanted-reads
-use Rattle.boarding.proofs.usable.Reads as usable-reads
-use Rattle.door.proofs.both.Reads as both-reads
-use Rattle.tables.proofs.trip.Reads as trip-reads
 
 trip-requires : tie.Need-trip-requires
 trip-requires c κs = search needs

@@ -4,10 +4,6 @@ use mathlib.Core.Path.{_∙_, ap}
 use borrow.Author.Needs.{needs}
 use Rattle.boarding.proofs.skipped.Statement.{statement}
 use Rattle.boarding.proofs.skipped.Tie as tie
-use Rattle.boarding.proofs.skipped.Reads as reads
-use Rattle.boarding.proofs.skipped.Lts as lts
-use Rattle.boarding.proofs.delay_at.Reads as delay-at-reads
-use Rattle.realtime.proofs.is_skipped.Reads as is-skipped-reads
 
 delay-at-requires : tie.Need-delay-at-requires
 delay-at-requires c κs = search needs

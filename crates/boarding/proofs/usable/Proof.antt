@@ -2,10 +2,6 @@ use Rattle.boarding.proofs.Laws.{usable-is}
 use borrow.Author.Needs.{needs}
 use Rattle.boarding.proofs.usable.Statement.{statement}
 use Rattle.boarding.proofs.usable.Tie as tie
-use Rattle.boarding.proofs.usable.Reads as reads
-use Rattle.boarding.proofs.usable.Lts as lts
-use Rattle.door.proofs.both.Reads as both-reads
-use Rattle.tables.proofs.trip.Reads as trip-reads
 
 trip-requires : tie.Need-trip-requires
 trip-requires c κs = search needs

@@ -5,9 +5,6 @@ use Rattle.pruning.proofs.Reading.{linked-as}
 use borrow.Author.Needs.{needs}
 use Rattle.boardings.proofs.link.Statement.{statement}
 use Rattle.boardings.proofs.link.Tie as tie
-use Rattle.boardings.proofs.link.Reads as reads
-use Rattle.boardings.proofs.link.Lts as lts
-use Rattle.pruning.proofs.first_of.Reads as first-of-reads
 
 mul-at : tie.Need-mul-at
 mul-at c = search needs

@@ -4,10 +4,6 @@ use Rattle.pruning.proofs.Reading.{listed-no, listed-seen, listed-new}
 use borrow.Author.Needs.{needs}
 use Rattle.boardings.proofs.list.Statement.{statement}
 use Rattle.boardings.proofs.list.Tie as tie
-use Rattle.boardings.proofs.list.Reads as reads
-use Rattle.boardings.proofs.list.Lts as lts
-use Rattle.boardings.proofs.link.Reads as link-reads
-use Rattle.boardings.proofs.lower.Reads as lower-reads
 
 returns : tie.Need-returns
 returns c = let s = c .before .before in listed-no (s .args .lay) (s .args .stamp) (s .args .line) (s .args .trip) (s .args .off) (now (s .args .work)) (s .args .prunes) (not-true _ (c .if1 .taken))

@@ -3,8 +3,6 @@ use Rattle.pruning.proofs.Reading.{lowered-no, lowered-yes}
 use borrow.Author.Needs.{needs}
 use Rattle.boardings.proofs.lower.Statement.{statement}
 use Rattle.boardings.proofs.lower.Tie as tie
-use Rattle.boardings.proofs.lower.Reads as reads
-use Rattle.boardings.proofs.lower.Lts as lts
 
 mul-least : tie.Need-mul-least
 mul-least c = search needs

@@ -5,12 +5,6 @@ use Rattle.pruning.proofs.Noting.{noted-as, sized-as}
 use borrow.Author.Needs.{needs}
 use Rattle.boardings.proofs.note.Statement.{statement}
 use Rattle.boardings.proofs.note.Tie as tie
-use Rattle.boardings.proofs.note.Reads as reads
-use Rattle.boardings.proofs.note.Lts as lts
-use Rattle.boardings.proofs.list.Reads as list-reads
-use Rattle.pruning.proofs.prunable.Reads as prunable-reads
-use Rattle.boardings.proofs.stamp_trip.Reads as stamp-trip-reads
-use Rattle.tables.proofs.field.Reads as field-reads
 
 prunable-requires : tie.Need-prunable-requires
 prunable-requires c κs = search needs

@@ -5,8 +5,6 @@ use Rattle.pruning.proofs.Reading.{stamped-as}
 use borrow.Author.Needs.{needs}
 use Rattle.boardings.proofs.stamp_trip.Statement.{statement}
 use Rattle.boardings.proofs.stamp_trip.Tie as tie
-use Rattle.boardings.proofs.stamp_trip.Reads as reads
-use Rattle.boardings.proofs.stamp_trip.Lts as lts
 
 mul-at : tie.Need-mul-at
 mul-at c = search needs

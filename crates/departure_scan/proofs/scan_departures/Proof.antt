@@ -17,10 +17,6 @@ use Rattle.riding.proofs.Riding.{Riding, ride-end, ride-over, ride-start, ride-
 use Rattle.riding.specs.Laid.{Rides}
 use Rattle.departure_scan.proofs.scan_departures.Statement.{statement}
 use Rattle.departure_scan.proofs.scan_departures.Tie as tie
-use Rattle.departure_scan.proofs.scan_departures.Reads as reads
-use Rattle.departure_scan.proofs.scan_departures.Lts as lts
-use Rattle.departure_scan.proofs.take_departure.Reads as take-departure-reads
-use Rattle.departure_scan.proofs.too_late.Reads as too-late-reads
 
 abbrev Inv-loop : tie.InvT-loop
 Inv-loop t rows stop-rows built bytes area p has-freq x after list work₀ labels₀ distances₀ queue₀ m g₀ i₀ work labels distances queue g i =

@@ -6,12 +6,6 @@ use Prim.Native.Nat.{_-_}
 use borrow.Author.Needs.{needs}
 use Rattle.departure_scan.proofs.take_departure.Statement.{statement}
 use Rattle.departure_scan.proofs.take_departure.Tie as tie
-use Rattle.departure_scan.proofs.take_departure.Reads as reads
-use Rattle.departure_scan.proofs.take_departure.Lts as lts
-use Rattle.boarding.proofs.delay_of.Reads as delay-of-reads
-use Rattle.boardings.proofs.note.Reads as note-reads
-use Rattle.listed.proofs.board_listed.Reads as board-listed-reads
-use Rattle.trip_scan.proofs.scan_trip_forward.Reads as scan-trip-forward-reads
 
 cast-trip : tie.Need-cast-trip
 cast-trip c = let a = c .before .before .before .before .before .before .before .before .before .before .before in let g = a .pre .0 .laid .netted .ground .sane in omega (arith, a .pre .1 .0 .trip, g .counts .trips)

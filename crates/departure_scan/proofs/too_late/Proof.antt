@@ -4,11 +4,6 @@ use native.Mathlib.Omega.{arith}
 use borrow.Author.Needs.{needs}
 use Rattle.departure_scan.proofs.too_late.Statement.{statement}
 use Rattle.departure_scan.proofs.too_late.Tie as tie
-use Rattle.departure_scan.proofs.too_late.Reads as reads
-use Rattle.departure_scan.proofs.too_late.Lts as lts
-use Rattle.door.proofs.both.Reads as both-reads
-use Rattle.tables.proofs.time.Reads as time-reads
-use Rattle.tables.proofs.trip.Reads as trip-reads
 
 trip-requires : tie.Need-trip-requires
 trip-requires c κs = search needs

@@ -6,11 +6,6 @@ use mathlib.Core.Path.{_∙_, sym}
 use borrow.Author.Needs.{needs}
 use Rattle.event_transfers.proofs.alight.Statement.{statement}
 use Rattle.event_transfers.proofs.alight.Tie as tie
-use Rattle.event_transfers.proofs.alight.Reads as reads
-use Rattle.event_transfers.proofs.alight.Lts as lts
-use Rattle.departures.proofs.stop_run.Reads as stop-run-reads
-use Rattle.tables.proofs.time.Reads as time-reads
-use Rattle.line_transfers.proofs.to_lines.Reads as to-lines-reads
 
 returns : tie.Need-returns
 returns c = alight-full _ _ _ _ _ (c .if1 .taken)

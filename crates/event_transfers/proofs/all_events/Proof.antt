@@ -10,10 +10,6 @@ use mathlib.Core.Path.{_≡_, refl}
 use Prim.Native.Nat.{_*_, _-_, _≤_}
 use Rattle.event_transfers.proofs.all_events.Statement.{statement}
 use Rattle.event_transfers.proofs.all_events.Tie as tie
-use Rattle.event_transfers.proofs.all_events.Reads as reads
-use Rattle.event_transfers.proofs.all_events.Lts as lts
-use Rattle.tables.proofs.trip.Reads as trip-reads
-use Rattle.event_transfers.proofs.trip_events.Reads as trip-events-reads
 
 abbrev Inv-loop : tie.InvT-loop
 Inv-loop t c runs d work ends area₀ evs₀ time trips n₀ e₀ ti₀ area evs n e ti = (trips ≡ c .trips) × (e ≤ ti * 65536) × (n ≤ 65537) × (length area ≡ length area₀) × (length evs ≡ length evs₀) × (layEvents time 0 (allKeys (prepared t c runs work time)) (walk 0 area₀ evs₀) ≡ layEvents time e (flatten (tabFrom (tripKeys (prepared t c runs work time)) ti (trips - ti))) (walk n area evs))

@@ -4,9 +4,6 @@ use Prim.Native.Nat.{ℕ}
 use borrow.Author.Needs.{needs}
 use Rattle.event_transfers.proofs.barred.Statement.{statement}
 use Rattle.event_transfers.proofs.barred.Tie as tie
-use Rattle.event_transfers.proofs.barred.Reads as reads
-use Rattle.event_transfers.proofs.barred.Lts as lts
-use Rattle.tables.proofs.time.Reads as time-reads
 
 time-requires : tie.Need-time-requires
 time-requires c κs = search needs

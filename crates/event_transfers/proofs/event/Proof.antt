@@ -7,11 +7,6 @@ use Prim.Native.Nat.{_+_, ℕ}
 use borrow.Author.Needs.{needs}
 use Rattle.event_transfers.proofs.event.Statement.{statement}
 use Rattle.event_transfers.proofs.event.Tie as tie
-use Rattle.event_transfers.proofs.event.Reads as reads
-use Rattle.event_transfers.proofs.event.Lts as lts
-use Rattle.tables.proofs.trip.Reads as trip-reads
-use Rattle.event_transfers.proofs.alight.Reads as alight-reads
-use Rattle.event_transfers.proofs.put_run.Reads as put-run-reads
 
 trip-requires : tie.Need-trip-requires
 trip-requires c κs = search needs

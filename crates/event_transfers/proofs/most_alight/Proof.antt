@@ -6,11 +6,6 @@ use native.Mathlib.Omega.{arith}
 use borrow.Author.Needs.{needs}
 use Rattle.event_transfers.proofs.most_alight.Statement.{statement}
 use Rattle.event_transfers.proofs.most_alight.Tie as tie
-use Rattle.event_transfers.proofs.most_alight.Reads as reads
-use Rattle.event_transfers.proofs.most_alight.Lts as lts
-use Rattle.departures.proofs.stop_run.Reads as stop-run-reads
-use Rattle.tables.proofs.time.Reads as time-reads
-use Rattle.line_transfers.proofs.lines_after.Reads as lines-after-reads
 
 returns : tie.Need-returns
 returns c = search needs

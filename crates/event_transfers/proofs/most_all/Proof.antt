@@ -1,7 +1,6 @@
 use Rattle.event_transfers.proofs.Events.{most-again, most-all-start, most-left}
 use Rattle.line_transfers.specs.Packed.{Most, allKeys, prepared, tripKeys}
 use Rattle.loops.specs.Count.{tabFrom}
-use borrow.Author.Needs.{needs}
 use denote.Ref.{now}
 use lib.ListN.{length}
 use mathlib.Core.List.{flatten}
@@ -10,9 +9,6 @@ use mathlib.Core.Path.{_≡_, refl}
 use Prim.Native.Nat.{_-_}
 use Rattle.event_transfers.proofs.most_all.Statement.{statement}
 use Rattle.event_transfers.proofs.most_all.Tie as tie
-use Rattle.event_transfers.proofs.most_all.Reads as reads
-use Rattle.event_transfers.proofs.most_all.Lts as lts
-use Rattle.event_transfers.proofs.most_trip.Reads as most-trip-reads
 
 abbrev Inv-loop : tie.InvT-loop
 Inv-loop t c runs d work ends time trips n₀ ti₀ n ti = (trips ≡ c .trips) × Most 0 (length (flatten (allKeys (prepared t c runs work time)))) n (length (flatten (tabFrom (λ k. flatten (tripKeys (prepared t c runs work time) k)) ti (trips - ti))))

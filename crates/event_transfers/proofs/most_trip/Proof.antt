@@ -11,10 +11,6 @@ use mathlib.Core.Path.{_≡_}
 use Prim.Native.Nat.{_-_}
 use Rattle.event_transfers.proofs.most_trip.Statement.{statement}
 use Rattle.event_transfers.proofs.most_trip.Tie as tie
-use Rattle.event_transfers.proofs.most_trip.Reads as reads
-use Rattle.event_transfers.proofs.most_trip.Lts as lts
-use Rattle.tables.proofs.trip.Reads as trip-reads
-use Rattle.event_transfers.proofs.most_alight.Reads as most-alight-reads
 
 abbrev Inv-loop : tie.InvT-loop
 Inv-loop t c runs d work ends time ti n first count m₀ off₀ m off = (count ≡ countOf t c ti) × (first ≡ firstOf t c ti) × Most n (length (flatten (tripKeys (prepared t c runs work time) ti))) m (length (flatten (tabFrom (eventKeys (prepared t c runs work time) ti) off (count - off))))

@@ -9,8 +9,6 @@ use Prim.Native.Nat.{_*_, _-_}
 use borrow.Author.Needs.{needs}
 use Rattle.event_transfers.proofs.put_run.Statement.{statement}
 use Rattle.event_transfers.proofs.put_run.Tie as tie
-use Rattle.event_transfers.proofs.put_run.Reads as reads
-use Rattle.event_transfers.proofs.put_run.Lts as lts
 
 mul-at : tie.Need-mul-at
 mul-at c = search needs

@@ -2,9 +2,6 @@ use Rattle.event_transfers.proofs.Events.{total-is}
 use borrow.Author.Needs.{needs}
 use Rattle.event_transfers.proofs.total.Statement.{statement}
 use Rattle.event_transfers.proofs.total.Tie as tie
-use Rattle.event_transfers.proofs.total.Reads as reads
-use Rattle.event_transfers.proofs.total.Lts as lts
-use Rattle.event_transfers.proofs.all_events.Reads as all-events-reads
 
 slice-aggregate-all-events : tie.Need-slice-aggregate-all-events
 slice-aggregate-all-events c = search needs

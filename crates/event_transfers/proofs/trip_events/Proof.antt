@@ -10,10 +10,6 @@ use Prim.Native.Nat.{_+_, _-_, _≤_}
 use Rattle.loops.specs.Count.{count, tabFrom}
 use Rattle.event_transfers.proofs.trip_events.Statement.{statement}
 use Rattle.event_transfers.proofs.trip_events.Tie as tie
-use Rattle.event_transfers.proofs.trip_events.Reads as reads
-use Rattle.event_transfers.proofs.trip_events.Lts as lts
-use Rattle.tables.proofs.trip.Reads as trip-reads
-use Rattle.event_transfers.proofs.event.Reads as event-reads
 
 abbrev Inv-loop : tie.InvT-loop
 Inv-loop t c runs d work ends area₀ evs₀ time ti e n count m₀ off₀ area evs m off = (count ≡ countOf t c ti) × (off ≤ count) × (m ≤ 65537) × (length area ≡ length area₀) × (length evs ≡ length evs₀) × (layEvents time e (tripKeys (prepared t c runs work time) ti) (walk n area₀ evs₀) ≡ layEvents time (e + off) (tabFrom (eventKeys (prepared t c runs work time) ti) off (count - off)) (walk m area evs))

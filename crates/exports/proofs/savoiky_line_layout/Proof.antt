@@ -1,6 +1,6 @@
 use Rattle.layout_call.specs.Call.{areas, outcome}
 use denote.Ref.{now}
-use mathlib.Core.Path.{_∙_, ap, sym}
+use mathlib.Core.Path.{_∙_, ap}
 use Rattle.tables.specs.declared.Counts.{Counts}
 use borrow.Author.Needs.{needs}
 use Rattle.exports.proofs.savoiky_line_layout.Statement.{statement}

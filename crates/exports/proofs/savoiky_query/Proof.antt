@@ -6,10 +6,6 @@ use Rattle.replies.specs.Outcome.{areas, queryOutcome}
 use borrow.Author.Needs.{needs}
 use Rattle.exports.proofs.savoiky_query.Statement.{statement}
 use Rattle.exports.proofs.savoiky_query.Tie as tie
-use Rattle.exports.proofs.savoiky_query.Reads as reads
-use Rattle.exports.proofs.savoiky_query.Lts as lts
-use Rattle.sizes.proofs.query_counts.Reads as query-counts-reads
-use Rattle.query.proofs.query.Reads as query-reads
 
 query-counts-requires : tie.Need-query-counts-requires
 query-counts-requires c κs = search needs

@@ -6,10 +6,6 @@ use Rattle.replies.specs.Outcome.{areas, runTbrOutcome}
 use borrow.Author.Needs.{needs}
 use Rattle.exports.proofs.savoiky_run_tbr.Statement.{statement}
 use Rattle.exports.proofs.savoiky_run_tbr.Tie as tie
-use Rattle.exports.proofs.savoiky_run_tbr.Reads as reads
-use Rattle.exports.proofs.savoiky_run_tbr.Lts as lts
-use Rattle.sizes.proofs.query_counts.Reads as query-counts-reads
-use Rattle.query.proofs.run_tbr.Reads as run-tbr-reads
 
 query-counts-requires : tie.Need-query-counts-requires
 query-counts-requires c κs = search needs

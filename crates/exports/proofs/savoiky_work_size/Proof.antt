@@ -3,10 +3,6 @@ use Rattle.asking.specs.Door.{workspaceAnswer}
 use borrow.Author.Needs.{needs}
 use Rattle.exports.proofs.savoiky_work_size.Statement.{statement}
 use Rattle.exports.proofs.savoiky_work_size.Tie as tie
-use Rattle.exports.proofs.savoiky_work_size.Reads as reads
-use Rattle.exports.proofs.savoiky_work_size.Lts as lts
-use Rattle.asking.proofs.workspace.Reads as workspace-reads
-use Rattle.sizes.proofs.query_counts.Reads as query-counts-reads
 
 query-counts-requires : tie.Need-query-counts-requires
 query-counts-requires c κs = search needs

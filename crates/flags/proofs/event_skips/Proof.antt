@@ -4,7 +4,7 @@ use Rattle.model.specs.Search.{targetCells, holdsTarget}
 use Rattle.model.specs.Tables.{Tables, Query}
 use Rattle.line_transfers.specs.Transfers.{transferAt}
 use Rattle.loops.specs.Iter.{someIn}
-use Prim.Native.Nat.{ℕ, _+_, _-_}
+use Prim.Native.Nat.{_+_, _-_}
 use mathlib.Core.Bool.{not}
 use mathlib.Core.Path.{_≡_, refl}
 use borrow.Author.Tests.{not-true, not-false}
@@ -12,10 +12,6 @@ use native.Mathlib.Omega.{arith}
 use denote.Ref.{now}
 use Rattle.flags.proofs.event_skips.Statement.{statement}
 use Rattle.flags.proofs.event_skips.Tie as tie
-use Rattle.flags.proofs.event_skips.Reads as reads
-use Rattle.flags.proofs.event_skips.Lts as lts
-use Rattle.flags.proofs.holds_target.Reads as holds-target-reads
-use Rattle.tables.proofs.field.Reads as field-reads
 
 abbrev Inv-loop : tie.InvT-loop
 Inv-loop area patterns count target first n k₀ k =

@@ -3,16 +3,12 @@ use Rattle.flags.specs.Flags.{Patterned, eventSkips}
 use Rattle.model.specs.Search.{targetCells}
 use Rattle.model.specs.Tables.{Tables, Query}
 use Rattle.loops.specs.Iter.{someIn}
-use Prim.Native.Nat.{ℕ, _+_, _-_}
+use Prim.Native.Nat.{_+_, _-_}
 use mathlib.Core.Path.{_≡_, refl}
 use native.Mathlib.Omega.{arith}
 use denote.Ref.{now}
 use Rattle.flags.proofs.events_skip.Statement.{statement}
 use Rattle.flags.proofs.events_skip.Tie as tie
-use Rattle.flags.proofs.events_skip.Reads as reads
-use Rattle.flags.proofs.events_skip.Lts as lts
-use Rattle.flags.proofs.event_skips.Reads as event-skips-reads
-use Rattle.tables.proofs.field.Reads as field-reads
 
 abbrev Inv-loop : tie.InvT-loop
 Inv-loop runs area patterns count target e n o₀ o =

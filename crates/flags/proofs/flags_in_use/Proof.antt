@@ -3,11 +3,6 @@ use borrow.Author.Tests.{not-true, not-false}
 use Rattle.flags.proofs.Laws.{put-off, by-edge, by-transfer}
 use Rattle.flags.proofs.flags_in_use.Statement.{statement}
 use Rattle.flags.proofs.flags_in_use.Tie as tie
-use Rattle.flags.proofs.flags_in_use.Reads as reads
-use Rattle.flags.proofs.flags_in_use.Lts as lts
-use Rattle.flags.proofs.skips_edge.Reads as skips-edge-reads
-use Rattle.flags.proofs.skips_transfer.Reads as skips-transfer-reads
-use Rattle.flags.proofs.use_arc_flags.Reads as use-arc-flags-reads
 
 use-arc-flags-requires : tie.Need-use-arc-flags-requires
 use-arc-flags-requires c κs = search needs

@@ -6,10 +6,6 @@ use denote.Ref.{now}
 use borrow.Author.Needs.{needs}
 use Rattle.flags.proofs.holds_target.Statement.{statement}
 use Rattle.flags.proofs.holds_target.Tie as tie
-use Rattle.flags.proofs.holds_target.Reads as reads
-use Rattle.flags.proofs.holds_target.Lts as lts
-use Rattle.cell_bitset.proofs.CellBitSet.intersects.Reads as intersects-reads
-use Rattle.flags.proofs.pattern_bytes.Reads as pattern-bytes-reads
 
 returns : tie.Need-returns
 returns c = let s = c .before .before in λ T Q g et. holds-past T Q (now (s .args .patterns)) (s .args .count) g (s .args .p) (c .if1 .taken)

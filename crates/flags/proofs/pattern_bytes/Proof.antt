@@ -7,8 +7,6 @@ use borrow.Author.Needs.{needs}
 use denote.Ref.{now}
 use Rattle.flags.proofs.pattern_bytes.Statement.{statement}
 use Rattle.flags.proofs.pattern_bytes.Tie as tie
-use Rattle.flags.proofs.pattern_bytes.Reads as reads
-use Rattle.flags.proofs.pattern_bytes.Lts as lts
 
 abbrev Inv-loop : tie.InvT-loop
 Inv-loop patterns p bytes₀ i₀ bytes i = (i ≤ 64) × (length bytes ≡ 64) × ((k : ℕ) → k < i → getD bytes k 0 ≡ getD patterns (p * 64 + k) 0)

@@ -4,17 +4,13 @@ use Rattle.model.specs.Search.{targetCells, skipsEdge}
 use Rattle.model.specs.Tables.{Tables, Query}
 use Rattle.tables.specs.Timetable.{timetable}
 use Rattle.loops.specs.Iter.{someIn}
-use Prim.Native.Nat.{ℕ, _-_}
+use Prim.Native.Nat.{_-_}
 use mathlib.Core.Path.{_≡_, refl}
 use borrow.Author.Tests.{not-true, not-false}
 use native.Mathlib.Omega.{arith}
 use denote.Ref.{now}
 use Rattle.flags.proofs.skips_edge.Statement.{statement}
 use Rattle.flags.proofs.skips_edge.Tie as tie
-use Rattle.flags.proofs.skips_edge.Reads as reads
-use Rattle.flags.proofs.skips_edge.Lts as lts
-use Rattle.flags.proofs.holds_target.Reads as holds-target-reads
-use Rattle.tables.proofs.edge.Reads as edge-reads
 
 abbrev Inv-loop : tie.InvT-loop
 Inv-loop t c patterns count target n k₀ k =

@@ -5,16 +5,12 @@ use Rattle.model.specs.Tables.{Tables, Query}
 use Rattle.line_transfers.specs.Transfers.{eventsBefore}
 use Rattle.tables.specs.Timetable.{timetable}
 use Rattle.loops.specs.Iter.{someIn}
-use Prim.Native.Nat.{ℕ, _+_, _-_}
+use Prim.Native.Nat.{_-_}
 use mathlib.Core.Path.{_≡_, refl}
 use native.Mathlib.Omega.{arith}
 use denote.Ref.{now}
 use Rattle.flags.proofs.skips_transfer.Statement.{statement}
 use Rattle.flags.proofs.skips_transfer.Tie as tie
-use Rattle.flags.proofs.skips_transfer.Reads as reads
-use Rattle.flags.proofs.skips_transfer.Lts as lts
-use Rattle.flags.proofs.events_skip.Reads as events-skip-reads
-use Rattle.tables.proofs.trip.Reads as trip-reads
 
 abbrev Inv-loop : tie.InvT-loop
 Inv-loop t c runs area patterns count target n e₀ i₀ e i =

@@ -11,11 +11,6 @@ use borrow.Author.Needs.{needs}
 use denote.Ref.{now}
 use Rattle.flags.proofs.target_cells.Statement.{statement}
 use Rattle.flags.proofs.target_cells.Tie as tie
-use Rattle.flags.proofs.target_cells.Reads as reads
-use Rattle.flags.proofs.target_cells.Lts as lts
-use Rattle.cell_bitset.proofs.CellBitSet.new.Reads as new-reads
-use Rattle.cell_bitset.proofs.CellBitSet.set_bit.Reads as set-bit-reads
-use Rattle.tables.proofs.field.Reads as field-reads
 
 abbrev Inv-loop : tie.InvT-loop
 Inv-loop t cells egress from n set₀ i₀ set i =

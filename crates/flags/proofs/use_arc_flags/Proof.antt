@@ -2,10 +2,6 @@ use Rattle.flags.proofs.Laws.{flags-is}
 use borrow.Author.Needs.{needs}
 use Rattle.flags.proofs.use_arc_flags.Statement.{statement}
 use Rattle.flags.proofs.use_arc_flags.Tie as tie
-use Rattle.flags.proofs.use_arc_flags.Reads as reads
-use Rattle.flags.proofs.use_arc_flags.Lts as lts
-use Rattle.cell_bitset.proofs.CellBitSet.is_empty.Reads as is-empty-reads
-use Rattle.door.proofs.both.Reads as both-reads
 
 is-empty-requires : tie.Need-is-empty-requires
 is-empty-requires c κs = search needs

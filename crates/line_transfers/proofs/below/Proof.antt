@@ -1,10 +1,7 @@
 use Rattle.line_transfers.proofs.Lists.{below-is, quotient-most}
-use native.Mathlib.Omega.{arith}
 use borrow.Author.Needs.{needs}
 use Rattle.line_transfers.proofs.below.Statement.{statement}
 use Rattle.line_transfers.proofs.below.Tie as tie
-use Rattle.line_transfers.proofs.below.Reads as reads
-use Rattle.line_transfers.proofs.below.Lts as lts
 
 add-result : tie.Need-add-result
 add-result c = search needs

@@ -12,9 +12,6 @@ use mathlib.Core.Path.{_≡_, refl}
 use Prim.Native.Nat.{_+_, _<_}
 use Rattle.line_transfers.proofs.first_from.Statement.{statement}
 use Rattle.line_transfers.proofs.first_from.Tie as tie
-use Rattle.line_transfers.proofs.first_from.Reads as reads
-use Rattle.line_transfers.proofs.first_from.Lts as lts
-use Rattle.line_transfers.proofs.narrowed.Reads as narrowed-reads
 
 abbrev Inv-loop : tie.InvT-loop
 Inv-loop part key n lo₀ size₀ lo size = (n ≡ length part) × (0 < size) × Halved (λ i. leb key (hi (getD part i 0))) (length part) lo (lo + size)

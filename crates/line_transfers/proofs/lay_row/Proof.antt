@@ -5,9 +5,6 @@ use Prim.Native.Nat.{_+_}
 use borrow.Author.Needs.{needs}
 use Rattle.line_transfers.proofs.lay_row.Statement.{statement}
 use Rattle.line_transfers.proofs.lay_row.Tie as tie
-use Rattle.line_transfers.proofs.lay_row.Reads as reads
-use Rattle.line_transfers.proofs.lay_row.Lts as lts
-use Rattle.line_transfers.proofs.put_row.Reads as put-row-reads
 
 returns : tie.Need-returns
 returns c = sym (row-full _ _ _ (c .if1 .taken))

@@ -1,12 +1,9 @@
 use Rattle.line_transfers.proofs.Grouping.{ends-before, ends-run}
 use denote.Ref.{now}
 use lib.ListN.{getD}
-use native.Mathlib.Omega.{arith}
 use borrow.Author.Needs.{needs}
 use Rattle.line_transfers.proofs.line_end.Statement.{statement}
 use Rattle.line_transfers.proofs.line_end.Tie as tie
-use Rattle.line_transfers.proofs.line_end.Reads as reads
-use Rattle.line_transfers.proofs.line_end.Lts as lts
 
 sub-left : tie.Need-sub-left
 sub-left c = search needs

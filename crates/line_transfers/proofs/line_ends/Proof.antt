@@ -1,16 +1,12 @@
 use Rattle.line_transfers.proofs.Grouping.{lines-set, stretch-next}
 use Rattle.line_transfers.specs.Packed.{Stretch}
-use borrow.Author.Needs.{needs}
 use denote.Ref.{now}
 use lib.ListN.{getD, length, length-set}
 use native.Mathlib.Omega.{arith}
-use mathlib.Core.Path.{_≡_, _∙_, refl}
+use mathlib.Core.Path.{_≡_, refl}
 use Prim.Native.Nat.{ℕ, _+_, _<_, _≤_}
 use Rattle.line_transfers.proofs.line_ends.Statement.{statement}
 use Rattle.line_transfers.proofs.line_ends.Tie as tie
-use Rattle.line_transfers.proofs.line_ends.Reads as reads
-use Rattle.line_transfers.proofs.line_ends.Lts as lts
-use Rattle.line_transfers.proofs.line_left.Reads as line-left-reads
 
 abbrev Inv-loop : tie.InvT-loop
 Inv-loop work ends₀ left₀ i₀ ends left i = (i ≤ length work) × (length ends ≡ length ends₀) × (i + left ≤ length work) × (i < length work → Stretch work i left) × ((j : ℕ) → i ≤ j → j < length work → Stretch work j (getD ends j 0))

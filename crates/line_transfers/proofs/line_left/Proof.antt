@@ -4,8 +4,6 @@ use native.Mathlib.Omega.{arith}
 use borrow.Author.Needs.{needs}
 use Rattle.line_transfers.proofs.line_left.Statement.{statement}
 use Rattle.line_transfers.proofs.line_left.Tie as tie
-use Rattle.line_transfers.proofs.line_left.Reads as reads
-use Rattle.line_transfers.proofs.line_left.Lts as lts
 
 add-if1 : tie.Need-add-if1
 add-if1 c = search needs

@@ -7,10 +7,6 @@ use native.Mathlib.Omega.{arith}
 use Prim.Native.Nat.{ℕ, _+_, _-_, _≤_}
 use Rattle.line_transfers.proofs.lines_after.Statement.{statement}
 use Rattle.line_transfers.proofs.lines_after.Tie as tie
-use Rattle.line_transfers.proofs.lines_after.Reads as reads
-use Rattle.line_transfers.proofs.lines_after.Lts as lts
-use Rattle.line_transfers.proofs.line_end.Reads as line-end-reads
-use Rattle.line_transfers.proofs.ready.Reads as ready-reads
 
 abbrev Inv-loop : tie.InvT-loop
 Inv-loop run ends w n₀ k₀ n k = (k ≤ length run) × (n ≤ k) × ((ti : ℕ) → length (targets run ti w) ≤ n + length (targets (drop k run) ti w))

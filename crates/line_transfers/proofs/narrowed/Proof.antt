@@ -1,5 +1,4 @@
 use Rattle.line_transfers.proofs.Lists.{at-most-once, halved-either, leb-not}
-use Rattle.loops.specs.Count.{one}
 use Rattle.loops.proofs.Search.{keys-stay}
 use Rattle.sorts.specs.Sort.{hi}
 use denote.Ref.{now}
@@ -11,9 +10,6 @@ use Prim.Native.Nat.{ℕ, _+_, _*_, _/_}
 use borrow.Author.Needs.{needs}
 use Rattle.line_transfers.proofs.narrowed.Statement.{statement}
 use Rattle.line_transfers.proofs.narrowed.Tie as tie
-use Rattle.line_transfers.proofs.narrowed.Reads as reads
-use Rattle.line_transfers.proofs.narrowed.Lts as lts
-use Rattle.line_transfers.proofs.below.Reads as below-reads
 
 add-below : tie.Need-add-below
 add-below c = search needs

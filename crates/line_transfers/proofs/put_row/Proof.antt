@@ -10,8 +10,6 @@ use Prim.Native.Nat.{_%_, _*_, _/_}
 use borrow.Author.Needs.{needs}
 use Rattle.line_transfers.proofs.put_row.Statement.{statement}
 use Rattle.line_transfers.proofs.put_row.Tie as tie
-use Rattle.line_transfers.proofs.put_row.Reads as reads
-use Rattle.line_transfers.proofs.put_row.Lts as lts
 
 mul-at : tie.Need-mul-at
 mul-at c = search needs

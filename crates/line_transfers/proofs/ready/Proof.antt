@@ -5,8 +5,6 @@ use native.Mathlib.Omega.{arith}
 use mathlib.Core.Path.{ap, sym}
 use Rattle.line_transfers.proofs.ready.Statement.{statement}
 use Rattle.line_transfers.proofs.ready.Tie as tie
-use Rattle.line_transfers.proofs.ready.Reads as reads
-use Rattle.line_transfers.proofs.ready.Lts as lts
 
 returns : tie.Need-returns
 unfolding depX

@@ -7,10 +7,6 @@ use mathlib.Core.Path.{_∙_, refl}
 use borrow.Author.Needs.{needs}
 use Rattle.line_transfers.proofs.to_line.Statement.{statement}
 use Rattle.line_transfers.proofs.to_line.Tie as tie
-use Rattle.line_transfers.proofs.to_line.Reads as reads
-use Rattle.line_transfers.proofs.to_line.Lts as lts
-use Rattle.line_transfers.proofs.first_from.Reads as first-from-reads
-use Rattle.line_transfers.proofs.lay_row.Reads as lay-row-reads
 
 shared-slice-read-line : tie.Need-shared-slice-read-line
 shared-slice-read-line c = search needs

@@ -8,10 +8,6 @@ use mathlib.Core.Path.{_≡_, refl}
 use Prim.Native.Nat.{_-_, _≤_}
 use Rattle.line_transfers.proofs.to_lines.Statement.{statement}
 use Rattle.line_transfers.proofs.to_lines.Tie as tie
-use Rattle.line_transfers.proofs.to_lines.Reads as reads
-use Rattle.line_transfers.proofs.to_lines.Lts as lts
-use Rattle.line_transfers.proofs.line_end.Reads as line-end-reads
-use Rattle.line_transfers.proofs.to_line.Reads as to-line-reads
 
 abbrev Inv-loop : tie.InvT-loop
 Inv-loop run ends area₀ time ti w n m₀ k₀ area m k = (k ≤ length run) × (length area ≡ length area₀) × (lay time (targets run ti w) (laid n area₀) ≡ lay time (targets (drop k run) ti w) (laid m area))

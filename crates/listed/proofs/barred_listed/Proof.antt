@@ -5,13 +5,6 @@ use native.Mathlib.Omega.{arith}
 use borrow.Author.Needs.{needs}
 use Rattle.listed.proofs.barred_listed.Statement.{statement}
 use Rattle.listed.proofs.barred_listed.Tie as tie
-use Rattle.listed.proofs.barred_listed.Reads as reads
-use Rattle.listed.proofs.barred_listed.Lts as lts
-use Rattle.boarding.proofs.permitted.Reads as permitted-reads
-use Rattle.boarding.proofs.skipped.Reads as skipped-reads
-use Rattle.pruning.proofs.pruned.Reads as pruned-reads
-use Rattle.tables.proofs.time.Reads as time-reads
-use Rattle.tables.proofs.trip.Reads as trip-reads
 
 permitted-requires : tie.Need-permitted-requires
 permitted-requires c κs = search needs

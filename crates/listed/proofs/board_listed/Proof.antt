@@ -6,11 +6,6 @@ use native.Mathlib.Omega.{arith}
 use borrow.Author.Needs.{needs}
 use Rattle.listed.proofs.board_listed.Statement.{statement}
 use Rattle.listed.proofs.board_listed.Tie as tie
-use Rattle.listed.proofs.board_listed.Reads as reads
-use Rattle.listed.proofs.board_listed.Lts as lts
-use Rattle.boarding.proofs.board_at.Reads as board-at-reads
-use Rattle.pruning.proofs.passed_over.Reads as passed-over-reads
-use Rattle.listed.proofs.barred_listed.Reads as barred-listed-reads
 
 barred-listed-requires : tie.Need-barred-listed-requires
 barred-listed-requires c κs = search needs

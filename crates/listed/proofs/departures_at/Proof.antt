@@ -8,12 +8,6 @@ use mathlib.Core.Path.{ap}
 use borrow.Author.Needs.{needs}
 use Rattle.listed.proofs.departures_at.Statement.{statement}
 use Rattle.listed.proofs.departures_at.Tie as tie
-use Rattle.listed.proofs.departures_at.Reads as reads
-use Rattle.listed.proofs.departures_at.Lts as lts
-use Rattle.asking.proofs.departure_rows.Reads as departure-rows-reads
-use Rattle.asking.proofs.stop_runs.Reads as stop-runs-reads
-use Rattle.departures.proofs.departures_of.Reads as departures-of-reads
-use Rattle.departures.proofs.stop_run.Reads as stop-run-reads
 
 stop-runs-requires : tie.Need-stop-runs-requires
 stop-runs-requires c κs = search needs

@@ -10,10 +10,6 @@ use Prim.Native.Nat.{_-_, _/_}
 use Rattle.loops.specs.Order.{Halved}
 use Rattle.listed.proofs.first_not_before.Statement.{statement}
 use Rattle.listed.proofs.first_not_before.Tie as tie
-use Rattle.listed.proofs.first_not_before.Reads as reads
-use Rattle.listed.proofs.first_not_before.Lts as lts
-use Rattle.asking.proofs.row_departure.Reads as row-departure-reads
-use Rattle.departures.proofs.departure_row.Reads as departure-row-reads
 
 abbrev Inv-loop : tie.InvT-loop
 Inv-loop t c list m lo₀ hi₀ lo hi = Halved (λ i. leb m (rowDeparture (timetable t c) (rowAt list i))) (length list / 2) lo hi

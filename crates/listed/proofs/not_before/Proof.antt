@@ -2,10 +2,6 @@ use Rattle.listed.proofs.Tail.{handed-ordered, handed-rows}
 use borrow.Author.Needs.{needs}
 use Rattle.listed.proofs.not_before.Statement.{statement}
 use Rattle.listed.proofs.not_before.Tie as tie
-use Rattle.listed.proofs.not_before.Reads as reads
-use Rattle.listed.proofs.not_before.Lts as lts
-use Rattle.departures.proofs.departures_of.Reads as departures-of-reads
-use Rattle.listed.proofs.first_not_before.Reads as first-not-before-reads
 
 first-not-before-requires : tie.Need-first-not-before-requires
 first-not-before-requires c κs = search needs

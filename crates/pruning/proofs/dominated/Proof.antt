@@ -3,11 +3,6 @@ use Rattle.pruning.proofs.Reading.{dominated-is}
 use borrow.Author.Needs.{needs}
 use Rattle.pruning.proofs.dominated.Statement.{statement}
 use Rattle.pruning.proofs.dominated.Tie as tie
-use Rattle.pruning.proofs.dominated.Reads as reads
-use Rattle.pruning.proofs.dominated.Lts as lts
-use Rattle.pruning.proofs.first_of.Reads as first-of-reads
-use Rattle.pruning.proofs.some_before.Reads as some-before-reads
-use Rattle.tables.proofs.field.Reads as field-reads
 
 mul-field : tie.Need-mul-field
 mul-field c = search needs

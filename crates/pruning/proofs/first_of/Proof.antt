@@ -3,8 +3,6 @@ use Rattle.pruning.proofs.Reading.{first-no, first-yes}
 use borrow.Author.Needs.{needs}
 use Rattle.pruning.proofs.first_of.Statement.{statement}
 use Rattle.pruning.proofs.first_of.Tie as tie
-use Rattle.pruning.proofs.first_of.Reads as reads
-use Rattle.pruning.proofs.first_of.Lts as lts
 
 mul-at : tie.Need-mul-at
 mul-at c = search needs

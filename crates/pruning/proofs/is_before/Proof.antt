@@ -1,14 +1,10 @@
-use mathlib.Core.Path.{_≡_, sym, ap, ap₂, _∙_}
+use mathlib.Core.Path.{ap₂, _∙_}
 use Prim.Native.Nat.{ℕ}
 use lib.Dec.{ltb, leb}
 use mathlib.Core.Bool.{_&&_}
 use borrow.Author.Needs.{needs}
 use Rattle.pruning.proofs.is_before.Statement.{statement}
 use Rattle.pruning.proofs.is_before.Tie as tie
-use Rattle.pruning.proofs.is_before.Reads as reads
-use Rattle.pruning.proofs.is_before.Lts as lts
-use Rattle.door.proofs.both.Reads as both-reads
-use Rattle.tables.proofs.field.Reads as field-reads
 
 mul-field : tie.Need-mul-field
 mul-field c = search needs

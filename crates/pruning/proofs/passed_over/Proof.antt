@@ -3,10 +3,6 @@ use Rattle.pruning.proofs.Reading.{passed-no, passed-yes}
 use borrow.Author.Needs.{needs}
 use Rattle.pruning.proofs.passed_over.Statement.{statement}
 use Rattle.pruning.proofs.passed_over.Tie as tie
-use Rattle.pruning.proofs.passed_over.Reads as reads
-use Rattle.pruning.proofs.passed_over.Lts as lts
-use Rattle.door.proofs.both.Reads as both-reads
-use Rattle.door.proofs.either.Reads as either-reads
 
 mul-at : tie.Need-mul-at
 mul-at c = search needs

@@ -1,16 +1,10 @@
 use denote.Ref.{now}
-use mathlib.Core.Path.{_≡_, sym, ap, ap₂, _∙_}
 use native.Mathlib.Omega.{arith}
 use Rattle.boarding.specs.Reads.{hitOf}
 use Rattle.pruning.proofs.Reading.{prunable-past, prunable-known, never}
 use borrow.Author.Needs.{needs}
 use Rattle.pruning.proofs.prunable.Statement.{statement}
 use Rattle.pruning.proofs.prunable.Tie as tie
-use Rattle.pruning.proofs.prunable.Reads as reads
-use Rattle.pruning.proofs.prunable.Lts as lts
-use Rattle.pruning.proofs.undelayed.Reads as undelayed-reads
-use Rattle.door.proofs.both.Reads as both-reads
-use Rattle.tables.proofs.field.Reads as field-reads
 
 field-requires : tie.Need-field-requires
 field-requires c κs = search needs

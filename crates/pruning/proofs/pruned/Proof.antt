@@ -1,5 +1,5 @@
 use denote.Ref.{now}
-use mathlib.Core.Path.{_≡_, sym, ap, ap₂, _∙_}
+use mathlib.Core.Path.{sym, _∙_}
 use native.Mathlib.Omega.{arith}
 use borrow.Author.Tests.{not-true, not-false}
 use Rattle.boarding.specs.Reads.{hitOf}
@@ -8,11 +8,6 @@ use Rattle.pruning.proofs.Noting.{line-is}
 use borrow.Author.Needs.{needs}
 use Rattle.pruning.proofs.pruned.Statement.{statement}
 use Rattle.pruning.proofs.pruned.Tie as tie
-use Rattle.pruning.proofs.pruned.Reads as reads
-use Rattle.pruning.proofs.pruned.Lts as lts
-use Rattle.pruning.proofs.dominated.Reads as dominated-reads
-use Rattle.pruning.proofs.prunable.Reads as prunable-reads
-use Rattle.tables.proofs.field.Reads as field-reads
 
 prunable-requires : tie.Need-prunable-requires
 prunable-requires c κs = search needs

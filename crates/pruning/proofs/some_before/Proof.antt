@@ -1,15 +1,11 @@
 use borrow.Author.Needs.{needs}
 use denote.Ref.{now}
-use mathlib.Core.Path.{_≡_, sym, ap, ap₂, _∙_}
+use mathlib.Core.Path.{sym, _∙_}
 use native.Mathlib.Omega.{arith}
 use Prim.Native.Nat.{_-_, _≤_}
 use Rattle.pruning.proofs.Reading.{Walking, walking-start, walking-none, walking-below, walking-yes, walking-next, walking-end}
 use Rattle.pruning.proofs.some_before.Statement.{statement}
 use Rattle.pruning.proofs.some_before.Tie as tie
-use Rattle.pruning.proofs.some_before.Reads as reads
-use Rattle.pruning.proofs.some_before.Lts as lts
-use Rattle.pruning.proofs.is_before.Reads as is-before-reads
-use Rattle.tables.proofs.field.Reads as field-reads
 
 abbrev Inv-loop : tie.InvT-loop
 Inv-loop lay first p off work links h₀ k₀ h k = (k ≤ lay .trips) × Walking lay work p off first k h

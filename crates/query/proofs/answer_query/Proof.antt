@@ -7,10 +7,6 @@ use Rattle.replies.proofs.Outcomes.{finished}
 use borrow.Author.Needs.{needs}
 use Rattle.query.proofs.answer_query.Statement.{statement}
 use Rattle.query.proofs.answer_query.Tie as tie
-use Rattle.query.proofs.answer_query.Reads as reads
-use Rattle.query.proofs.answer_query.Lts as lts
-use Rattle.replies.proofs.finish.Reads as finish-reads
-use Rattle.search.proofs.search.Reads as search-reads
 
 search-requires : tie.Need-search-requires
 search-requires c κs = search needs

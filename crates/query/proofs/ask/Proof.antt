@@ -7,10 +7,6 @@ use Rattle.replies.proofs.Outcomes.{refused-is, admitted-is}
 use borrow.Author.Needs.{needs}
 use Rattle.query.proofs.ask.Statement.{statement}
 use Rattle.query.proofs.ask.Tie as tie
-use Rattle.query.proofs.ask.Reads as reads
-use Rattle.query.proofs.ask.Lts as lts
-use Rattle.query_door.proofs.questions.Reads as questions-reads
-use Rattle.query.proofs.answer_query.Reads as answer-query-reads
 
 questions-requires : tie.Need-questions-requires
 questions-requires c κs = search needs

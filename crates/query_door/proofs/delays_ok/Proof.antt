@@ -7,11 +7,6 @@ use Rattle.delay_tables.specs.Flat.{delayTables}
 use borrow.Author.Needs.{needs}
 use Rattle.query_door.proofs.delays_ok.Statement.{statement}
 use Rattle.query_door.proofs.delays_ok.Tie as tie
-use Rattle.query_door.proofs.delays_ok.Reads as reads
-use Rattle.query_door.proofs.delays_ok.Lts as lts
-use Rattle.asking.proofs.delay_rows.Reads as delay-rows-reads
-use Rattle.asking.proofs.stop_rows.Reads as stop-rows-reads
-use Rattle.delay_tables.proofs.rows_asked.Reads as rows-asked-reads
 
 cast-rows-asked : tie.Need-cast-rows-asked
 cast-rows-asked c = search needs

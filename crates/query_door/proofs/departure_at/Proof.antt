@@ -5,10 +5,6 @@ use Rattle.tables.specs.Timetable.{timetable}
 use borrow.Author.Needs.{needs}
 use Rattle.query_door.proofs.departure_at.Statement.{statement}
 use Rattle.query_door.proofs.departure_at.Tie as tie
-use Rattle.query_door.proofs.departure_at.Reads as reads
-use Rattle.query_door.proofs.departure_at.Lts as lts
-use Rattle.asking.proofs.row_departure.Reads as row-departure-reads
-use Rattle.departures.proofs.departure_row.Reads as departure-row-reads
 
 departure-row-requires : tie.Need-departure-row-requires
 departure-row-requires c κs = search needs

@@ -9,9 +9,6 @@ use mathlib.Core.Path.{_∙_, _≡_, refl, sym}
 use Prim.Native.Nat.{_-_}
 use Rattle.query_door.proofs.departure_order.Statement.{statement}
 use Rattle.query_door.proofs.departure_order.Tie as tie
-use Rattle.query_door.proofs.departure_order.Reads as reads
-use Rattle.query_door.proofs.departure_order.Lts as lts
-use Rattle.query_door.proofs.stop_order.Reads as stop-order-reads
 
 abbrev Inv-loop : tie.InvT-loop
 Inv-loop t c runs rows d n s₀ s = (n ≡ c .stops) × (departureOrder (timetable t c) runs rows (c .stops) ≡ everyIn (λ u. partOrder (timetable t c) (departuresOf runs rows u) (runLength runs u)) s n)

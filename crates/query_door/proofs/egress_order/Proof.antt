@@ -10,9 +10,6 @@ use mathlib.Core.Path.{_∙_, _≡_, refl, sym}
 use Prim.Native.Nat.{_-_, _≤_}
 use Rattle.query_door.proofs.egress_order.Statement.{statement}
 use Rattle.query_door.proofs.egress_order.Tie as tie
-use Rattle.query_door.proofs.egress_order.Reads as reads
-use Rattle.query_door.proofs.egress_order.Lts as lts
-use Rattle.query_door.proofs.stop_rises.Reads as stop-rises-reads
 
 abbrev Inv-loop : tie.InvT-loop
 Inv-loop q at count i₀ i = (1 ≤ i) × (columnRises q at 2 count ≡ everyIn (λ k. ltb (columnAt q at 2 (k - 1)) (columnAt q at 2 k)) i count)

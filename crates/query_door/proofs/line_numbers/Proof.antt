@@ -13,12 +13,6 @@ use mathlib.Core.List.{List}
 use denote.Ref.{now}
 use Rattle.query_door.proofs.line_numbers.Statement.{statement}
 use Rattle.query_door.proofs.line_numbers.Tie as tie
-use Rattle.query_door.proofs.line_numbers.Reads as reads
-use Rattle.query_door.proofs.line_numbers.Lts as lts
-use Rattle.asking.proofs.column_below.Reads as column-below-reads
-use Rattle.asking.proofs.line_entries.Reads as line-entries-reads
-use Rattle.door.proofs.both.Reads as both-reads
-use Rattle.line_layout.proofs.entries_ok.Reads as entries-ok-reads
 
 column-below-requires : tie.Need-column-below-requires
 column-below-requires c κs = record { inside = λ i l. omega (arith, c .before .pre .1) }

@@ -6,10 +6,6 @@ use mathlib.Core.Path.{_∙_, ap}
 use denote.Ref.{now}
 use Rattle.query_door.proofs.mark_ranges.Statement.{statement}
 use Rattle.query_door.proofs.mark_ranges.Tie as tie
-use Rattle.query_door.proofs.mark_ranges.Reads as reads
-use Rattle.query_door.proofs.mark_ranges.Lts as lts
-use Rattle.asking.proofs.column_below.Reads as column-below-reads
-use Rattle.asking.proofs.marks_at.Reads as marks-at-reads
 
 marks-at-requires : tie.Need-marks-at-requires
 marks-at-requires c κs = c .before .pre .0

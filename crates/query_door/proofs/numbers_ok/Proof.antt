@@ -11,16 +11,6 @@ use mathlib.Core.List.{List}
 use denote.Ref.{now}
 use Rattle.query_door.proofs.numbers_ok.Statement.{statement}
 use Rattle.query_door.proofs.numbers_ok.Tie as tie
-use Rattle.query_door.proofs.numbers_ok.Reads as reads
-use Rattle.query_door.proofs.numbers_ok.Lts as lts
-use Rattle.query_door.proofs.delays_ok.Reads as delays-ok-reads
-use Rattle.asking.proofs.departure_rows.Reads as departure-rows-reads
-use Rattle.query_door.proofs.line_numbers.Reads as line-numbers-reads
-use Rattle.query_door.proofs.query_numbers.Reads as query-numbers-reads
-use Rattle.asking.proofs.stop_runs.Reads as stop-runs-reads
-use Rattle.departures.proofs.listed_ok.Reads as listed-ok-reads
-use Rattle.door.proofs.both.Reads as both-reads
-use Rattle.tables.proofs.numbers_ok.Reads as numbers-ok-reads
 
 stop-runs-requires : tie.Need-stop-runs-requires
 stop-runs-requires c κs = (c .before .before .before .before .pre .0, marks-room (c .before .before .before .before .pre .1 .0))

@@ -8,15 +8,6 @@ use denote.Ref.{now}
 use borrow.Author.Needs.{needs}
 use Rattle.query_door.proofs.order_ok.Statement.{statement}
 use Rattle.query_door.proofs.order_ok.Tie as tie
-use Rattle.query_door.proofs.order_ok.Reads as reads
-use Rattle.query_door.proofs.order_ok.Lts as lts
-use Rattle.query_door.proofs.delays_ok.Reads as delays-ok-reads
-use Rattle.query_door.proofs.departure_order.Reads as departure-order-reads
-use Rattle.asking.proofs.departure_rows.Reads as departure-rows-reads
-use Rattle.query_door.proofs.egress_order.Reads as egress-order-reads
-use Rattle.asking.proofs.stop_runs.Reads as stop-runs-reads
-use Rattle.door.proofs.both.Reads as both-reads
-use Rattle.tables.proofs.order_ok.Reads as order-ok-reads
 
 stop-runs-requires : tie.Need-stop-runs-requires
 stop-runs-requires c κs = search needs

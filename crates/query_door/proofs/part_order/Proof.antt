@@ -13,10 +13,6 @@ use mathlib.Core.Path.{_∙_, _≡_, refl, sym, ap₂}
 use Prim.Native.Nat.{ℕ, _+_, _-_, _≤_}
 use Rattle.query_door.proofs.part_order.Statement.{statement}
 use Rattle.query_door.proofs.part_order.Tie as tie
-use Rattle.query_door.proofs.part_order.Reads as reads
-use Rattle.query_door.proofs.part_order.Lts as lts
-use Rattle.query_door.proofs.departure_at.Reads as departure-at-reads
-use Rattle.query_door.proofs.in_order.Reads as in-order-reads
 
 abbrev Inv-loop : tie.InvT-loop
 Inv-loop t c rows count last₀ k₀ last k =

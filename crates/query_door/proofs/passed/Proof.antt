@@ -1,10 +1,9 @@
 use Rattle.query_door.proofs.Small.{never}
 use Prim.Native.Nat.{ℕ}
-use mathlib.Core.Path.{_∙_, _≡_, ap, subst, sym}
+use mathlib.Core.Path.{_∙_, ap, subst, sym}
 use mathlib.Core.List.{List}
 use lib.ListN.{length}
 use denote.Ref.{now}
-use native.Mathlib.Omega.{arith}
 use borrow.Author.Tests.{not-false}
 use Rattle.asking.specs.Lent.{departureRows}
 use Rattle.asking.specs.Once.{InTurn}

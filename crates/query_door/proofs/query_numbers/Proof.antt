@@ -5,10 +5,6 @@ use mathlib.Core.Path.{_∙_, ap₂}
 use mathlib.Core.Bool.{_&&_}
 use Rattle.query_door.proofs.query_numbers.Statement.{statement}
 use Rattle.query_door.proofs.query_numbers.Tie as tie
-use Rattle.query_door.proofs.query_numbers.Reads as reads
-use Rattle.query_door.proofs.query_numbers.Lts as lts
-use Rattle.asking.proofs.column_below.Reads as column-below-reads
-use Rattle.door.proofs.both.Reads as both-reads
 
 column-below-requires : tie.Need-column-below-requires
 column-below-requires c κs = record { inside = λ i l. omega (arith, c .before .pre .1) }

@@ -4,18 +4,8 @@ use borrow.Author.Needs.{needs}
 use native.Mathlib.Omega.{arith}
 use mathlib.Core.Path.{_∙_, ap₂}
 use mathlib.Core.Bool.{_&&_}
-use denote.Ref.{now}
 use Rattle.query_door.proofs.ranges_ok.Statement.{statement}
 use Rattle.query_door.proofs.ranges_ok.Tie as tie
-use Rattle.query_door.proofs.ranges_ok.Reads as reads
-use Rattle.query_door.proofs.ranges_ok.Lts as lts
-use Rattle.query_door.proofs.delays_ok.Reads as delays-ok-reads
-use Rattle.query_door.proofs.mark_ranges.Reads as mark-ranges-reads
-use Rattle.query_door.proofs.setting_ranges.Reads as setting-ranges-reads
-use Rattle.query_door.proofs.transfer_ranges.Reads as transfer-ranges-reads
-use Rattle.query_door.proofs.walk_ranges.Reads as walk-ranges-reads
-use Rattle.door.proofs.both.Reads as both-reads
-use Rattle.tables.proofs.ranges_ok.Reads as ranges-ok-reads
 
 ranges-ok-requires : tie.Need-ranges-ok-requires
 ranges-ok-requires c κs = (c .before .before .before .before .pre .0 .counts, c .before .before .before .before .pre .1 .0 .slices)

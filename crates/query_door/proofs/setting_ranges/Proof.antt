@@ -3,10 +3,6 @@ use Rattle.query_door.proofs.Small.{ranges}
 use borrow.Author.Needs.{needs}
 use Rattle.query_door.proofs.setting_ranges.Statement.{statement}
 use Rattle.query_door.proofs.setting_ranges.Tie as tie
-use Rattle.query_door.proofs.setting_ranges.Reads as reads
-use Rattle.query_door.proofs.setting_ranges.Lts as lts
-use Rattle.door.proofs.both.Reads as both-reads
-use Rattle.tables.proofs.field.Reads as field-reads
 
 field-requires : tie.Need-field-requires
 field-requires c κs = search needs

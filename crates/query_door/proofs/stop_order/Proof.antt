@@ -10,11 +10,6 @@ use denote.Ref.{now}
 use Rattle.departures.specs.declared.StopRun.{StopRun}
 use Rattle.query_door.proofs.stop_order.Statement.{statement}
 use Rattle.query_door.proofs.stop_order.Tie as tie
-use Rattle.query_door.proofs.stop_order.Reads as reads
-use Rattle.query_door.proofs.stop_order.Lts as lts
-use Rattle.query_door.proofs.part_order.Reads as part-order-reads
-use Rattle.departures.proofs.departures_of.Reads as departures-of-reads
-use Rattle.departures.proofs.stop_run.Reads as stop-run-reads
 
 stop-run-requires : tie.Need-stop-run-requires
 stop-run-requires c κs = omega (arith, c .before .before .before .pre .0 .stops .size, c .before .before .before .pre .1)

@@ -3,9 +3,6 @@ use mathlib.Core.Path.{ap₂}
 use borrow.Author.Needs.{needs}
 use Rattle.query_door.proofs.stop_rises.Statement.{statement}
 use Rattle.query_door.proofs.stop_rises.Tie as tie
-use Rattle.query_door.proofs.stop_rises.Reads as reads
-use Rattle.query_door.proofs.stop_rises.Lts as lts
-use Rattle.tables.proofs.field.Reads as field-reads
 
 sub-field : tie.Need-sub-field
 sub-field c = search needs

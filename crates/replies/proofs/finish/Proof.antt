@@ -4,12 +4,6 @@ use Rattle.replies.proofs.Outcomes.{over-is, rest-is}
 use borrow.Author.Needs.{needs}
 use Rattle.replies.proofs.finish.Statement.{statement}
 use Rattle.replies.proofs.finish.Tie as tie
-use Rattle.replies.proofs.finish.Reads as reads
-use Rattle.replies.proofs.finish.Lts as lts
-use Rattle.replies.proofs.reply_of.Reads as reply-of-reads
-use Rattle.replies.proofs.zero_work.Reads as zero-work-reads
-use Rattle.reset.proofs.zero_distances.Reads as zero-distances-reads
-use Rattle.reset.proofs.zero_words.Reads as zero-words-reads
 
 zero-work-requires : tie.Need-zero-work-requires
 zero-work-requires c κs = search needs

@@ -6,13 +6,6 @@ use Rattle.replies.proofs.Replying.{egress-in, rounds-below, no-way, so
 use borrow.Author.Needs.{needs}
 use Rattle.replies.proofs.reply_of.Statement.{statement}
 use Rattle.replies.proofs.reply_of.Tie as tie
-use Rattle.replies.proofs.reply_of.Reads as reads
-use Rattle.replies.proofs.reply_of.Lts as lts
-use Rattle.asking.proofs.egress_rows.Reads as egress-rows-reads
-use Rattle.reset.proofs.zero_words.Reads as zero-words-reads
-use Rattle.totals.proofs.best_target.Reads as best-target-reads
-use Rattle.totals.proofs.candidates.Reads as candidates-reads
-use Rattle.walk.proofs.tbr_max_rounds.Reads as tbr-max-rounds-reads
 
 egress-rows-requires : tie.Need-egress-rows-requires
 egress-rows-requires c κs = search needs

@@ -1,14 +1,10 @@
-use Prim.Native.Nat.{ℕ, _+_, _*_, _-_, _≤_, _<_}
+use Prim.Native.Nat.{_-_, _≤_}
 use native.Mathlib.Omega.{arith}
-use mathlib.Core.Path.{_≡_, refl, ap, sym, _∙_}
-use denote.Ref.{now}
-use lib.ListN.{length, getD, length-set}
+use mathlib.Core.Path.{_≡_}
 use Rattle.reset.specs.Fill.{Filled}
 use Rattle.reset.proofs.Filling.{filled-none, filled-again}
 use Rattle.reset.proofs.fill.Statement.{statement}
 use Rattle.reset.proofs.fill.Tie as tie
-use Rattle.reset.proofs.fill.Reads as reads
-use Rattle.reset.proofs.fill.Lts as lts
 
 abbrev Inv-loop : tie.InvT-loop
 Inv-loop words₀ from to v i₀ words i = (from ≤ i) × (i ≤ to) × Filled from i v words₀ words

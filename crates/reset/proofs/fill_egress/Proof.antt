@@ -3,10 +3,6 @@ use Rattle.reset.proofs.Filling.{egress-none, egress-from, sized-same}
 use borrow.Author.Needs.{needs}
 use Rattle.reset.proofs.fill_egress.Statement.{statement}
 use Rattle.reset.proofs.fill_egress.Tie as tie
-use Rattle.reset.proofs.fill_egress.Reads as reads
-use Rattle.reset.proofs.fill_egress.Lts as lts
-use Rattle.reset.proofs.clear.Reads as clear-reads
-use Rattle.reset.proofs.put_egresses.Reads as put-egresses-reads
 
 mul-rest : tie.Need-mul-rest
 mul-rest c = search needs

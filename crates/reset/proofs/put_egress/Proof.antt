@@ -1,15 +1,11 @@
-use Prim.Native.Nat.{ℕ, _+_, _*_, _-_, _≤_, _<_}
-use native.Mathlib.Omega.{arith}
-use mathlib.Core.Path.{_≡_, refl, ap, sym, _∙_}
+use Prim.Native.Nat.{ℕ, _+_, _-_}
+use mathlib.Core.Path.{ap}
 use denote.Ref.{now}
-use lib.ListN.{length, getD, set, replicate}
+use lib.ListN.{getD, set}
 use Rattle.scratch.specs.Places.{restAt}
 use borrow.Author.Needs.{needs}
 use Rattle.reset.proofs.put_egress.Statement.{statement}
 use Rattle.reset.proofs.put_egress.Tie as tie
-use Rattle.reset.proofs.put_egress.Reads as reads
-use Rattle.reset.proofs.put_egress.Lts as lts
-use Rattle.tables.proofs.field.Reads as field-reads
 
 mul-i : tie.Need-mul-i
 mul-i c = search needs

@@ -1,18 +1,13 @@
-use Prim.Native.Nat.{ℕ, _+_, _*_, _-_, _≤_, _<_}
+use Prim.Native.Nat.{_-_, _≤_, _<_}
 use native.Mathlib.Omega.{arith}
-use mathlib.Core.Path.{_≡_, refl, ap, sym, _∙_}
 use denote.Ref.{now}
-use lib.ListN.{length, getD, set, replicate}
-use lib.ListN.{length-set}
+use lib.ListN.{length}
 use Rattle.loops.specs.Count.{tabFrom}
 use Rattle.scratch.specs.Places.{WorkSized}
 use Rattle.reset.specs.Fill.{EgressRows, Egressed, egressAt}
 use Rattle.reset.proofs.Filling.{egress-again, sized-same, rows-end, all-rows}
 use Rattle.reset.proofs.put_egresses.Statement.{statement}
 use Rattle.reset.proofs.put_egresses.Tie as tie
-use Rattle.reset.proofs.put_egresses.Reads as reads
-use Rattle.reset.proofs.put_egresses.Lts as lts
-use Rattle.reset.proofs.put_egress.Reads as put-egress-reads
 
 abbrev Inv-loop : tie.InvT-loop
 Inv-loop lay q first n work₀ k₀ work k = (k ≤ n) × WorkSized lay (length work) × EgressRows lay q first n × Egressed (tabFrom (egressAt q first) k (n - k)) lay work₀ work

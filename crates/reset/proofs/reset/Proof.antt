@@ -1,18 +1,13 @@
-use Prim.Native.Nat.{ℕ, _+_, _*_, _-_, _≤_, _<_}
-use native.Mathlib.Omega.{arith}
-use mathlib.Core.Path.{_≡_, refl, ap, sym, _∙_}
+use Prim.Native.Nat.{ℕ, _-_}
+use mathlib.Core.Path.{ap, _∙_}
 use denote.Ref.{now}
-use lib.ListN.{length, getD, set, replicate}
+use lib.ListN.{replicate}
 use lib.Ieee.{Float}
 use Rattle.label.specs.Label.{noDistance}
 use Rattle.reset.proofs.Filling.{fresh}
 use borrow.Author.Needs.{needs}
 use Rattle.reset.proofs.reset.Statement.{statement}
 use Rattle.reset.proofs.reset.Tie as tie
-use Rattle.reset.proofs.reset.Reads as reads
-use Rattle.reset.proofs.reset.Lts as lts
-use Rattle.reset.proofs.fill.Reads as fill-reads
-use Rattle.reset.proofs.zero_all.Reads as zero-all-reads
 
 zero-all-requires : tie.Need-zero-all-requires
 zero-all-requires c κs = search needs

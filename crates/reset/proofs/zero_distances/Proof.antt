@@ -1,15 +1,12 @@
 use lib.Ieee
-use Prim.Native.Nat.{ℕ, _+_, _*_, _-_, _≤_, _<_}
+use Prim.Native.Nat.{ℕ, _-_, _≤_, _<_}
 use native.Mathlib.Omega.{arith}
-use mathlib.Core.Path.{_≡_, refl, ap, sym, _∙_}
-use denote.Ref.{now}
+use mathlib.Core.Path.{_≡_, refl, _∙_}
 use lib.ListN.{length, getD, length-set}
 use Rattle.label.specs.Label.{noDistance}
 use Rattle.reset.proofs.Filling.{all-same, one-more}
 use Rattle.reset.proofs.zero_distances.Statement.{statement}
 use Rattle.reset.proofs.zero_distances.Tie as tie
-use Rattle.reset.proofs.zero_distances.Reads as reads
-use Rattle.reset.proofs.zero_distances.Lts as lts
 
 abbrev Inv-loop : tie.InvT-loop
 Inv-loop distances₀ i₀ distances i = (i ≤ length distances₀) × (length distances ≡ length distances₀) × ((k : ℕ) → k < i → getD distances k noDistance ≡ noDistance)

@@ -1,15 +1,9 @@
-use Prim.Native.Nat.{ℕ, _+_, _*_, _-_, _≤_, _<_}
-use native.Mathlib.Omega.{arith}
-use mathlib.Core.Path.{_≡_, refl, ap, sym, _∙_}
+use Prim.Native.Nat.{_-_}
 use denote.Ref.{now}
-use lib.ListN.{length, getD, set, replicate}
 use Rattle.reset.proofs.Filling.{filled-all}
 use borrow.Author.Needs.{needs}
 use Rattle.reset.proofs.zero_words.Statement.{statement}
 use Rattle.reset.proofs.zero_words.Tie as tie
-use Rattle.reset.proofs.zero_words.Reads as reads
-use Rattle.reset.proofs.zero_words.Lts as lts
-use Rattle.reset.proofs.clear.Reads as clear-reads
 
 clear-requires : tie.Need-clear-requires
 clear-requires c κs = search needs

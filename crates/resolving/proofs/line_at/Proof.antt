@@ -4,9 +4,6 @@ use denote.Ref.{now}
 use borrow.Author.Needs.{needs}
 use Rattle.resolving.proofs.line_at.Statement.{statement}
 use Rattle.resolving.proofs.line_at.Tie as tie
-use Rattle.resolving.proofs.line_at.Reads as reads
-use Rattle.resolving.proofs.line_at.Lts as lts
-use Rattle.tables.proofs.field.Reads as field-reads
 
 returns : tie.Need-returns
 returns c = let s = c .before .before .before in ((omega arith, λ l. absurd (omega arith)), λ T n work e h. line-past T (s .args .c) n (now (s .args .built)) work e h (s .args .trip) (c .if1 .taken))

@@ -6,11 +6,6 @@ use denote.Ref.{now}
 use borrow.Author.Needs.{needs}
 use Rattle.resolving.proofs.resolve.Statement.{statement}
 use Rattle.resolving.proofs.resolve.Tie as tie
-use Rattle.resolving.proofs.resolve.Reads as reads
-use Rattle.resolving.proofs.resolve.Lts as lts
-use Rattle.resolving.proofs.line_at.Reads as line-at-reads
-use Rattle.resolving.proofs.resolve_alone.Reads as resolve-alone-reads
-use Rattle.resolving.proofs.resolve_line.Reads as resolve-line-reads
 
 line-at-requires : tie.Need-line-at-requires
 line-at-requires c κs = search needs

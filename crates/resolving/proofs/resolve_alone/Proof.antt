@@ -4,9 +4,6 @@ use mathlib.Core.Path.{sym, _∙_}
 use borrow.Author.Needs.{needs}
 use Rattle.resolving.proofs.resolve_alone.Statement.{statement}
 use Rattle.resolving.proofs.resolve_alone.Tie as tie
-use Rattle.resolving.proofs.resolve_alone.Reads as reads
-use Rattle.resolving.proofs.resolve_alone.Lts as lts
-use Rattle.resolving.proofs.try_trip.Reads as try-trip-reads
 
 returns : tie.Need-returns
 returns c = let s = c .before .before .before .before .before in λ T Q g q. alone-none T Q (s .args .is-fifo) (s .args .off) (s .args .after) (s .args .best) (s .args .target) (s .args .w .«line_scan») (q .lineScan) (c .if1 .taken)

@@ -1,4 +1,3 @@
-use denote.Ref.{now}
 use Rattle.model.specs.Search.{resolveIn}
 use borrow.Author.Needs.{needs}
 use Rattle.boarding.proofs.Laws.{left, left-end, left-first, left-step}
@@ -10,10 +9,6 @@ use Rattle.boarding.specs.Resolving.{TripsAt}
 use Rattle.boarding.specs.Reads.{Agree, Asks}
 use Rattle.resolving.proofs.resolve_in.Statement.{statement}
 use Rattle.resolving.proofs.resolve_in.Tie as tie
-use Rattle.resolving.proofs.resolve_in.Reads as reads
-use Rattle.resolving.proofs.resolve_in.Lts as lts
-use Rattle.resolving.proofs.try_trip.Reads as try-trip-reads
-use Rattle.tables.proofs.field.Reads as field-reads
 
 abbrev Inv-loop : tie.InvT-loop
 Inv-loop t c rows stop-rows built w is-fifo from k off after best j₀ j =

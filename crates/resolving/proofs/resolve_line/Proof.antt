@@ -7,19 +7,12 @@ use native.Mathlib.Nat.{min-le-left}
 use Prim.Native.Nat.{ℕ, _+_, _-_, _<_, min}
 use lib.ListN.{getD}
 use lib.Dec.{ltb, eqb}
-use mathlib.Core.Bool.{Bool, _&&_}
-use mathlib.Core.Path.{_≡_, sym, ap, ap₂, _∙_}
+use mathlib.Core.Bool.{_&&_}
+use mathlib.Core.Path.{_≡_, ap, ap₂, _∙_}
 use denote.Ref.{now}
 use borrow.Author.Needs.{needs}
 use Rattle.resolving.proofs.resolve_line.Statement.{statement}
 use Rattle.resolving.proofs.resolve_line.Tie as tie
-use Rattle.resolving.proofs.resolve_line.Reads as reads
-use Rattle.resolving.proofs.resolve_line.Lts as lts
-use Rattle.resolving.proofs.resolve_alone.Reads as resolve-alone-reads
-use Rattle.resolving.proofs.resolve_in.Reads as resolve-in-reads
-use Rattle.resolving.proofs.smaller.Reads as smaller-reads
-use Rattle.resolving.proofs.stands.Reads as stands-reads
-use Rattle.tables.proofs.field.Reads as field-reads
 
 add-field : tie.Need-add-field
 add-field c = search needs

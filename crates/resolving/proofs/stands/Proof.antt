@@ -8,9 +8,6 @@ use denote.Ref.{now}
 use borrow.Author.Needs.{needs}
 use Rattle.resolving.proofs.stands.Statement.{statement}
 use Rattle.resolving.proofs.stands.Tie as tie
-use Rattle.resolving.proofs.stands.Reads as reads
-use Rattle.resolving.proofs.stands.Lts as lts
-use Rattle.tables.proofs.field.Reads as field-reads
 
 returns : tie.Need-returns
 returns c = let s = c .before .before in sym (ap (λ (b : Bool). b && eqb (getD (now (s .args .built)) (s .args .first + s .args .p) 0) (s .args .target)) (le-ltb (s .args .p) (s .args .count) (c .if1 .taken)))

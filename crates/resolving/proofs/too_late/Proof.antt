@@ -3,11 +3,6 @@ use Rattle.boarding.proofs.Laws.{late-is}
 use borrow.Author.Needs.{needs}
 use Rattle.resolving.proofs.too_late.Statement.{statement}
 use Rattle.resolving.proofs.too_late.Tie as tie
-use Rattle.resolving.proofs.too_late.Reads as reads
-use Rattle.resolving.proofs.too_late.Lts as lts
-use Rattle.boarding.proofs.event_word.Reads as event-word-reads
-use Rattle.door.proofs.both.Reads as both-reads
-use Rattle.tables.proofs.trip.Reads as trip-reads
 
 event-word-requires : tie.Need-event-word-requires
 event-word-requires c κs = search needs

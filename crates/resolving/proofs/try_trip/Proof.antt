@@ -7,14 +7,6 @@ use mathlib.Core.Path.{_∙_, sym}
 use borrow.Author.Needs.{needs}
 use Rattle.resolving.proofs.try_trip.Statement.{statement}
 use Rattle.resolving.proofs.try_trip.Tie as tie
-use Rattle.resolving.proofs.try_trip.Reads as reads
-use Rattle.resolving.proofs.try_trip.Lts as lts
-use Rattle.boarding.proofs.barred.Reads as barred-reads
-use Rattle.boarding.proofs.board_at.Reads as board-at-reads
-use Rattle.boarding.proofs.delay_of.Reads as delay-of-reads
-use Rattle.resolving.proofs.too_late.Reads as too-late-reads
-use Rattle.resolving.proofs.weigh.Reads as weigh-reads
-use Rattle.tables.proofs.trip.Reads as trip-reads
 
 returns : tie.Need-returns
 returns c = let s = c .before .before .before .before .before in λ T Q g q. tried-unknown T Q (s .args .is-fifo) (s .args .off) (s .args .after) (s .args .best) (s .args .trip) (has-not T Q (s .args .is-fifo) (s .args .off) (s .args .after) (s .args .best) (s .args .trip) (now (s .args .t)) (s .args .c) (g .timetable) (c .if1 .taken))

@@ -2,8 +2,6 @@ use Rattle.boarding.proofs.Laws.{weigh-take, weigh-stop, weigh-next}
 use borrow.Author.Needs.{needs}
 use Rattle.resolving.proofs.weigh.Statement.{statement}
 use Rattle.resolving.proofs.weigh.Tie as tie
-use Rattle.resolving.proofs.weigh.Reads as reads
-use Rattle.resolving.proofs.weigh.Lts as lts
 
 enum-known-b : tie.Need-enum-known-b
 enum-known-b c = search needs

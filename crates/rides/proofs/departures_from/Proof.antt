@@ -6,13 +6,8 @@ use lib.ListN.{length}
 use mathlib.Core.List.{List}
 use mathlib.Core.Path.{subst, sym}
 use Prim.Native.Nat.{ℕ, _/_}
-use borrow.Author.Needs.{needs}
 use Rattle.rides.proofs.departures_from.Statement.{statement}
 use Rattle.rides.proofs.departures_from.Tie as tie
-use Rattle.rides.proofs.departures_from.Reads as reads
-use Rattle.rides.proofs.departures_from.Lts as lts
-use Rattle.listed.proofs.departures_at.Reads as departures-at-reads
-use Rattle.listed.proofs.not_before.Reads as not-before-reads
 
 departures-at-requires : tie.Need-departures-at-requires
 departures-at-requires c κs = let a = c .before .before in (a .pre .0, (a .pre .1 .0, (a .pre .1 .1 .0, a .pre .1 .1 .1 .0)))

@@ -4,9 +4,6 @@ use mathlib.Core.Path.{ap}
 use borrow.Author.Needs.{needs}
 use Rattle.rides.proofs.marked.Statement.{statement}
 use Rattle.rides.proofs.marked.Tie as tie
-use Rattle.rides.proofs.marked.Reads as reads
-use Rattle.rides.proofs.marked.Lts as lts
-use Rattle.tables.proofs.field.Reads as field-reads
 
 mul-at : tie.Need-mul-at
 mul-at c = search needs

@@ -3,11 +3,6 @@ use mathlib.Core.Path.{_∙_, sym}
 use borrow.Author.Needs.{needs}
 use Rattle.rides.proofs.ride_phase.Statement.{statement}
 use Rattle.rides.proofs.ride_phase.Tie as tie
-use Rattle.rides.proofs.ride_phase.Reads as reads
-use Rattle.rides.proofs.ride_phase.Lts as lts
-use Rattle.segments.proofs.ride_segments.Reads as ride-segments-reads
-use Rattle.rides.proofs.ridden.Reads as ridden-reads
-use Rattle.rides.proofs.scan_stops.Reads as scan-stops-reads
 
 ridden-requires : tie.Need-ridden-requires
 ridden-requires c κs = search needs

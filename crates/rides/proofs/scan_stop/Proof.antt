@@ -6,12 +6,6 @@ use Prim.Native.Nat.{_-_}
 use borrow.Author.Needs.{needs}
 use Rattle.rides.proofs.scan_stop.Statement.{statement}
 use Rattle.rides.proofs.scan_stop.Tie as tie
-use Rattle.rides.proofs.scan_stop.Reads as reads
-use Rattle.rides.proofs.scan_stop.Lts as lts
-use Rattle.rides.proofs.departures_from.Reads as departures-from-reads
-use Rattle.rides.proofs.less.Reads as less-reads
-use Rattle.rides.proofs.marked.Reads as marked-reads
-use Rattle.departure_scan.proofs.scan_departures.Reads as scan-departures-reads
 
 mul-after : tie.Need-mul-after
 mul-after c = search needs

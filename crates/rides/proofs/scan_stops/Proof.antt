@@ -14,9 +14,6 @@ use Rattle.riding.proofs.Riding.{Riding, ride-end, ride-over, ride-start, ride-
 use Rattle.riding.specs.Going.{Changing}
 use Rattle.rides.proofs.scan_stops.Statement.{statement}
 use Rattle.rides.proofs.scan_stops.Tie as tie
-use Rattle.rides.proofs.scan_stops.Reads as reads
-use Rattle.rides.proofs.scan_stops.Lts as lts
-use Rattle.rides.proofs.scan_stop.Reads as scan-stop-reads
 
 abbrev Inv-loop : tie.InvT-loop
 Inv-loop t rows stop-rows built bytes area p count work₀ labels₀ distances₀ queue₀ g₀ i₀ work labels distances queue g i =

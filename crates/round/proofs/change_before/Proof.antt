@@ -1,8 +1,6 @@
 use Rattle.round.proofs.Tests.{change-first, change-later}
 use Rattle.round.proofs.change_before.Statement.{statement}
 use Rattle.round.proofs.change_before.Tie as tie
-use Rattle.round.proofs.change_before.Reads as reads
-use Rattle.round.proofs.change_before.Lts as lts
 
 returns : tie.Need-returns
 returns c = let x = c .before .args in λ Q e. change-first Q (x .r) (c .if1 .taken)

@@ -3,11 +3,6 @@ use Rattle.round.proofs.Opening.{opening, two-more, walk-ground, walker
 use borrow.Author.Needs.{needs}
 use Rattle.round.proofs.round.Statement.{statement}
 use Rattle.round.proofs.round.Tie as tie
-use Rattle.round.proofs.round.Reads as reads
-use Rattle.round.proofs.round.Lts as lts
-use Rattle.rides.proofs.ride_phase.Reads as ride-phase-reads
-use Rattle.round.proofs.change_before.Reads as change-before-reads
-use Rattle.walks.proofs.walk_phase.Reads as walk-phase-reads
 
 add-stamp : tie.Need-add-stamp
 add-stamp c = search needs

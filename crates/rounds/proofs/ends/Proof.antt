@@ -2,9 +2,6 @@ use Rattle.round.proofs.Tests.{or-rest}
 use borrow.Author.Needs.{needs}
 use Rattle.rounds.proofs.ends.Statement.{statement}
 use Rattle.rounds.proofs.ends.Tie as tie
-use Rattle.rounds.proofs.ends.Reads as reads
-use Rattle.rounds.proofs.ends.Lts as lts
-use Rattle.rounds.proofs.idle.Reads as idle-reads
 
 returns : tie.Need-returns
 returns c = search needs

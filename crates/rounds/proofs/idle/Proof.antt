@@ -1,8 +1,6 @@
 use Rattle.round.proofs.Tests.{idle-flagged, idle-not, idle-plain}
 use Rattle.rounds.proofs.idle.Statement.{statement}
 use Rattle.rounds.proofs.idle.Tie as tie
-use Rattle.rounds.proofs.idle.Reads as reads
-use Rattle.rounds.proofs.idle.Lts as lts
 
 returns : tie.Need-returns
 returns c = let x = c .before .before .args in idle-not (x .flagged) (x .h .count) (x .h .queued) (c .if1 .taken)

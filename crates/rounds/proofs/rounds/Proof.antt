@@ -11,13 +11,6 @@ use Rattle.rounds.proofs.Loop.{ended-early, ended-last, fed-of, loop-op
 use native.Mathlib.Omega.{arith}
 use Rattle.rounds.proofs.rounds.Statement.{statement}
 use Rattle.rounds.proofs.rounds.Tie as tie
-use Rattle.rounds.proofs.rounds.Reads as reads
-use Rattle.rounds.proofs.rounds.Lts as lts
-use Rattle.asking.proofs.delay_rows.Reads as delay-rows-reads
-use Rattle.asking.proofs.stop_rows.Reads as stop-rows-reads
-use Rattle.rounds.proofs.ends.Reads as ends-reads
-use Rattle.rounds.proofs.turn.Reads as turn-reads
-use Rattle.walk.proofs.tbr_max_rounds.Reads as tbr-max-rounds-reads
 
 abbrev Inv-loop : tie.InvT-loop
 Inv-loop n t built transfers patterns distances q net flagged lay work₀ labels₀ metres₀ queue-a₀ queue-b₀ rows stop-rows change limit g₀ even₀ r₀ work labels metres queue-a queue-b g even r =

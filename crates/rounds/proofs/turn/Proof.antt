@@ -3,9 +3,6 @@ use Rattle.rounds.proofs.Loop.{even-close, even-open, odd-close, odd-op
 use borrow.Author.Needs.{needs}
 use Rattle.rounds.proofs.turn.Statement.{statement}
 use Rattle.rounds.proofs.turn.Tie as tie
-use Rattle.rounds.proofs.turn.Reads as reads
-use Rattle.rounds.proofs.turn.Lts as lts
-use Rattle.round.proofs.round.Reads as round-reads
 
 round-requires : tie.Need-round-requires
 round-requires c κs = let x = c .before .before .before .before .before .before .before .before .before .before .before .before .before .before .before .before .before .before .args in let qa = now (x .queue-a) in let qb = now (x .queue-b) in even-open qa qb (x .even) (c .before .before .before .before .before .if1 .taken) (c .before .before .before .before .before .before .before .before .before .before .before .before .before .before .before .before .before .before .pre)

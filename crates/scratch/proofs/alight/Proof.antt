@@ -11,11 +11,6 @@ use Rattle.scratch.proofs.Steps.{step-as}
 use borrow.Author.Needs.{needs}
 use Rattle.scratch.proofs.alight.Statement.{statement}
 use Rattle.scratch.proofs.alight.Tie as tie
-use Rattle.scratch.proofs.alight.Reads as reads
-use Rattle.scratch.proofs.alight.Lts as lts
-use Rattle.scratch.proofs.relax.Reads as relax-reads
-use Rattle.tables.proofs.time.Reads as time-reads
-use Rattle.tables.proofs.trip.Reads as trip-reads
 
 cast-trip : tie.Need-cast-trip
 cast-trip c = search needs

@@ -2,8 +2,6 @@ use Rattle.scratch.proofs.Steps.{best-none, best-less, best-more}
 use borrow.Author.Needs.{needs}
 use Rattle.scratch.proofs.best_after.Statement.{statement}
 use Rattle.scratch.proofs.best_after.Tie as tie
-use Rattle.scratch.proofs.best_after.Reads as reads
-use Rattle.scratch.proofs.best_after.Lts as lts
 
 returns : tie.Need-returns
 returns c = best-none _ _ _ (c .if1 .taken)

@@ -4,11 +4,6 @@ use Rattle.scratch.proofs.Queue.{queue-not, queue-full, queue-put}
 use borrow.Author.Needs.{needs}
 use Rattle.scratch.proofs.enqueue.Statement.{statement}
 use Rattle.scratch.proofs.enqueue.Tie as tie
-use Rattle.scratch.proofs.enqueue.Reads as reads
-use Rattle.scratch.proofs.enqueue.Lts as lts
-use Rattle.door.proofs.both.Reads as both-reads
-use Rattle.scratch.proofs.lower.Reads as lower-reads
-use Rattle.scratch.proofs.put_segment.Reads as put-segment-reads
 
 mul-at : tie.Need-mul-at
 mul-at c = search needs

@@ -5,8 +5,6 @@ use Rattle.scratch.proofs.Marking.{entered}
 use borrow.Author.Needs.{needs}
 use Rattle.scratch.proofs.enter.Statement.{statement}
 use Rattle.scratch.proofs.enter.Tie as tie
-use Rattle.scratch.proofs.enter.Reads as reads
-use Rattle.scratch.proofs.enter.Lts as lts
 
 add-at : tie.Need-add-at
 add-at c = search needs

@@ -4,11 +4,6 @@ use Rattle.scratch.proofs.Steps.{improve-is}
 use borrow.Author.Needs.{needs}
 use Rattle.scratch.proofs.improve.Statement.{statement}
 use Rattle.scratch.proofs.improve.Tie as tie
-use Rattle.scratch.proofs.improve.Reads as reads
-use Rattle.scratch.proofs.improve.Lts as lts
-use Rattle.label_table.proofs.store_label.Reads as store-label-reads
-use Rattle.scratch.proofs.best_after.Reads as best-after-reads
-use Rattle.scratch.proofs.mark.Reads as mark-reads
 
 mul-at : tie.Need-mul-at
 mul-at c = search needs

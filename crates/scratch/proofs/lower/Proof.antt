@@ -2,8 +2,6 @@ use Rattle.scratch.proofs.Queue.{pick-no, pick-yes}
 use borrow.Author.Needs.{needs}
 use Rattle.scratch.proofs.lower.Statement.{statement}
 use Rattle.scratch.proofs.lower.Tie as tie
-use Rattle.scratch.proofs.lower.Reads as reads
-use Rattle.scratch.proofs.lower.Lts as lts
 
 returns : tie.Need-returns
 returns c = pick-no (c .before .args .plain) _ _ (c .if1 .taken)

@@ -4,9 +4,6 @@ use Rattle.scratch.proofs.Marking.{mark-room, mark-seen, mark-new}
 use borrow.Author.Needs.{needs}
 use Rattle.scratch.proofs.mark.Statement.{statement}
 use Rattle.scratch.proofs.mark.Tie as tie
-use Rattle.scratch.proofs.mark.Reads as reads
-use Rattle.scratch.proofs.mark.Lts as lts
-use Rattle.scratch.proofs.enter.Reads as enter-reads
 
 add-at : tie.Need-add-at
 add-at c = search needs

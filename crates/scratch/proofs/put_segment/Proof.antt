@@ -5,8 +5,6 @@ use Rattle.scratch.specs.View.{putSegment}
 use borrow.Author.Needs.{needs}
 use Rattle.scratch.proofs.put_segment.Statement.{statement}
 use Rattle.scratch.proofs.put_segment.Tie as tie
-use Rattle.scratch.proofs.put_segment.Reads as reads
-use Rattle.scratch.proofs.put_segment.Lts as lts
 
 mul-at : tie.Need-mul-at
 mul-at c = search needs

@@ -3,9 +3,6 @@ use Rattle.scratch.proofs.Steps.{relax-late, relax-go}
 use borrow.Author.Needs.{needs}
 use Rattle.scratch.proofs.relax.Statement.{statement}
 use Rattle.scratch.proofs.relax.Tie as tie
-use Rattle.scratch.proofs.relax.Reads as reads
-use Rattle.scratch.proofs.relax.Lts as lts
-use Rattle.scratch.proofs.improve.Reads as improve-reads
 
 mul-if1 : tie.Need-mul-if1
 mul-if1 c = search needs

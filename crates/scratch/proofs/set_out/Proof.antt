@@ -4,12 +4,6 @@ use Rattle.scratch.proofs.Starts.{start-late, start-early}
 use borrow.Author.Needs.{needs}
 use Rattle.scratch.proofs.set_out.Statement.{statement}
 use Rattle.scratch.proofs.set_out.Tie as tie
-use Rattle.scratch.proofs.set_out.Reads as reads
-use Rattle.scratch.proofs.set_out.Lts as lts
-use Rattle.label_table.proofs.record_of.Reads as record-of-reads
-use Rattle.label_table.proofs.store_label.Reads as store-label-reads
-use Rattle.scratch.proofs.best_after.Reads as best-after-reads
-use Rattle.scratch.proofs.enter.Reads as enter-reads
 
 add-v : tie.Need-add-v
 add-v c = search needs

@@ -8,10 +8,6 @@ use Rattle.scratch.proofs.Queue.{queue-step, queue-then}
 use borrow.Author.Needs.{needs}
 use Rattle.scratch.proofs.transfer.Statement.{statement}
 use Rattle.scratch.proofs.transfer.Tie as tie
-use Rattle.scratch.proofs.transfer.Reads as reads
-use Rattle.scratch.proofs.transfer.Lts as lts
-use Rattle.scratch.proofs.enqueue.Reads as enqueue-reads
-use Rattle.scratch.proofs.relax.Reads as relax-reads
 
 sub-t16 : tie.Need-sub-t16
 sub-t16 c = search needs

@@ -9,11 +9,6 @@ use Rattle.search.proofs.Given.{transferring, runs-in, mode-rust, mode-
 use borrow.Author.Needs.{needs}
 use Rattle.search.proofs.in_use.Statement.{statement}
 use Rattle.search.proofs.in_use.Tie as tie
-use Rattle.search.proofs.in_use.Reads as reads
-use Rattle.search.proofs.in_use.Lts as lts
-use Rattle.asking.proofs.transfer_runs.Reads as transfer-runs-reads
-use Rattle.flags.proofs.flags_in_use.Reads as flags-in-use-reads
-use Rattle.flags.proofs.use_arc_flags.Reads as use-arc-flags-reads
 
 use-arc-flags-requires : tie.Need-use-arc-flags-requires
 use-arc-flags-requires c κs = search needs

@@ -7,14 +7,6 @@ use Rattle.search.proofs.Given.{flagging, askable, lends, sized-at, sta
 use borrow.Author.Needs.{needs}
 use Rattle.search.proofs.search.Statement.{statement}
 use Rattle.search.proofs.search.Tie as tie
-use Rattle.search.proofs.search.Reads as reads
-use Rattle.search.proofs.search.Lts as lts
-use Rattle.begin.proofs.begin.Reads as begin-reads
-use Rattle.begin.proofs.lay_of.Reads as lay-of-reads
-use Rattle.begin.proofs.net_of.Reads as net-of-reads
-use Rattle.search.proofs.in_use.Reads as in-use-reads
-use Rattle.rounds.proofs.rounds.Reads as rounds-reads
-use Rattle.tables.proofs.field.Reads as field-reads
 
 lay-of-requires : tie.Need-lay-of-requires
 lay-of-requires c κs = c .before .before .before .before .before .before .before .before .before .before .before .pre .admitted .limits

@@ -6,12 +6,6 @@ use Prim.Native.Nat.{_-_}
 use borrow.Author.Needs.{needs}
 use Rattle.segments.proofs.ride_segment.Statement.{statement}
 use Rattle.segments.proofs.ride_segment.Tie as tie
-use Rattle.segments.proofs.ride_segment.Reads as reads
-use Rattle.segments.proofs.ride_segment.Lts as lts
-use Rattle.boarding.proofs.delay_of.Reads as delay-of-reads
-use Rattle.boarding.proofs.permitted.Reads as permitted-reads
-use Rattle.segments.proofs.ride_of.Reads as ride-of-reads
-use Rattle.trip_scan.proofs.scan_trip_forward.Reads as scan-trip-forward-reads
 
 ride-of-requires : tie.Need-ride-of-requires
 ride-of-requires c κs = let a = c .before .before .before .before .before .before .before .before .before .before .before in omega (arith, a .pre .1 .room)

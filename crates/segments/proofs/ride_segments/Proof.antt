@@ -12,9 +12,6 @@ use Rattle.riding.proofs.Riding.{Riding, ride-end, ride-over, ride-start, ride-
 use Rattle.riding.specs.Laid.{Rides}
 use Rattle.segments.proofs.ride_segments.Statement.{statement}
 use Rattle.segments.proofs.ride_segments.Tie as tie
-use Rattle.segments.proofs.ride_segments.Reads as reads
-use Rattle.segments.proofs.ride_segments.Lts as lts
-use Rattle.segments.proofs.ride_segment.Reads as ride-segment-reads
 
 abbrev Inv-loop : tie.InvT-loop
 Inv-loop t rows stop-rows built bytes area p m from work₀ labels₀ distances₀ queue₀ g₀ k₀ work labels distances queue g k =

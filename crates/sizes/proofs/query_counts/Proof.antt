@@ -4,10 +4,6 @@ use Rattle.sizes.specs.Counts.{gathered}
 use borrow.Author.Needs.{needs}
 use Rattle.sizes.proofs.query_counts.Statement.{statement}
 use Rattle.sizes.proofs.query_counts.Tie as tie
-use Rattle.sizes.proofs.query_counts.Reads as reads
-use Rattle.sizes.proofs.query_counts.Lts as lts
-use Rattle.sizes.proofs.counts.Reads as counts-reads
-use Rattle.sizes.proofs.gather.Reads as gather-reads
 
 counts-requires : tie.Need-counts-requires
 counts-requires c κs = search needs

@@ -3,10 +3,8 @@ use lib.Dec.{leb}
 use mathlib.Core.Path.{ap₂, _∙_}
 use denote.Ref.{now}
 use Rattle.tables.specs.Door.{edgeRises}
-use Rattle.tables.specs.Tables.{edgeOf}
-use native.Mathlib.Omega.{arith}
-use mathlib.Core.Path.{_≡_, ap, sym}
-use Prim.Native.Nat.{_-_, suc, ℕ}
+use mathlib.Core.Path.{ap, sym}
+use Prim.Native.Nat.{_-_, ℕ}
 use borrow.Author.Needs.{needs}
 use Rattle.tables.proofs.edge_rises.Statement.{statement}
 use Rattle.tables.proofs.edge_rises.Tie as tie

@@ -4,17 +4,13 @@ use Rattle.flags.specs.Flags.{egressRows}
 use Rattle.model.specs.Search.{Arrivals, bestTarget}
 use Rattle.model.specs.Tables.{Tables, Query, never}
 use lib.ListN.{length, getD}
-use Prim.Native.Nat.{ℕ, _+_, _*_, _-_, _/_, _<_}
+use Prim.Native.Nat.{ℕ, _-_, _/_}
 use mathlib.Core.Path.{_≡_, refl, sym, ap, ap₂, _∙_}
 use native.Mathlib.Omega.{arith}
 use borrow.Author.Needs.{needs}
 use denote.Ref.{now}
 use Rattle.totals.proofs.best_target.Statement.{statement}
 use Rattle.totals.proofs.best_target.Tie as tie
-use Rattle.totals.proofs.best_target.Reads as reads
-use Rattle.totals.proofs.best_target.Lts as lts
-use Rattle.totals.proofs.with_stop.Reads as with-stop-reads
-use Rattle.totals.proofs.word.Reads as word-reads
 
 abbrev Inv-loop : tie.InvT-loop
 Inv-loop work stops egress n total₀ stop₀ i₀ total stop i =

@@ -2,8 +2,6 @@ use Rattle.totals.proofs.Laws.{better-less, better-not}
 use Rattle.totals.specs.Totals.{targetOf}
 use Rattle.totals.proofs.better.Statement.{statement}
 use Rattle.totals.proofs.better.Tie as tie
-use Rattle.totals.proofs.better.Reads as reads
-use Rattle.totals.proofs.better.Lts as lts
 
 returns : tie.Need-returns
 returns c = let s = c .before .before in better-less (targetOf (s .args .best)) (s .args .total) (s .args .stop) (c .if1 .taken)

@@ -7,19 +7,13 @@ use Rattle.model.specs.Tables.{Tables, Query, never}
 use lib.ListN.{length}
 use Prim.Native.Nat.{ℕ, suc, _+_, _-_, _≤_}
 use mathlib.Core.List.{List, _++_}
-use mathlib.Core.Path.{_≡_, refl, sym, ap, _∙_}
+use mathlib.Core.Path.{_≡_, sym, ap, _∙_}
 use borrow.Author.Tests.{not-true, not-false}
 use native.Mathlib.Omega.{arith}
 use borrow.Author.Needs.{needs}
 use denote.Ref.{now}
 use Rattle.totals.proofs.candidates.Statement.{statement}
 use Rattle.totals.proofs.candidates.Tie as tie
-use Rattle.totals.proofs.candidates.Reads as reads
-use Rattle.totals.proofs.candidates.Lts as lts
-use Rattle.totals.proofs.clear.Reads as clear-reads
-use Rattle.totals.proofs.put_candidate.Reads as put-candidate-reads
-use Rattle.totals.proofs.row_target.Reads as row-target-reads
-use Rattle.totals.proofs.taken.Reads as taken-reads
 
 abbrev Inv-loop : tie.InvT-loop
 Inv-loop labels distances stops egress top slack rounds out₀ last₀ m₀ row₀ out last m row =

@@ -6,8 +6,6 @@ use mathlib.Core.Path.{_≡_, refl}
 use native.Mathlib.Omega.{arith}
 use Rattle.totals.proofs.clear.Statement.{statement}
 use Rattle.totals.proofs.clear.Tie as tie
-use Rattle.totals.proofs.clear.Reads as reads
-use Rattle.totals.proofs.clear.Lts as lts
 
 abbrev Inv-loop : tie.InvT-loop
 Inv-loop out₀ i₀ out i = (i ≤ length out) × (length out ≡ length out₀) × ((k : ℕ) → k < i → getD out k 0 ≡ 0)

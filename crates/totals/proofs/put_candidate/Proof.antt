@@ -5,8 +5,6 @@ use denote.Ref.{now}
 use borrow.Author.Needs.{needs}
 use Rattle.totals.proofs.put_candidate.Statement.{statement}
 use Rattle.totals.proofs.put_candidate.Tie as tie
-use Rattle.totals.proofs.put_candidate.Reads as reads
-use Rattle.totals.proofs.put_candidate.Lts as lts
 
 mul-at : tie.Need-mul-at
 mul-at c = search needs

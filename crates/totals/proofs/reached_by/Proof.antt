@@ -5,8 +5,6 @@ use native.Mathlib.Omega.{arith}
 use borrow.Author.Needs.{needs}
 use Rattle.totals.proofs.reached_by.Statement.{statement}
 use Rattle.totals.proofs.reached_by.Tie as tie
-use Rattle.totals.proofs.reached_by.Reads as reads
-use Rattle.totals.proofs.reached_by.Lts as lts
 
 enum-told : tie.Need-enum-told
 enum-told c = search needs

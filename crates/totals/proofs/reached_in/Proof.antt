@@ -6,11 +6,6 @@ use denote.Ref.{now}
 use borrow.Author.Needs.{needs}
 use Rattle.totals.proofs.reached_in.Statement.{statement}
 use Rattle.totals.proofs.reached_in.Tie as tie
-use Rattle.totals.proofs.reached_in.Reads as reads
-use Rattle.totals.proofs.reached_in.Lts as lts
-use Rattle.label_table.proofs.load_label.Reads as load-label-reads
-use Rattle.label_table.proofs.record_of.Reads as record-of-reads
-use Rattle.totals.proofs.reached_by.Reads as reached-by-reads
 
 record-of-requires : tie.Need-record-of-requires
 record-of-requires c κs = search needs

@@ -5,17 +5,12 @@ use Rattle.model.specs.Search.{Arrivals, rowTarget, reachedBy}
 use Rattle.model.specs.Tables.{Tables, Query, never}
 use Rattle.label_table.specs.Table.{recordOf, loaded}
 use lib.ListN.{length}
-use Prim.Native.Nat.{ℕ, _+_, _*_, _-_, _/_, _<_}
+use Prim.Native.Nat.{ℕ, _-_, _/_}
 use mathlib.Core.Path.{_≡_, refl, sym, ap, ap₂, _∙_}
 use native.Mathlib.Omega.{arith}
 use denote.Ref.{now}
 use Rattle.totals.proofs.row_target.Statement.{statement}
 use Rattle.totals.proofs.row_target.Tie as tie
-use Rattle.totals.proofs.row_target.Reads as reads
-use Rattle.totals.proofs.row_target.Lts as lts
-use Rattle.totals.proofs.reached_in.Reads as reached-in-reads
-use Rattle.totals.proofs.with_reach.Reads as with-reach-reads
-use Rattle.totals.proofs.word.Reads as word-reads
 
 abbrev Inv-loop : tie.InvT-loop
 Inv-loop labels distances stops egress row n total₀ stop₀ i₀ total stop i =

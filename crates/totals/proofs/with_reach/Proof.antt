@@ -3,9 +3,6 @@ use Rattle.totals.specs.Totals.{targetOf}
 use borrow.Author.Needs.{needs}
 use Rattle.totals.proofs.with_reach.Statement.{statement}
 use Rattle.totals.proofs.with_reach.Tie as tie
-use Rattle.totals.proofs.with_reach.Reads as reads
-use Rattle.totals.proofs.with_reach.Lts as lts
-use Rattle.totals.proofs.better.Reads as better-reads
 
 returns : tie.Need-returns
 returns c = let s = c .before in reach-none (targetOf (s .args .best)) (s .args .x) (s .args .stop) (s .args .walk) (c .if1 .taken)

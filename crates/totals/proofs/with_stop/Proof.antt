@@ -8,9 +8,6 @@ use native.Mathlib.Omega.{arith}
 use borrow.Author.Needs.{needs}
 use Rattle.totals.proofs.with_stop.Statement.{statement}
 use Rattle.totals.proofs.with_stop.Tie as tie
-use Rattle.totals.proofs.with_stop.Reads as reads
-use Rattle.totals.proofs.with_stop.Lts as lts
-use Rattle.totals.proofs.better.Reads as better-reads
 
 returns : tie.Need-returns
 returns c = let s = c .before in stop-never (targetOf (s .args .best)) (s .args .v) (s .args .stop) (s .args .walk) (c .if1 .taken)

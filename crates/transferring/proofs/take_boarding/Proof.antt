@@ -6,11 +6,6 @@ use denote.Ref.{now}
 use borrow.Author.Needs.{needs}
 use Rattle.transferring.proofs.take_boarding.Statement.{statement}
 use Rattle.transferring.proofs.take_boarding.Tie as tie
-use Rattle.transferring.proofs.take_boarding.Reads as reads
-use Rattle.transferring.proofs.take_boarding.Lts as lts
-use Rattle.scratch.proofs.transfer.Reads as transfer-reads
-use Rattle.tables.proofs.time.Reads as time-reads
-use Rattle.tables.proofs.trip.Reads as trip-reads
 
 trip-requires : tie.Need-trip-requires
 trip-requires c κs = let a = c .before .before .before .before .before in let g = a .pre .0 .sane in (g .counts, (g .slices, (a .pre .1 .0 .trip-in, omega arith)))

@@ -13,12 +13,6 @@ use Prim.Native.Nat.{ℕ}
 use borrow.Author.Needs.{needs}
 use Rattle.transferring.proofs.take_event.Statement.{statement}
 use Rattle.transferring.proofs.take_event.Tie as tie
-use Rattle.transferring.proofs.take_event.Reads as reads
-use Rattle.transferring.proofs.take_event.Lts as lts
-use Rattle.tables.proofs.field.Reads as field-reads
-use Rattle.tables.proofs.time.Reads as time-reads
-use Rattle.tables.proofs.trip.Reads as trip-reads
-use Rattle.transferring.proofs.take_transfers.Reads as take-transfers-reads
 
 cast-trip : tie.Need-cast-trip
 cast-trip c = let a = c .before .before .before .before .before .before .before .before .before .before .before in omega (arith, a .pre .1 .0 .trip, a .pre .0 .ground .sane .counts .trips)

@@ -9,12 +9,6 @@ use Prim.Native.Nat.{_+_}
 use borrow.Author.Needs.{needs}
 use Rattle.transferring.proofs.take_transfer.Statement.{statement}
 use Rattle.transferring.proofs.take_transfer.Tie as tie
-use Rattle.transferring.proofs.take_transfer.Reads as reads
-use Rattle.transferring.proofs.take_transfer.Lts as lts
-use Rattle.resolving.proofs.resolve.Reads as resolve-reads
-use Rattle.flags.proofs.holds_target.Reads as holds-target-reads
-use Rattle.tables.proofs.field.Reads as field-reads
-use Rattle.transferring.proofs.take_boarding.Reads as take-boarding-reads
 
 mul-at : tie.Need-mul-at
 mul-at c = let r = c .before .before .before .before .before .before .before .before .before .before .pre .1 .0 in omega (arith, r .near, r .inside)

@@ -11,9 +11,6 @@ use Rattle.alighting.specs.Scan.{Nets}
 use native.Mathlib.Omega.{arith}
 use Rattle.transferring.proofs.take_transfers.Statement.{statement}
 use Rattle.transferring.proofs.take_transfers.Tie as tie
-use Rattle.transferring.proofs.take_transfers.Reads as reads
-use Rattle.transferring.proofs.take_transfers.Lts as lts
-use Rattle.transferring.proofs.take_transfer.Reads as take-transfer-reads
 
 abbrev Inv-loop : tie.InvT-loop
 Inv-loop t rows stop-rows built bytes area s v from first n work₀ labels₀ distances₀ queue₀ x₀ j₀ work labels distances queue x j =

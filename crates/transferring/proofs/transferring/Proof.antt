@@ -14,12 +14,6 @@ use native.Mathlib.Omega.{arith}
 use denote.Ref.{now}
 use Rattle.transferring.proofs.transferring.Statement.{statement}
 use Rattle.transferring.proofs.transferring.Tie as tie
-use Rattle.transferring.proofs.transferring.Reads as reads
-use Rattle.transferring.proofs.transferring.Lts as lts
-use Rattle.boarding.proofs.arrival_now.Reads as arrival-now-reads
-use Rattle.tables.proofs.trip.Reads as trip-reads
-use Rattle.alighting.proofs.shut.Reads as shut-reads
-use Rattle.transferring.proofs.take_event.Reads as take-event-reads
 
 abbrev Inv-loop : tie.InvT-loop
 Inv-loop t rows stop-rows built bytes area s p work₀ labels₀ distances₀ queue₀ trip adj n x₀ o₀ work labels distances queue x o =

@@ -3,9 +3,6 @@ use mathlib.Core.Path.{sym}
 use borrow.Author.Needs.{needs}
 use Rattle.transfers.proofs.build.Statement.{statement}
 use Rattle.transfers.proofs.build.Tie as tie
-use Rattle.transfers.proofs.build.Reads as reads
-use Rattle.transfers.proofs.build.Lts as lts
-use Rattle.transfers.proofs.build_in.Reads as build-in-reads
 
 slice-relend-prefix-build-in : tie.Need-slice-relend-prefix-build-in
 slice-relend-prefix-build-in c = search needs

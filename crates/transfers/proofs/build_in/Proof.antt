@@ -5,12 +5,6 @@ use mathlib.Core.Path.{_∙_}
 use borrow.Author.Needs.{needs}
 use Rattle.transfers.proofs.build_in.Statement.{statement}
 use Rattle.transfers.proofs.build_in.Tie as tie
-use Rattle.transfers.proofs.build_in.Reads as reads
-use Rattle.transfers.proofs.build_in.Lts as lts
-use Rattle.departures.proofs.sort_stops.Reads as sort-stops-reads
-use Rattle.line_transfers.proofs.line_ends.Reads as line-ends-reads
-use Rattle.transfers.proofs.pack_lines.Reads as pack-lines-reads
-use Rattle.transfers.proofs.settle.Reads as settle-reads
 
 pack-lines-requires : tie.Need-pack-lines-requires
 pack-lines-requires c κs = search needs

@@ -7,10 +7,6 @@ use Rattle.transfers.proofs.Asking.{admitted, answered, refused}
 use borrow.Author.Needs.{needs}
 use Rattle.transfers.proofs.compute_trip_transfers.Statement.{statement}
 use Rattle.transfers.proofs.compute_trip_transfers.Tie as tie
-use Rattle.transfers.proofs.compute_trip_transfers.Reads as reads
-use Rattle.transfers.proofs.compute_trip_transfers.Lts as lts
-use Rattle.transfers.proofs.build.Reads as build-reads
-use Rattle.transfers.proofs.questions.Reads as questions-reads
 
 questions-requires : tie.Need-questions-requires
 questions-requires c κs = search needs

@@ -8,9 +8,6 @@ use mathlib.Core.Path.{_∙_, _≡_, ap, refl}
 use Prim.Native.Nat.{_*_, _-_, _≤_}
 use Rattle.transfers.proofs.event_count.Statement.{statement}
 use Rattle.transfers.proofs.event_count.Tie as tie
-use Rattle.transfers.proofs.event_count.Reads as reads
-use Rattle.transfers.proofs.event_count.Lts as lts
-use Rattle.tables.proofs.trip.Reads as trip-reads
 
 abbrev Inv-loop : tie.InvT-loop
 Inv-loop t c n e₀ i₀ e i = (n ≡ c .trips) × (i ≤ n) × (e ≡ eventsBefore (timetable t c) i) × (e ≤ i * 4294967296)

@@ -5,10 +5,6 @@ use mathlib.Core.Path.{_∙_, sym}
 use borrow.Author.Needs.{needs}
 use Rattle.transfers.proofs.lent_ok.Statement.{statement}
 use Rattle.transfers.proofs.lent_ok.Tie as tie
-use Rattle.transfers.proofs.lent_ok.Reads as reads
-use Rattle.transfers.proofs.lent_ok.Lts as lts
-use Rattle.tables.proofs.slices_ok.Reads as slices-ok-reads
-use Rattle.transfers.proofs.sizes_ok.Reads as sizes-ok-reads
 
 slices-ok-requires : tie.Need-slices-ok-requires
 slices-ok-requires c κs = search needs

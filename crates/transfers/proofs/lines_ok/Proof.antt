@@ -9,9 +9,6 @@ use mathlib.Core.Path.{_≡_, refl}
 use Prim.Native.Nat.{_-_}
 use Rattle.transfers.proofs.lines_ok.Statement.{statement}
 use Rattle.transfers.proofs.lines_ok.Tie as tie
-use Rattle.transfers.proofs.lines_ok.Reads as reads
-use Rattle.transfers.proofs.lines_ok.Lts as lts
-use Rattle.tables.proofs.field.Reads as field-reads
 
 abbrev Inv-loop : tie.InvT-loop
 Inv-loop lines line-count i₀ i = linesOk lines (length lines) line-count ≡ everyIn (λ j. ltb (getD lines j 0) line-count) i (length lines)

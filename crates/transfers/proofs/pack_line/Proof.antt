@@ -1,18 +1,10 @@
-use Rattle.tables.specs.Tables.{timeOf}
 use Rattle.departures.proofs.Parts.{row-time}
 use Rattle.transfers.proofs.Packing.{pack-is, row-fits, departure-is}
 use denote.Ref.{now}
 use native.Mathlib.Omega.{arith}
-use mathlib.Core.Path.{_∙_, ap}
-use Prim.Native.Nat.{_+_, ℕ}
 use borrow.Author.Needs.{needs}
 use Rattle.transfers.proofs.pack_line.Statement.{statement}
 use Rattle.transfers.proofs.pack_line.Tie as tie
-use Rattle.transfers.proofs.pack_line.Reads as reads
-use Rattle.transfers.proofs.pack_line.Lts as lts
-use Rattle.tables.proofs.field.Reads as field-reads
-use Rattle.tables.proofs.time.Reads as time-reads
-use Rattle.tables.proofs.trip.Reads as trip-reads
 
 field-requires : tie.Need-field-requires
 field-requires c κs = search needs

@@ -5,14 +5,10 @@ use borrow.Author.Needs.{needs}
 use lib.ListN.{getD, length, length-set, set}
 use Rattle.loops.proofs.Count.{fill-again, tab-is}
 use native.Mathlib.Omega.{arith}
-use mathlib.Core.Path.{_∙_, _≡_, ap, refl, sym}
+use mathlib.Core.Path.{_∙_, _≡_, ap, refl}
 use Prim.Native.Nat.{_-_, _<_, _≤_, ℕ}
 use Rattle.transfers.proofs.pack_lines.Statement.{statement}
 use Rattle.transfers.proofs.pack_lines.Tie as tie
-use Rattle.transfers.proofs.pack_lines.Reads as reads
-use Rattle.transfers.proofs.pack_lines.Lts as lts
-use Rattle.departures.proofs.departure_row.Reads as departure-row-reads
-use Rattle.transfers.proofs.pack_line.Reads as pack-line-reads
 
 abbrev Inv-loop : tie.InvT-loop
 Inv-loop t c lines rows d n work₀ k₀ work k = (k ≤ length work) × (length work ≡ length work₀) × ((j : ℕ) → j < k → getD work j 0 ≡ packedAt t c lines rows j)

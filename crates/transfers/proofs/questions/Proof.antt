@@ -6,17 +6,6 @@ use Rattle.transfers.proofs.Asking.{answer1, answer2, answer3, answer4,
 use borrow.Author.Needs.{needs}
 use Rattle.transfers.proofs.questions.Statement.{statement}
 use Rattle.transfers.proofs.questions.Tie as tie
-use Rattle.transfers.proofs.questions.Reads as reads
-use Rattle.transfers.proofs.questions.Lts as lts
-use Rattle.departures.proofs.listed_ok.Reads as listed-ok-reads
-use Rattle.departures.proofs.stop_runs_ok.Reads as stop-runs-ok-reads
-use Rattle.door.proofs.both.Reads as both-reads
-use Rattle.tables.proofs.counts_ok.Reads as counts-ok-reads
-use Rattle.tables.proofs.numbers_ok.Reads as numbers-ok-reads
-use Rattle.tables.proofs.ranges_ok.Reads as ranges-ok-reads
-use Rattle.tables.proofs.runs_ok.Reads as runs-ok-reads
-use Rattle.transfers.proofs.lent_ok.Reads as lent-ok-reads
-use Rattle.transfers.proofs.lines_ok.Reads as lines-ok-reads
 
 counts-ok-requires : tie.Need-counts-ok-requires
 counts-ok-requires c κs = search needs

@@ -2,9 +2,6 @@ use Rattle.transfers.specs.Call.{roomOk}
 use borrow.Author.Needs.{needs}
 use Rattle.transfers.proofs.room_ok.Statement.{statement}
 use Rattle.transfers.proofs.room_ok.Tie as tie
-use Rattle.transfers.proofs.room_ok.Reads as reads
-use Rattle.transfers.proofs.room_ok.Lts as lts
-use Rattle.door.proofs.both.Reads as both-reads
 
 mul-both : tie.Need-mul-both
 mul-both c = search needs

@@ -6,12 +6,6 @@ use denote.Ref.{now}
 use borrow.Author.Needs.{needs}
 use Rattle.transfers.proofs.settle.Statement.{statement}
 use Rattle.transfers.proofs.settle.Tie as tie
-use Rattle.transfers.proofs.settle.Reads as reads
-use Rattle.transfers.proofs.settle.Lts as lts
-use Rattle.event_transfers.proofs.all_events.Reads as all-events-reads
-use Rattle.event_transfers.proofs.most_all.Reads as most-all-reads
-use Rattle.transfers.proofs.room_ok.Reads as room-ok-reads
-use Rattle.event_transfers.proofs.total.Reads as total-reads
 
 most-all-requires : tie.Need-most-all-requires
 most-all-requires c κs = search needs

@@ -2,10 +2,6 @@ use Rattle.transfers.specs.Call.{sizesOk}
 use borrow.Author.Needs.{needs}
 use Rattle.transfers.proofs.sizes_ok.Statement.{statement}
 use Rattle.transfers.proofs.sizes_ok.Tie as tie
-use Rattle.transfers.proofs.sizes_ok.Reads as reads
-use Rattle.transfers.proofs.sizes_ok.Lts as lts
-use Rattle.door.proofs.both.Reads as both-reads
-use Rattle.transfers.proofs.event_count.Reads as event-count-reads
 
 event-count-requires : tie.Need-event-count-requires
 event-count-requires c κs = search needs

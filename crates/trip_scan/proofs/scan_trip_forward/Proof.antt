@@ -10,10 +10,6 @@ use denote.Ref.{now}
 use borrow.Author.Needs.{needs}
 use Rattle.trip_scan.proofs.scan_trip_forward.Statement.{statement}
 use Rattle.trip_scan.proofs.scan_trip_forward.Tie as tie
-use Rattle.trip_scan.proofs.scan_trip_forward.Reads as reads
-use Rattle.trip_scan.proofs.scan_trip_forward.Lts as lts
-use Rattle.alighting.proofs.alightings.Reads as alightings-reads
-use Rattle.transferring.proofs.transferring.Reads as transferring-reads
 
 cast-p : tie.Need-cast-p
 cast-p c = search needs

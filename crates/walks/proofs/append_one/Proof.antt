@@ -3,8 +3,6 @@ use Rattle.walks.proofs.Appending.{append-none, append-more}
 use borrow.Author.Needs.{needs}
 use Rattle.walks.proofs.append_one.Statement.{statement}
 use Rattle.walks.proofs.append_one.Tie as tie
-use Rattle.walks.proofs.append_one.Reads as reads
-use Rattle.walks.proofs.append_one.Lts as lts
 
 add-at : tie.Need-add-at
 add-at c = search needs

@@ -7,9 +7,6 @@ use Rattle.walks.specs.Lists.{Appended, bearing}
 use Rattle.walks.proofs.Appending.{append-start, append-turn, append-most, append-stop, append-sized}
 use Rattle.walks.proofs.append_stamped.Statement.{statement}
 use Rattle.walks.proofs.append_stamped.Tie as tie
-use Rattle.walks.proofs.append_stamped.Reads as reads
-use Rattle.walks.proofs.append_stamped.Lts as lts
-use Rattle.walks.proofs.append_one.Reads as append-one-reads
 
 abbrev Inv-loop : tie.InvT-loop
 Inv-loop lay stamp n work₀ count k₀ i₀ work k i = Appended lay work₀ work count k (bearing lay stamp work₀ (part work₀ (lay .other) i)) × (i ≤ n)

@@ -10,9 +10,6 @@ use Rattle.tables.specs.Tables.{edgeOf}
 use Rattle.walks.proofs.Edges.{edges-rising}
 use Rattle.walks.proofs.first_edge.Statement.{statement}
 use Rattle.walks.proofs.first_edge.Tie as tie
-use Rattle.walks.proofs.first_edge.Reads as reads
-use Rattle.walks.proofs.first_edge.Lts as lts
-use Rattle.tables.proofs.edge.Reads as edge-reads
 
 abbrev Inv-loop : tie.InvT-loop
 Inv-loop t c x lo₀ hi₀ lo hi = Halved (λ i. leb x (edgeOf t c i 0)) (c .edges) lo hi

@@ -1,13 +1,10 @@
 use borrow.Author.Tests.{not-true, not-false}
-use mathlib.Core.Bool.{Bool, true, false, not, _&&_}
-use mathlib.Core.Path.{_≡_, refl, sym, ap, _∙_}
+use mathlib.Core.Bool.{Bool, not, _&&_}
+use mathlib.Core.Path.{sym, ap, _∙_}
 use Rattle.model.specs.Search.{holdsTarget}
 use borrow.Author.Needs.{needs}
 use Rattle.walks.proofs.skips.Statement.{statement}
 use Rattle.walks.proofs.skips.Tie as tie
-use Rattle.walks.proofs.skips.Reads as reads
-use Rattle.walks.proofs.skips.Lts as lts
-use Rattle.flags.proofs.holds_target.Reads as holds-target-reads
 
 returns : tie.Need-returns
 returns c = λ T Q g e. sym (ap (λ (b : Bool). b && not (holdsTarget T Q (c .before .before .before .args .p))) (not-true (c .before .before .before .args .rules .flagged) (c .if1 .taken)))

@@ -12,9 +12,6 @@ use Rattle.walks.proofs.Edge.{agree-kept}
 use Rattle.walks.proofs.From.{all-turn, all-end, step-at, listed-kept, other-length, other-in}
 use Rattle.walks.proofs.walk_all.Statement.{statement}
 use Rattle.walks.proofs.walk_all.Tie as tie
-use Rattle.walks.proofs.walk_all.Reads as reads
-use Rattle.walks.proofs.walk_all.Lts as lts
-use Rattle.walks.proofs.walk_from.Reads as walk-from-reads
 
 abbrev Inv-loop : tie.InvT-loop
 Inv-loop lay rules stamp n t distances patterns work₀ labels₀ metres₀ g₀ i₀ work labels metres g i =

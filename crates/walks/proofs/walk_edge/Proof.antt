@@ -1,5 +1,5 @@
 use denote.Ref.{now}
-use mathlib.Core.Path.{refl, sym, _∙_}
+use mathlib.Core.Path.{refl}
 use native.Mathlib.Omega.{arith}
 use Rattle.walk.proofs.Laws.{duration-most}
 use Rattle.walks.proofs.Edge.{row-ok, edge-skipped, edge-late, edge-walked}
@@ -8,12 +8,6 @@ use borrow.Author.Needs.{needs}
 use Rattle.walks.proofs.walk_edge.Statement.{statement}
 use Rattle.scratch.proofs.Falls.{falls-refl}
 use Rattle.walks.proofs.walk_edge.Tie as tie
-use Rattle.walks.proofs.walk_edge.Reads as reads
-use Rattle.walks.proofs.walk_edge.Lts as lts
-use Rattle.scratch.proofs.relax.Reads as relax-reads
-use Rattle.tables.proofs.edge_row.Reads as edge-row-reads
-use Rattle.walk.proofs.effective_duration_s.Reads as effective-duration-s-reads
-use Rattle.walks.proofs.skips.Reads as skips-reads
 
 edge-row-requires : tie.Need-edge-row-requires
 edge-row-requires c κs = search needs

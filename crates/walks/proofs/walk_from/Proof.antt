@@ -10,11 +10,6 @@ use Rattle.walks.proofs.Edge.{agree-kept}
 use Rattle.walks.proofs.From.{walkLeft, left-start, left-turn, left-stop, left-end}
 use Rattle.walks.proofs.walk_from.Statement.{statement}
 use Rattle.walks.proofs.walk_from.Tie as tie
-use Rattle.walks.proofs.walk_from.Reads as reads
-use Rattle.walks.proofs.walk_from.Lts as lts
-use Rattle.tables.proofs.edge.Reads as edge-reads
-use Rattle.walks.proofs.first_edge.Reads as first-edge-reads
-use Rattle.walks.proofs.walk_edge.Reads as walk-edge-reads
 
 abbrev Inv-loop : tie.InvT-loop
 Inv-loop lay rules stamp x v t distances patterns work₀ labels₀ metres₀ c e₀ g₀ work labels metres e g =

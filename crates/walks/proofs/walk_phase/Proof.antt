@@ -4,10 +4,6 @@ use Rattle.walks.proofs.Phases.{turned-ready, turned-ground, sized-word
 use borrow.Author.Needs.{needs}
 use Rattle.walks.proofs.walk_phase.Statement.{statement}
 use Rattle.walks.proofs.walk_phase.Tie as tie
-use Rattle.walks.proofs.walk_phase.Reads as reads
-use Rattle.walks.proofs.walk_phase.Lts as lts
-use Rattle.walks.proofs.append_stamped.Reads as append-stamped-reads
-use Rattle.walks.proofs.walk_all.Reads as walk-all-reads
 
 walk-all-requires : tie.Need-walk-all-requires
 walk-all-requires c κs = let a = c .before .before .before .before .before .before .before .before .before in (turned-ready (a .pre .0), (turned-ground (a .pre .1 .0), a .pre .1 .1))

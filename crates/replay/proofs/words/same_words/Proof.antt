@@ -1,7 +1,6 @@
 use borrow.Author.Needs.{needs}
 use Prim.Native.Nat.{_-_, _≤_}
 use lib.ListN.{length}
-use mathlib.Core.Path.{_≡_}
 use Rattle.replay.proofs.words.same_words.Statement.{statement}
 use Rattle.replay.proofs.words.same_words.Tie as tie
 
