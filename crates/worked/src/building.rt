@@ -5,6 +5,7 @@ use crate::words::part;
 use crate::words::put;
 use crate::words::refused;
 use crate::words::say;
+use crate::words::say_number;
 use crate::words::tell;
 use crate::words::wide;
 use door::Answer;
@@ -96,28 +97,6 @@ fn group(s: QuerySizes, tables: &[u32], built: &mut [u32]) -> Made {
 }
 
 // The stops' runs, the sorted departures and the marks stand next.
-fn put_departures(
-    code: u32,
-    m: Made,
-    stop_runs: &[u32],
-    rows: &[u32],
-    marks: &[u32],
-    built: &mut [u32],
-) -> Made {
-    let s = m.sizes;
-    if code != 0 {
-        return refusal(code, s);
-    }
-    let a = put(stop_runs, m.length, built);
-    let b = put(rows, a, built);
-    let c = put(marks, b, built);
-    Made {
-        code: 0,
-        sizes: s,
-        length: c,
-    }
-}
-
 fn sort_in(
     m: Made,
     tables: &[u32],
@@ -144,7 +123,17 @@ fn sort_in(
         &mut work[..n],
         &mut other[..n],
     );
-    put_departures(code, m, stop_runs, rows, marks, built)
+    if code != 0 {
+        return refusal(code, s);
+    }
+    let a = put(stop_runs, m.length, built);
+    let b = put(rows, a, built);
+    let c = put(marks, b, built);
+    Made {
+        code: 0,
+        sizes: s,
+        length: c,
+    }
 }
 
 fn sort(m: Made, tables: &[u32], stop_runs: &[u32], rows: &mut [u32], built: &mut [u32]) -> Made {
@@ -244,7 +233,7 @@ pub fn build(
 fn line_trips(first: u32, count: u32, entries: &[u32]) {
     let mut k: u32 = 0;
     while k < count {
-        tell(b" #", &[at(entries, wide(first) + wide(k))]);
+        say_number(b" ", at(entries, wide(first) + wide(k)));
         k += 1;
     }
 }

@@ -9,16 +9,19 @@ mod legs;
 mod town;
 mod words;
 
+use crate::words::number;
 use crate::words::say;
+use crate::words::say_number;
 use crate::words::tell;
 
 // A value, or the question that refused it.
 fn answer(a: door::Answer) {
     if a.code != 0 {
-        tell(b"refused by question #\n", &[a.code]);
-        return;
+        say_number(b"refused by question ", a.code);
+    } else {
+        number(a.value);
     }
-    tell(b"#\n", &[a.value]);
+    say(b"\n");
 }
 
 fn rounds(wanted: u32, transfers: u32) {
@@ -49,11 +52,12 @@ fn walk(name: &[u8], duration: u32, mode: u32, wheelchair: u32) {
 fn cell(number_of: u32) {
     let made = exports::savoiky_cell_bitset_new(65);
     let set = exports::savoiky_cell_bitset_set_bit(made.set, number_of);
+    say_number(b"  cell ", number_of);
     if exports::savoiky_cell_bitset_get_bit(set, number_of) {
-        tell(b"  cell # is kept\n", &[number_of]);
-        return;
+        say(b" is kept\n");
+    } else {
+        say(b" is dropped\n");
     }
-    tell(b"  cell # is dropped\n", &[number_of]);
 }
 
 fn clock(name: &[u8], hour: u32, minute: u32, second: u32) {

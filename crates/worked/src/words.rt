@@ -7,12 +7,12 @@ pub fn say(text: &[u8]) {
     io::write_all(STDOUT_FILENO, text);
 }
 
-fn number(n: u32) {
+pub fn number(n: u32) {
     io::print_decimal(STDOUT_FILENO, n as u64);
 }
 
 // A text and a number after it.
-fn say_number(text: &[u8], n: u32) {
+pub fn say_number(text: &[u8], n: u32) {
     say(text);
     number(n);
 }
@@ -64,7 +64,8 @@ pub fn tell(text: &[u8], n: &[u32]) {
 }
 
 pub fn refused(code: u32) {
-    tell(b"  refused by question #\n", &[code]);
+    say_number(b"  refused by question ", code);
+    say(b"\n");
 }
 
 // A number as a length.

@@ -1,5 +1,5 @@
-use Prim.Native.Nat.{_-_, _≤_}
 use borrow.Author.Needs.{needs}
+use Prim.Native.Nat.{_-_, _≤_}
 use Rattle.worked.proofs.building.line_trips.Statement.{statement}
 use Rattle.worked.proofs.building.line_trips.Tie as tie
 
@@ -12,8 +12,8 @@ abbrev μ-loop : tie.MeasureT-loop
 loop-holds : tie.Need-loop-holds Inv-loop μ-loop
 loop-holds c = search needs
 
-slice-aggregate-tell : tie.Need-slice-aggregate-tell Inv-loop μ-loop
-slice-aggregate-tell c = search needs
+slice-aggregate-say-number : tie.Need-slice-aggregate-say-number Inv-loop μ-loop
+slice-aggregate-say-number c = search needs
 
 wide-requires : tie.Need-wide-requires Inv-loop μ-loop
 wide-requires c κs = search needs
@@ -27,11 +27,8 @@ add-at c = search needs
 at-requires : tie.Need-at-requires Inv-loop μ-loop
 at-requires c κs = search needs
 
-slice-aggregate-tell-2 : tie.Need-slice-aggregate-tell-2 Inv-loop μ-loop
-slice-aggregate-tell-2 c = search needs
-
-tell-requires : tie.Need-tell-requires Inv-loop μ-loop
-tell-requires c κs = search needs
+say-number-requires : tie.Need-say-number-requires Inv-loop μ-loop
+say-number-requires c κs = search needs
 
 add-k : tie.Need-add-k Inv-loop μ-loop
 add-k c = search needs
@@ -52,13 +49,12 @@ line-trips-spec =
     Inv-loop
     μ-loop
     loop-holds
-    slice-aggregate-tell
+    slice-aggregate-say-number
     wide-requires
     wide-requires-2
     add-at
     at-requires
-    slice-aggregate-tell-2
-    tell-requires
+    say-number-requires
     add-k
     loop-less
     loop-again
