@@ -1,4 +1,4 @@
--- Door and plain day as tests that compute, each with the law that what passes is so. For days that are given in full.
+-- Door, plain day and steady day as tests that compute, each with the law that what passes is so. For days that are given in full.
 use Prim.Native.Nat.{ℕ, zero, suc, _+_, _-_, _≤_, _<_}
 use mathlib.Core.Path.{_≡_, refl, sym, ap, ap₂, _∙_}
 use mathlib.Core.Logic.{_⊎_, inl, inr, ⊎-elim}
@@ -8,14 +8,17 @@ use native.Mathlib.Omega.{arith}
 use native.Mathlib.Nat.{eq-or-lt-of-le}
 use lib.ListN.{getD}
 use lib.Dec.{ltb, leb, eqb}
-use borrow.Author.Tests.{ltb-true, leb-true, eqb-true, eq-eqb, ne-eqb, not-true}
+use lib.IntN.{pos, _+ℤ_}
+use lib.Signed.{nonNeg}
+use borrow.Author.Tests.{ltb-true, lt-ltb, leb-true, eqb-true, eq-eqb, ne-eqb, not-true}
 use Rattle.loops.specs.Iter.{everyIn, someIn}
 use Rattle.loops.specs.Count.{tabFrom, upto}
 use Rattle.loops.proofs.Iter.{everyIn-at, some-found}
 use Rattle.loops.proofs.Search.{clash}
 use Rattle.sorts.specs.Orders.{keep}
 use Rattle.door.specs.Door.{timeLimit}
-use Rattle.realtime.specs.Times.{sizeOf}
+use Rattle.signed.specs.Signed.{ofBits}
+use Rattle.realtime.specs.Times.{departureGiven, arrivalGiven, sizeOf}
 use Rattle.cell_bitset.specs.declared.CellBitSet.{CellBitSet}
 use Rattle.departures.specs.declared.DepartureRow.{DepartureRow}
 use Rattle.tables.specs.Timetable.{Timetable}
@@ -26,8 +29,8 @@ use Rattle.line_transfers.specs.Transfers.{Transfer, builtTransfers}
 use Rattle.model.specs.Tables.{never, Tables, Origin, Query, stops, trips, stopCount, stopAt, arrival, departure, noPickup, noWindows, edgesFrom, edgeTo, walkTime}
 use Rattle.model.specs.Search.{flagsInUse}
 use Rattle.model.specs.Door.{Door, InOrder, EgressRising}
-use Rattle.model.specs.Promise.{PlainDay, transferInput}
-use Rattle.days.specs.K.{built}
+use Rattle.model.specs.Promise.{transferInput, TripTimes, scheduled, effective, NoTimesFall, CalmDay, PlainDay, arrivesFrom, SteadyDay, TripDelays}
+use Rattle.days.specs.K.{built, bare}
 
 -- all tests of a list pass
 unfoldable pub allOf : List Bool → Bool
@@ -277,6 +280,23 @@ second-of : (x y : Bool) → x || y ≡ true → x ≡ false → y ≡ true
 second-of true y e h = absurd (clash refl h)
 second-of false y e h = e
 
+-- no trip's times fall
+module _ (T : Tables) (W : TripTimes) where
+  abbrev pub waitTest : Bool
+  waitTest = everyIn (λ t. everyIn (λ o. leb (W .arrives t o) (W .departs t o)) 0 (stopCount T t)) 0 (trips T)
+
+  abbrev pub rideTest : Bool
+  rideTest = everyIn (λ t. everyIn (λ o. leb (W .departs t o) (W .arrives t (suc o))) 0 (stopCount T t - 1)) 0 (trips T)
+
+  pub no-times-fall : waitTest ≡ true → rideTest ≡ true → NoTimesFall T W
+  no-times-fall e f =
+      record {
+        waits = λ t o h l. leb-true _ _ (everyIn-at (λ o. leb (W .arrives t o) (W .departs t o)) (stopCount T t) o
+            (everyIn-at (λ t. everyIn (λ o. leb (W .arrives t o) (W .departs t o)) 0 (stopCount T t)) (trips T) t e h) l);
+        rides = λ t o h l. leb-true _ _ (everyIn-at (λ o. leb (W .departs t o) (W .arrives t (suc o))) (stopCount T t - 1) o
+            (everyIn-at (λ t. everyIn (λ o. leb (W .departs t o) (W .arrives t (suc o))) 0 (stopCount T t - 1)) (trips T) t f h) (omega arith));
+      }
+
 -- PLAIN DAY, tested
 module _ (T : Tables) (Q : Query) where
   -- is the departure listed?
@@ -316,14 +336,52 @@ module _ (T : Tables) (Q : Query) where
       not (eqb (T .timetable .edge f .from) (a .stop))
       || anyIn (λ (b : Origin). eqb (b .stop) (edgeTo T f) && leb (b .duration) (a .duration + walkTime T Q f)) (Q .origins)
 
-  abbrev pub plainTests : List Bool
-  plainTests =
-      everyIn (λ t. noWindows T t) 0 (trips T) ∷ eqb (Q .delays .delays) 0 ∷ not (flagsInUse T Q)
-      ∷ everyIn (λ t. everyIn (λ o. leb (arrival T t o) (departure T t o)) 0 (stopCount T t)) 0 (trips T)
-      ∷ everyIn (λ t. everyIn (λ o. leb (departure T t o) (arrival T t (suc o))) 0 (stopCount T t - 1)) 0 (trips T)
-      ∷ everyIn (λ s. allIn (λ d. everyIn (λ u. evenTest s d u) 0 (trips T)) (T .departures s)) 0 (stops T)
+  -- what both kinds of day have
+  abbrev pub calmTests : List Bool
+  calmTests =
+      everyIn (λ t. noWindows T t) 0 (trips T) ∷ not (flagsInUse T Q)
       ∷ everyIn (λ e. everyIn (λ f. pairTest e f) 0 (T .timetable .edges)) 0 (T .timetable .edges)
       ∷ allIn (λ a. everyIn (λ f. originTest a f) 0 (T .timetable .edges)) (Q .origins) ∷ []
+
+  abbrev pub plainTests : List Bool
+  plainTests =
+      allOf calmTests ∷ eqb (Q .delays .delays) 0 ∷ waitTest T (scheduled T) ∷ rideTest T (scheduled T)
+      ∷ everyIn (λ s. allIn (λ d. everyIn (λ u. evenTest s d u) 0 (trips T)) (T .departures s)) 0 (stops T) ∷ []
+
+  -- a departure and the cap; an arrival, wherever boarded
+  abbrev lateTest : ℕ → ℕ → Bool
+  lateTest t o = leb (effective T Q .departs t o) (departure T t o + Q .settings .marginCap)
+
+  abbrev earlyTest : ℕ → ℕ → Bool
+  earlyTest t o = leb (departure T t o) (effective T Q .departs t o + Q .settings .marginCap)
+
+  abbrev oneTest : ℕ → ℕ → ℕ → Bool
+  oneTest t p o = eqb (arrivesFrom T Q t o p) (effective T Q .arrives t p)
+
+  abbrev pub steadyTests : List Bool
+  steadyTests =
+      allOf calmTests ∷ waitTest T (effective T Q) ∷ rideTest T (effective T Q)
+      ∷ everyIn (λ t. everyIn (λ o. lateTest t o) 0 (stopCount T t)) 0 (trips T)
+      ∷ everyIn (λ t. everyIn (λ o. earlyTest t o) 0 (stopCount T t)) 0 (trips T)
+      ∷ everyIn (λ t. everyIn (λ p. everyIn (λ o. oneTest t p o) 0 p) 0 (stopCount T t)) 0 (trips T) ∷ []
+
+  -- of a trip in the table: a stop row; a delay row's size, and each departure
+  abbrev skipTest : ℕ → Bool
+  skipTest j =
+      not (ltb (Q .delays .delay (Q .delays .stopRow j .row) .trip) (trips T))
+      || not (departureGiven (Q .delays .stopRow j .flags) || arrivalGiven (Q .delays .stopRow j .flags))
+
+  abbrev capTest : ℕ → Bool
+  capTest i = not (ltb (Q .delays .delay i .trip) (trips T)) || leb (sizeOf (Q .delays .delay i .delay)) (Q .settings .marginCap)
+
+  abbrev zeroTest : ℕ → ℕ → Bool
+  zeroTest i o = nonNeg (pos (departure T (Q .delays .delay i .trip) o) +ℤ ofBits (Q .delays .delay i .delay))
+
+  abbrev pub tripDelayTests : List Bool
+  tripDelayTests =
+      everyIn (λ j. skipTest j) 0 (Q .delays .stopRows)
+      ∷ everyIn (λ i. capTest i) 0 (Q .delays .delays)
+      ∷ everyIn (λ i. not (ltb (Q .delays .delay i .trip) (trips T)) || everyIn (λ o. zeroTest i o) 0 (stopCount T (Q .delays .delay i .trip))) 0 (Q .delays .delays) ∷ []
 
   -- an edge that leaves a stop
   pub leaving : (a e : ℕ) → List·Memᴰ e (edgesFrom T a) → (T .timetable .edge e .from ≡ a) × (e < T .timetable .edges)
@@ -337,35 +395,25 @@ module _ (T : Tables) (Q : Query) where
   unfolding edgesFrom
   leaves-there a e z h = keeps (λ k. eqb (T .timetable .edge k .from) a) (upto (T .timetable .edges)) e (eq-eqb _ _ z) (listed-below 0 (T .timetable .edges) e (omega arith) (omega arith))
 
-  module _ (e : allOf plainTests ≡ true) where
-    rise : (t o : ℕ) → t < trips T → suc o < stopCount T t → departure T t o ≤ arrival T t (suc o)
-    rise t o h l =
-        leb-true _ _ (everyIn-at (λ o. leb (departure T t o) (arrival T t (suc o))) (stopCount T t - 1) o
-        (everyIn-at (λ t. everyIn (λ o. leb (departure T t o) (arrival T t (suc o))) 0 (stopCount T t - 1)) (trips T) t (passed plainTests e 4) h) (omega arith))
+  evenly : allOf plainTests ≡ true → (s t u o : ℕ) → s < stops T → List·Memᴰ (record { trip = t; offset = o }) (T .departures s) → u < trips T → T .lineOf u ≡ T .lineOf t → noPickup T u o ≡ false
+      → List·Memᴰ (record { trip = u; offset = o }) (T .departures s)
+  evenly e s t u o h m l z n =
+      let d : DepartureRow = record { trip = t; offset = o } in
+      let p = everyIn-at (λ u. evenTest s d u) (trips T) u
+      (among (λ d. everyIn (λ u. evenTest s d u) 0 (trips T)) (T .departures s) d
+      (everyIn-at (λ s. allIn (λ d. everyIn (λ u. evenTest s d u) 0 (trips T)) (T .departures s)) (stops T) s (passed plainTests e 4) h) m) l in
+      has-it (T .departures s) u o
+      (second-of (noPickup T u o) (has (T .departures s) u o)
+      (first-or (eqb (T .lineOf u) (T .lineOf t)) (noPickup T u o || has (T .departures s) u o) p (eq-eqb _ _ z)) n)
 
-    wait : (t o : ℕ) → t < trips T → o < stopCount T t → arrival T t o ≤ departure T t o
-    wait t o h l =
-        leb-true _ _ (everyIn-at (λ o. leb (arrival T t o) (departure T t o)) (stopCount T t) o
-        (everyIn-at (λ t. everyIn (λ o. leb (arrival T t o) (departure T t o)) 0 (stopCount T t)) (trips T) t (passed plainTests e 3) h) l)
-
-    evenly : (s t u o : ℕ) → s < stops T → List·Memᴰ (record { trip = t; offset = o }) (T .departures s) → u < trips T → T .lineOf u ≡ T .lineOf t → noPickup T u o ≡ false
-        → List·Memᴰ (record { trip = u; offset = o }) (T .departures s)
-    evenly s t u o h m l z n =
-        let d : DepartureRow = record { trip = t; offset = o } in
-        let p = everyIn-at (λ u. evenTest s d u) (trips T) u
-        (among (λ d. everyIn (λ u. evenTest s d u) 0 (trips T)) (T .departures s) d
-        (everyIn-at (λ s. allIn (λ d. everyIn (λ u. evenTest s d u) 0 (trips T)) (T .departures s)) (stops T) s (passed plainTests e 5) h) m) l in
-        has-it (T .departures s) u o
-        (second-of (noPickup T u o) (has (T .departures s) u o)
-        (first-or (eqb (T .lineOf u) (T .lineOf t)) (noPickup T u o || has (T .departures s) u o) p (eq-eqb _ _ z)) n)
-
+  module _ (e : allOf calmTests ≡ true) where
     complete : (a i j : ℕ) → List·Memᴰ i (edgesFrom T a) → List·Memᴰ j (edgesFrom T (edgeTo T i)) → (edgeTo T j ≡ a → ⊥)
         → (g : ℕ) × (List·Memᴰ g (edgesFrom T a)) × (edgeTo T g ≡ edgeTo T j) × (walkTime T Q g ≤ walkTime T Q i + walkTime T Q j)
     complete a i j m k away =
         let x = leaving a i m in
         let y = leaving (edgeTo T i) j k in
         let p = everyIn-at (λ f. pairTest i f) (T .timetable .edges) j
-        (everyIn-at (λ e. everyIn (λ f. pairTest e f) 0 (T .timetable .edges)) (T .timetable .edges) i (passed plainTests e 6) (x .1)) (y .1) in
+        (everyIn-at (λ e. everyIn (λ f. pairTest e f) 0 (T .timetable .edges)) (T .timetable .edges) i (passed calmTests e 2) (x .1)) (y .1) in
         let q = second-of (eqb (edgeTo T j) (T .timetable .edge i .from)) (someIn (between i j) 0 (T .timetable .edges))
         (first-or (eqb (T .timetable .edge j .from) (edgeTo T i)) _ p (eq-eqb _ _ (y .0)))
         (ne-eqb _ _ (λ z. away (z ∙ x .0))) in
@@ -380,22 +428,21 @@ module _ (T : Tables) (Q : Query) where
     origins a f m k =
         let y = leaving (a .stop) f k in
         let p = everyIn-at (λ f. originTest a f) (T .timetable .edges) f
-        (among (λ a. everyIn (λ f. originTest a f) 0 (T .timetable .edges)) (Q .origins) a (passed plainTests e 7) m) (y .1) in
+        (among (λ a. everyIn (λ f. originTest a f) 0 (T .timetable .edges)) (Q .origins) a (passed calmTests e 3) m) (y .1) in
         let w = found (λ (b : Origin). eqb (b .stop) (edgeTo T f) && leb (b .duration) (a .duration + walkTime T Q f)) (Q .origins)
         (first-or (eqb (T .timetable .edge f .from) (a .stop)) _ p (eq-eqb _ _ (y .0))) in
         let r = both (eqb (w .0 .stop) (edgeTo T f)) (leb (w .0 .duration) (a .duration + walkTime T Q f)) (w .2) in
         (w .0, w .1, eqb-true _ _ (r .0), leb-true _ _ (r .1))
 
--- tables that are as built and pass the tests are a plain day
-pub plain-when : (T : Tables) (Q : Query) (listed : ℕ → List DepartureRow)
+-- tables that are as built and pass the tests are a calm day
+pub calm-when : (T : Tables) (Q : Query) (listed : ℕ → List DepartureRow)
     → ((s : ℕ) → s < stops T → T .departures s ≡ sorted (T .timetable) (listed s))
     → ((s : ℕ) → s < stops T → T .mark s ≡ markOf (T .timetable) (listed s))
     → T .lines ≡ linesOf (T .timetable)
     → ((t : ℕ) → t < trips T → T .lineOf t ≡ lineOf (T .timetable) t)
     → AsBuilt (T .timetable) (T .line)
-    → ((t o : ℕ) → t < trips T → o < stopCount T t → T .transfers t o ≡ builtTransfers (transferInput T (Q .settings .transferTime)) t o)
-    → allOf (plainTests T Q) ≡ true → PlainDay T Q
-plain-when T Q listed departures marks lines line lists transfers e =
+    → allOf (calmTests T Q) ≡ true → CalmDay T Q
+calm-when T Q listed departures marks lines line lists e =
     record {
       listed = listed;
       departures-built = departures;
@@ -403,20 +450,59 @@ plain-when T Q listed departures marks lines line lists transfers e =
       lines-built = lines;
       line-built = line;
       lists-built = lists;
-      transfers-built = transfers;
-      no-windows = λ t h. everyIn-at (λ t. noWindows T t) (trips T) t (passed (plainTests T Q) e 0) h;
-      no-delays = eqb-true _ _ (passed (plainTests T Q) e 1);
-      no-flags = not-true _ (passed (plainTests T Q) e 2);
-      waits = wait T Q e;
-      rides = rise T Q e;
-      evenly-listed = evenly T Q e;
+      no-windows = λ t h. everyIn-at (λ t. noWindows T t) (trips T) t (passed (calmTests T Q) e 0) h;
+      no-flags = not-true _ (passed (calmTests T Q) e 1);
       edges-complete = complete T Q e;
       origins-complete = origins T Q e;
     }
 
--- built tables are as built
+-- with its tests a plain day, where the transfers are as built too
+pub plain-when : (T : Tables) (Q : Query) → (allOf (calmTests T Q) ≡ true → CalmDay T Q)
+    → ((t o : ℕ) → t < trips T → o < stopCount T t → T .transfers t o ≡ builtTransfers (transferInput T (Q .settings .transferTime)) t o)
+    → allOf (plainTests T Q) ≡ true → PlainDay T Q
+plain-when T Q calm transfers e =
+    record {
+      calm = calm (passed (plainTests T Q) e 0);
+      transfers-built = transfers;
+      no-delays = eqb-true _ _ (passed (plainTests T Q) e 1);
+      no-times-fall = no-times-fall T (scheduled T) (passed (plainTests T Q) e 2) (passed (plainTests T Q) e 3);
+      evenly-listed = evenly T Q e;
+    }
+
+-- and with its own a steady one
+pub steady-when : (T : Tables) (Q : Query) → (allOf (calmTests T Q) ≡ true → CalmDay T Q) → allOf (steadyTests T Q) ≡ true → SteadyDay T Q
+steady-when T Q calm e =
+    record {
+      calm = calm (passed (steadyTests T Q) e 0);
+      no-times-fall = no-times-fall T (effective T Q) (passed (steadyTests T Q) e 1) (passed (steadyTests T Q) e 2);
+      not-late = λ t o u n. leb-true _ _ (everyIn-at (λ o. lateTest T Q t o) (stopCount T t) o
+          (everyIn-at (λ t. everyIn (λ o. lateTest T Q t o) 0 (stopCount T t)) (trips T) t (passed (steadyTests T Q) e 3) u) n);
+      not-early = λ t o u n. leb-true _ _ (everyIn-at (λ o. earlyTest T Q t o) (stopCount T t) o
+          (everyIn-at (λ t. everyIn (λ o. earlyTest T Q t o) 0 (stopCount T t)) (trips T) t (passed (steadyTests T Q) e 4) u) n);
+      one-arrival = λ t o p u l n. eqb-true _ _ (everyIn-at (λ o. oneTest T Q t p o) p o
+          (everyIn-at (λ p. everyIn (λ o. oneTest T Q t p o) 0 p) (stopCount T t) p
+          (everyIn-at (λ t. everyIn (λ p. everyIn (λ o. oneTest T Q t p o) 0 p) 0 (stopCount T t)) (trips T) t (passed (steadyTests T Q) e 5) u) n) l);
+    }
+
+pub trip-delays-when : (T : Tables) (Q : Query) → allOf (tripDelayTests T Q) ≡ true → TripDelays T Q
+trip-delays-when T Q e =
+    record {
+      only-skips = λ j h u. not-true _ (first-or (ltb (Q .delays .delay (Q .delays .stopRow j .row) .trip) (trips T)) _ (everyIn-at (λ j. skipTest T Q j) (Q .delays .stopRows) j (passed (tripDelayTests T Q) e 0) h) (lt-ltb _ _ u));
+      within-cap = λ i h u. leb-true _ _ (first-or (ltb (Q .delays .delay i .trip) (trips T)) _ (everyIn-at (λ i. capTest T Q i) (Q .delays .delays) i (passed (tripDelayTests T Q) e 1) h) (lt-ltb _ _ u));
+      after-zero = λ i o h u n. everyIn-at (λ o. zeroTest T Q i o) (stopCount T (Q .delays .delay i .trip)) o
+          (first-or (ltb (Q .delays .delay i .trip) (trips T)) _
+          (everyIn-at (λ i. not (ltb (Q .delays .delay i .trip) (trips T)) || everyIn (λ o. zeroTest T Q i o) 0 (stopCount T (Q .delays .delay i .trip))) (Q .delays .delays) i (passed (tripDelayTests T Q) e 2) h) (lt-ltb _ _ u)) n;
+    }
+
+-- built tables are as built, also without transfers
 pub plain-holds : (X : Timetable) (listed : ℕ → List DepartureRow) (patterns : List CellBitSet) (Q : Query)
     → allOf (plainTests (built X listed (Q .settings .transferTime) patterns) Q) ≡ true → PlainDay (built X listed (Q .settings .transferTime) patterns) Q
 plain-holds X listed patterns Q =
-    plain-when (built X listed (Q .settings .transferTime) patterns) Q listed (λ s h. refl) (λ s h. refl) refl (λ t h. refl)
-    (record { count = λ l h. refl; trip = λ l p h i. refl }) (λ t o h l. refl)
+    let T = built X listed (Q .settings .transferTime) patterns in
+    plain-when T Q (calm-when T Q listed (λ s h. refl) (λ s h. refl) refl (λ t h. refl) (record { count = λ l h. refl; trip = λ l p h i. refl })) (λ t o h l. refl)
+
+pub calm-bare : (X : Timetable) (listed : ℕ → List DepartureRow) (Q : Query) → allOf (calmTests (bare X listed) Q) ≡ true → CalmDay (bare X listed) Q
+calm-bare X listed Q = calm-when (bare X listed) Q listed (λ s h. refl) (λ s h. refl) refl (λ t h. refl) (record { count = λ l h. refl; trip = λ l p h i. refl })
+
+pub steady-holds : (X : Timetable) (listed : ℕ → List DepartureRow) (Q : Query) → allOf (steadyTests (bare X listed) Q) ≡ true → SteadyDay (bare X listed) Q
+steady-holds X listed Q = steady-when (bare X listed) Q (calm-bare X listed Q)

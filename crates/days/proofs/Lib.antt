@@ -1,3 +1,4 @@
 pub mod DayTests
 pub mod Examples
 pub mod PlainDays
+pub mod SteadyDays

@@ -18,10 +18,10 @@ use Rattle.departures.specs.declared.DepartureRow.{DepartureRow}
 use Rattle.line_numbers.specs.Lines.{lineOf, same, leadOf, isLead, lineTrips}
 use Rattle.departures.specs.Departures.{frequencyListed}
 use Rattle.line_transfers.specs.Transfers.{departuresOfLine, firstNotBefore, transferTo, transfersOf}
-use Rattle.model.specs.Tables.{Origin, Query, stopAt, arrival, departure, changeBefore, edgesFrom, modeWanted, usable, permitted}
+use Rattle.model.specs.Tables.{Origin, Query, stopAt, changeBefore, edgesFrom, modeWanted, usable, permitted}
 use Rattle.model.specs.Search.{Answer, targetsFrom, targetCells, holdsTarget, useArcFlags, someTransfer, skipsEdge, skipsTransfer, flagsInUse, runTbr}
 use Rattle.model.specs.Door.{Door}
-use Rattle.model.specs.Promise.{PlainDay, Boarding, Alighting, Journey, WholeJourney, Way, Arrives, Demand3}
+use Rattle.model.specs.Promise.{scheduled, PlainDay, Boarding, Alighting, Journey, WholeJourney, Way, Arrives, Demand3}
 use Rattle.days.specs.K.{timetableK, listedK, tablesK, patternK, everyCell, queryK, asks, noDelays, origin, tablesW, timetableW, listedW, queryW}
 use Rattle.days.proofs.Examples.{worked}
 use Rattle.days.proofs.DayTests.{allOf, passed, allIn, among, first-or, anyIn, sortedTest, risingTest, has, doorTests, plainTests, door-holds, plain-holds, leaving}
@@ -67,8 +67,8 @@ pub plain-W : PlainDay tablesW queryW
 plain-W = plain-holds timetableW listedW [] queryW (passed dayTests days-pass 7)
 
 -- its best journey: T0, the walk from stop 1 to stop 2, the change time there, T3
-pub journey-W : WholeJourney tablesW queryW 395
-unfolding permitted usable modeWanted insertBy sortBy keep tabFrom edgesFrom effectiveDuration changeBefore roundCount
+pub journey-W : WholeJourney tablesW queryW (scheduled tablesW) 395
+unfolding permitted usable modeWanted insertBy sortBy keep tabFrom edgesFrom effectiveDuration changeBefore roundCount first
 journey-W =
     record {
       justRode = true;
@@ -79,11 +79,11 @@ journey-W =
           Journey.ride 3 0 1
           (Journey.foot 0
           (Journey.ride 0 0 1 (Journey.access (origin 0 10) (List·Memᴰ·head refl))
-          (record { trip = refl; listed = List·Memᴰ·head refl; pickup = refl })
-          (record { later = leb-true 1 1 refl; inside = leb-true 2 2 refl; dropOff = refl }) (leb-true 100 100 refl))
+          (record { trip = refl; listed = List·Memᴰ·head refl; pickup = refl; served = refl })
+          (record { later = leb-true 1 1 refl; inside = leb-true 2 2 refl; dropOff = refl; served = refl }) (leb-true 100 100 refl))
           (List·Memᴰ·head refl))
-          (record { trip = refl; listed = List·Memᴰ·tail (List·Memᴰ·head refl); pickup = refl })
-          (record { later = leb-true 1 1 refl; inside = leb-true 2 2 refl; dropOff = refl }) (leb-true 380 380 refl);
+          (record { trip = refl; listed = List·Memᴰ·tail (List·Memᴰ·head refl); pickup = refl; served = refl })
+          (record { later = leb-true 1 1 refl; inside = leb-true 2 2 refl; dropOff = refl; served = refl }) (leb-true 380 380 refl);
       fits = leb-true 2 4 refl;
       walk = 5;
       egress = List·Memᴰ·head refl;
@@ -102,7 +102,7 @@ slow-there = refl
 pub not-plain : PlainDay tablesW onFootW → ⊥
 unfolding keep tabFrom edgesFrom effectiveDuration
 not-plain d =
-    let r = d .origins-complete (origin 1 700) 1 (List·Memᴰ·tail (List·Memᴰ·head refl)) (List·Memᴰ·tail (List·Memᴰ·head refl)) in
+    let r = d .calm .origins-complete (origin 1 700) 1 (List·Memᴰ·tail (List·Memᴰ·head refl)) (List·Memᴰ·tail (List·Memᴰ·head refl)) in
     let b = r .0 in
     let p = among (λ (b : Origin). not (eqb (b .stop) 4) || ltb 702 (b .duration)) (queryW .origins) b slow-there (r .1) in
     let q = ltb-true 702 (b .duration) (first-or (eqb (b .stop) 4) (ltb 702 (b .duration)) p (eq-eqb (b .stop) 4 (r .2))) in
@@ -128,9 +128,9 @@ record Late (x v : ℕ) : Type 0 where
   pub second : x ≡ 2 → 400 ≤ v
 
 -- T2 is missed by one second
-missed : (x v : ℕ) → Late x v → Boarding patternK (queryK 90 121) x 2 0
-    → v + changeBefore (queryK 90 121) 1 ≤ departure patternK 2 0 → ⊥
-unfolding insertBy sortBy changeBefore
+missed : (x v : ℕ) → Late x v → Boarding patternK (queryK 90 121) (scheduled patternK) x 2 0
+    → v + changeBefore (queryK 90 121) 1 ≤ scheduled patternK .departs 2 0 → ⊥
+unfolding insertBy sortBy changeBefore first
 missed zero v l b h =
     ⊎-elim (λ z. let q : _≡_ {A = ℕ} 2 0 = ap (λ (d : DepartureRow). d .trip) z in omega arith)
     (λ m. let q : _≡_ {A = ℕ} 2 1 = ap (λ (d : DepartureRow). d .trip) (List·Memᴰ·eq-of-singleton m) in omega arith)
@@ -139,46 +139,47 @@ missed (suc zero) v l b h = let q = l .first refl in omega (arith, q, h)
 missed (suc (suc x)) v l b h = List·Memᴰ·not-nil (b .listed)
 
 -- T0 is left at stop 1 or 2
-left : (p : ℕ) → Alighting patternK (queryK 90 121) 0 0 p → Late (stopAt patternK 0 p) (arrival patternK 0 p)
+left : (p : ℕ) → Alighting patternK (queryK 90 121) (scheduled patternK) 0 0 p → Late (stopAt patternK 0 p) (scheduled patternK .arrives 0 p)
+unfolding first
 left zero a = absurd (omega (arith, a .later))
 left (suc zero) a = record { first = λ z. leb-true 200 200 refl; second = λ z. absurd (omega arith) }
 left (suc (suc zero)) a = record { first = λ z. absurd (omega arith); second = λ z. leb-true 400 400 refl }
 left (suc (suc (suc p))) a = let q = a .inside in absurd (omega (arith, q))
 
 -- so every way over its scans
-late : {x v q : ℕ} → Way patternK (queryK 90 121) ((1, 2, 0) ∷ (0, 0, 0) ∷ []) x v q → Late x v
+late : {x v q : ℕ} → Way patternK (queryK 90 121) (scheduled patternK) ((1, 2, 0) ∷ (0, 0, 0) ∷ []) x v q → Late x v
 late (Way.access a m) =
     subst (λ (z : Origin). Late (z .stop) (90 + z .duration)) (sym (List·Memᴰ·eq-of-singleton m))
     (record { first = λ z. absurd (omega arith); second = λ z. absurd (omega arith) })
 late (Way.ride {x} {v} r t o p w f m b a h) =
     ⊎-elim (λ z. absurd (missed x v (late w) (boards z) (inTime z))) (λ i. rode (List·Memᴰ·eq-of-singleton i)) (List·Memᴰ·cases-cons m)
   where
-    boards : {c : ℕ × ℕ × ℕ} → (r, t, o) ≡ c → Boarding patternK (queryK 90 121) x (c .1) (c .2)
-    boards z = subst (λ (s : ℕ × ℕ × ℕ). Boarding patternK (queryK 90 121) x (s .1) (s .2)) z b
+    boards : {c : ℕ × ℕ × ℕ} → (r, t, o) ≡ c → Boarding patternK (queryK 90 121) (scheduled patternK) x (c .1) (c .2)
+    boards z = subst (λ (s : ℕ × ℕ × ℕ). Boarding patternK (queryK 90 121) (scheduled patternK) x (s .1) (s .2)) z b
 
-    inTime : {c : ℕ × ℕ × ℕ} → (r, t, o) ≡ c → v + changeBefore (queryK 90 121) (c .0) ≤ departure patternK (c .1) (c .2)
-    inTime z = subst (λ (s : ℕ × ℕ × ℕ). v + changeBefore (queryK 90 121) (s .0) ≤ departure patternK (s .1) (s .2)) z h
+    inTime : {c : ℕ × ℕ × ℕ} → (r, t, o) ≡ c → v + changeBefore (queryK 90 121) (c .0) ≤ scheduled patternK .departs (c .1) (c .2)
+    inTime z = subst (λ (s : ℕ × ℕ × ℕ). v + changeBefore (queryK 90 121) (s .0) ≤ scheduled patternK .departs (s .1) (s .2)) z h
 
-    rode : _≡_ {A = ℕ × ℕ × ℕ} (r, t, o) (0, 0, 0) → Late (stopAt patternK t p) (arrival patternK t p)
+    rode : _≡_ {A = ℕ × ℕ × ℕ} (r, t, o) (0, 0, 0) → Late (stopAt patternK t p) (scheduled patternK .arrives t p)
     rode z =
-        subst (λ (s : ℕ × ℕ × ℕ). Late (stopAt patternK (s .1) p) (arrival patternK (s .1) p)) (sym z)
-        (left p (subst (λ (s : ℕ × ℕ × ℕ). Alighting patternK (queryK 90 121) (s .1) (s .2) p) z a))
+        subst (λ (s : ℕ × ℕ × ℕ). Late (stopAt patternK (s .1) p) (scheduled patternK .arrives (s .1) p)) (sym z)
+        (left p (subst (λ (s : ℕ × ℕ × ℕ). Alighting patternK (queryK 90 121) (scheduled patternK) (s .1) (s .2) p) z a))
 late (Way.foot {x} e w m) = absurd (let q = leaving patternK (queryK 90 121) x e m .1 in omega (arith, q))
 
 -- change time 121: the Rust's 385 at stop 2 is the arrival of no way
-pub rust-breaks : Demand3 patternK (queryK 90 121) (runTbr patternK (queryK 90 121)) → ⊥
+pub rust-breaks : Demand3 patternK (queryK 90 121) (scheduled patternK) (runTbr patternK (queryK 90 121)) → ⊥
 rust-breaks d =
     let A : Answer = runTbr patternK (queryK 90 121) in
     let a = d .best (λ z. let q = sym rust-total ∙ z in omega (arith, q)) in
-    let b = subst (λ s. Arrives patternK (queryK 90 121) s (A .total) (A .stop)) rust-scans a in
-    let w = late (subst (λ x. Way patternK (queryK 90 121) ((1, 2, 0) ∷ (0, 0, 0) ∷ []) x (b .reached) (b .lastRound)) rust-stop (b .way)) .second refl in
+    let b = subst (λ s. Arrives patternK (queryK 90 121) (scheduled patternK) s (A .total) (A .stop)) rust-scans a in
+    let w = late (subst (λ x. Way patternK (queryK 90 121) (scheduled patternK) ((1, 2, 0) ∷ (0, 0, 0) ∷ []) x (b .reached) (b .lastRound)) rust-stop (b .way)) .second refl in
     let e = ap (λ (x : ℕ × ℕ). x .1) (List·Memᴰ·eq-of-singleton (b .egress)) in
     let s = b .sum in
     omega (arith, w, e, s, rust-total)
 
 -- change time 60: a journey by T1 and T2 arrives at 385, and the Rust answers 465
-pub short-change : WholeJourney patternK (queryK 91 60) 385
-unfolding permitted usable modeWanted insertBy sortBy changeBefore roundCount
+pub short-change : WholeJourney patternK (queryK 91 60) (scheduled patternK) 385
+unfolding permitted usable modeWanted insertBy sortBy changeBefore roundCount first
 short-change =
     record {
       justRode = true;
@@ -188,15 +189,15 @@ short-change =
       journey =
           Journey.ride 2 0 1
           (Journey.ride 1 0 1 (Journey.access (origin 0 10) (List·Memᴰ·head refl))
-          (record { trip = refl; listed = List·Memᴰ·tail (List·Memᴰ·head refl); pickup = refl })
-          (record { later = leb-true 1 1 refl; inside = leb-true 2 3 refl; dropOff = refl }) (leb-true 101 160 refl))
-          (record { trip = refl; listed = List·Memᴰ·tail (List·Memᴰ·tail (List·Memᴰ·head refl)); pickup = refl })
-          (record { later = leb-true 1 1 refl; inside = leb-true 2 2 refl; dropOff = refl }) (leb-true 320 320 refl);
+          (record { trip = refl; listed = List·Memᴰ·tail (List·Memᴰ·head refl); pickup = refl; served = refl })
+          (record { later = leb-true 1 1 refl; inside = leb-true 2 3 refl; dropOff = refl; served = refl }) (leb-true 101 160 refl))
+          (record { trip = refl; listed = List·Memᴰ·tail (List·Memᴰ·tail (List·Memᴰ·head refl)); pickup = refl; served = refl })
+          (record { later = leb-true 1 1 refl; inside = leb-true 2 2 refl; dropOff = refl; served = refl }) (leb-true 320 320 refl);
       fits = leb-true 2 4 refl;
       walk = 5;
       egress = List·Memᴰ·head refl;
       sum = refl;
     }
 
-pub rust-breaks-short : Demand3 patternK (queryK 91 60) (runTbr patternK (queryK 91 60)) → ⊥
+pub rust-breaks-short : Demand3 patternK (queryK 91 60) (scheduled patternK) (runTbr patternK (queryK 91 60)) → ⊥
 rust-breaks-short d = let l = d .lowest 385 short-change in omega (arith, l, rust-short)

@@ -141,6 +141,80 @@ delaysK =
 abbrev pub delayedK : Query
 delayedK = asks 90 (origin 0 10 ∷ []) ((2, 5) ∷ []) false 120 delaysK false
 
+-- K WITHOUT A TRANSFER TABLE, its first line unevenly listed: T0 is not listed at stop 1, and T1 is
+abbrev pub unevenK : ℕ → List DepartureRow
+unevenK s = getD ((leaves 0 0 ∷ leaves 1 0 ∷ []) ∷ (leaves 1 1 ∷ leaves 2 0 ∷ []) ∷ []) s []
+
+abbrev pub bare : Timetable → (ℕ → List DepartureRow) → Tables
+bare X listed =
+    let T : Tables = built X listed 0 [] in
+    record {
+      timetable = T .timetable;
+      distance = T .distance;
+      lines = T .lines;
+      lineOf = T .lineOf;
+      line = T .line;
+      departures = T .departures;
+      mark = T .mark;
+      transfers = λ t o. [];
+      cells = T .cells;
+      patterns = T .patterns;
+      pattern = T .pattern;
+    }
+
+abbrev pub bareK : Tables
+bareK = bare (timetableK 460 320 0) unevenK
+
+-- A DAY WITH DELAYS: delay rows (trip, delay) and stop rows (row, sequence, flags, departure delay, arrival delay)
+abbrev pub delaysOf : List (ℕ × ℕ) → List (ℕ × ℕ × ℕ × ℕ × ℕ) → DelayTables
+delaysOf rows stops =
+    record {
+      delays = length rows;
+      delay = λ i. let r = getD rows i (0, 0) in record { trip = r .0; delay = r .1 };
+      stopRows = length stops;
+      stopRow = λ j. let r = getD stops j (0, 0, 0, 0, 0) in record { row = r .0; sequence = r .1; flags = r .2; «departure_delay» = r .3; «arrival_delay» = r .4 };
+    }
+
+-- T0 is 40 seconds late and skips stop 1, T1 10 early, T2 50 late; a trip that is not in the table is 30,000 late, past the cap,
+-- and its departure at sequence 1 is given
+abbrev pub steadyDelays : DelayTables
+steadyDelays = delaysOf ((0, 40) ∷ (1, 4294967286) ∷ (2, 50) ∷ (4294967295, 30000) ∷ []) ((0, 1, 4, 0, 0) ∷ (3, 1, 1, 30, 0) ∷ [])
+
+-- and with times given at single stops: T0 is 40 late, but at stop 1 arrives 55 late and leaves 60 late, and at stop 2 is 80 late; T1 is
+-- 10 early and skips stop 1; T2 leaves stop 1 60 late, and is 65 late at stop 2
+abbrev pub givenDelays : DelayTables
+givenDelays =
+    delaysOf ((0, 40) ∷ (1, 4294967286) ∷ (2, 50) ∷ (4294967295, 30000) ∷ [])
+    ((0, 1, 3, 60, 55) ∷ (0, 2, 3, 80, 80) ∷ (1, 1, 4, 0, 0) ∷ (2, 0, 1, 60, 0) ∷ (2, 1, 3, 65, 65) ∷ (3, 1, 1, 30, 0) ∷ [])
+
+-- K's query on a day with these delays: start, change, delays
+abbrev pub onDay : ℕ → ℕ → DelayTables → Query
+onDay start change delays = asks start (origin 0 10 ∷ []) ((2, 5) ∷ []) false change delays false
+
+-- ONE TRIP that calls at stops 0, 1 and 2, at these seconds, listed at stops 0 and 1; no transfers
+abbrev pub timetableOne : ℕ → ℕ → ℕ → Timetable
+timetableOne a b c =
+    record {
+      stops = 3;
+      trips = 1;
+      edges = 0;
+      trip = λ t. runs 0 3 1 0;
+      time = λ i. getD (calls 0 0 a a ∷ calls 1 1 b b ∷ calls 2 2 c c ∷ []) i (calls 0 0 0 0);
+      window = λ i. window 0 0 0;
+      edge = λ e. foot 0 0 0 0;
+      cell = λ s. 0;
+    }
+
+abbrev pub listedOne : ℕ → List DepartureRow
+listedOne s = getD ((leaves 0 0 ∷ []) ∷ (leaves 0 1 ∷ []) ∷ []) s []
+
+abbrev pub oneTrip : ℕ → ℕ → ℕ → Tables
+oneTrip a b c = bare (timetableOne a b c) listedOne
+
+-- asked to stop 2, by walks to stop 0 and to stop 2 itself: start, both walks, delays
+abbrev pub toStop2 : ℕ → ℕ → ℕ → DelayTables → Query
+toStop2 start walk whole delays = asks start (origin 0 walk ∷ origin 2 whole ∷ []) ((2, 0) ∷ []) false 120 delays false
+
 -- A DAY WITH WALKS. T0 and T1 go from stop 0 to stop 1, T1 the later; T2, not active, from 0 to 3; T3 and T4 from 2 to 3, T4 the
 -- earlier. Stops 1 and 2 are 60 seconds apart; from both, stairs of 2 seconds lead to stop 4.
 abbrev pub timetableW : Timetable

@@ -10,11 +10,11 @@ use lib.Dec.{ltb}
 use borrow.Author.Tests.{ltb-true, lt-ltb, le-ltb}
 use Rattle.sorts.specs.Orders.{All, nil, cons}
 use Rattle.model.specs.Search.{Answer, useArcFlags, flagsInUse, answer, runTbr as theRust, query as thePromise}
-use Rattle.model.specs.Promise.{PlainDay, Demand3, Pareto}
+use Rattle.model.specs.Promise.{scheduled, effective, PlainDay, SteadyDay, Demand3, Pareto}
 use Rattle.model.proofs.Answers.{Lawful, runTbr-lawful, query-lawful}
 use Rattle.model.proofs.Calls.{unflagged-zeros}
 use Rattle.model.proofs.Queue.{NoFrequency, allStopTimes, queue-never-fills}
-use Rattle.model.proofs.Demand3.{demand3, demand3-rust, pareto}
+use Rattle.model.proofs.Demand3.{steady, steady-rust, steady-pareto, demand3, demand3-rust, pareto}
 use Rattle.asking.specs.Lent.{Lent, tablesOf, queryOf}
 use Rattle.asking.specs.Door.{verdict}
 use Rattle.asking.proofs.Laws.{door}
@@ -141,24 +141,45 @@ module _ (x : Lent) where
         let r = demand1-rust .only-answers s z in
         (runTbr-lawful (tablesOf x) (queryOf x) (door x (lengthsOf s) (r .0)), r .1)
 
-    -- DEMAND 3: on a plain day
+    -- DEMAND 3: on a plain day, by scheduled times
     pub demand3-call : queryOutcome x s .reply .code ≡ 0 → PlainDay (tablesOf x) (queryOf x)
-        → Demand3 (tablesOf x) (queryOf x) (thePromise (tablesOf x) (queryOf x)) × (queryOutcome x s ≡ answered (thePromise (tablesOf x) (queryOf x)) s)
+        → Demand3 (tablesOf x) (queryOf x) (scheduled (tablesOf x)) (thePromise (tablesOf x) (queryOf x)) × (queryOutcome x s ≡ answered (thePromise (tablesOf x) (queryOf x)) s)
     demand3-call z P =
         let r = demand1-query .only-answers s z in
         (demand3 (tablesOf x) (queryOf x) (door x (lengthsOf s) (r .0)) P, r .1)
 
     -- where all of questions 1 to 6 are answered yes, the code is 0
     pub plain-answered : verdict x (lengthsOf s) ≡ 0 → PlainDay (tablesOf x) (queryOf x) → queryOutcome x s ≡ answered (thePromise (tablesOf x) (queryOf x)) s
-    plain-answered e P = query-unflagged e (P .no-flags)
+    plain-answered e P = query-unflagged e (P .calm .no-flags)
 
     -- `run_tbr`, wherever the Rust's `use_arc_flags` is false
     pub demand3-rust-call : runTbrOutcome x s .reply .code ≡ 0 → PlainDay (tablesOf x) (queryOf x) → useArcFlags (tablesOf x) (queryOf x) ≡ false
-        → Demand3 (tablesOf x) (queryOf x) (theRust (tablesOf x) (queryOf x)) × (runTbrOutcome x s ≡ answered (theRust (tablesOf x) (queryOf x)) s)
+        → Demand3 (tablesOf x) (queryOf x) (scheduled (tablesOf x)) (theRust (tablesOf x) (queryOf x)) × (runTbrOutcome x s ≡ answered (theRust (tablesOf x) (queryOf x)) s)
     demand3-rust-call z P f =
         let r = demand1-rust .only-answers s z in
         (demand3-rust (tablesOf x) (queryOf x) (door x (lengthsOf s) (r .0)) P f, r .1)
 
     -- beyond the request: the candidates are Pareto-complete
-    pub pareto-call : queryOutcome x s .reply .code ≡ 0 → PlainDay (tablesOf x) (queryOf x) → Pareto (tablesOf x) (queryOf x) (thePromise (tablesOf x) (queryOf x))
+    pub pareto-call : queryOutcome x s .reply .code ≡ 0 → PlainDay (tablesOf x) (queryOf x)
+        → Pareto (tablesOf x) (queryOf x) (scheduled (tablesOf x)) (thePromise (tablesOf x) (queryOf x))
     pareto-call z P = pareto (tablesOf x) (queryOf x) (door x (lengthsOf s) (demand1-query .only-answers s z .0)) P
+
+    -- DAYS WITH DELAYS: the same on a steady day, by effective times
+    pub steady-call : queryOutcome x s .reply .code ≡ 0 → SteadyDay (tablesOf x) (queryOf x)
+        → Demand3 (tablesOf x) (queryOf x) (effective (tablesOf x) (queryOf x)) (thePromise (tablesOf x) (queryOf x)) × (queryOutcome x s ≡ answered (thePromise (tablesOf x) (queryOf x)) s)
+    steady-call z S =
+        let r = demand1-query .only-answers s z in
+        (steady (tablesOf x) (queryOf x) (door x (lengthsOf s) (r .0)) S, r .1)
+
+    pub steady-answered : verdict x (lengthsOf s) ≡ 0 → SteadyDay (tablesOf x) (queryOf x) → queryOutcome x s ≡ answered (thePromise (tablesOf x) (queryOf x)) s
+    steady-answered e S = query-unflagged e (S .calm .no-flags)
+
+    pub steady-rust-call : runTbrOutcome x s .reply .code ≡ 0 → SteadyDay (tablesOf x) (queryOf x) → useArcFlags (tablesOf x) (queryOf x) ≡ false
+        → Demand3 (tablesOf x) (queryOf x) (effective (tablesOf x) (queryOf x)) (theRust (tablesOf x) (queryOf x)) × (runTbrOutcome x s ≡ answered (theRust (tablesOf x) (queryOf x)) s)
+    steady-rust-call z S f =
+        let r = demand1-rust .only-answers s z in
+        (steady-rust (tablesOf x) (queryOf x) (door x (lengthsOf s) (r .0)) S f, r .1)
+
+    pub steady-pareto-call : queryOutcome x s .reply .code ≡ 0 → SteadyDay (tablesOf x) (queryOf x)
+        → Pareto (tablesOf x) (queryOf x) (effective (tablesOf x) (queryOf x)) (thePromise (tablesOf x) (queryOf x))
+    steady-pareto-call z S = steady-pareto (tablesOf x) (queryOf x) (door x (lengthsOf s) (demand1-query .only-answers s z .0)) S

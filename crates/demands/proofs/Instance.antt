@@ -8,8 +8,8 @@ use lib.ListN.{length, getD, replicate}
 use Rattle.label.specs.Label.{noDistance}
 use Rattle.model.specs.Tables.{Tables, Query, stopCount, changeBefore, isEgress, egressWalk, edgesFrom, fifo, modeWanted, usable, permitted}
 use Rattle.model.specs.Search.{targetsFrom, targetCells, holdsTarget, useArcFlags, someTransfer, skipsEdge, skipsTransfer, flagsInUse, departuresAt, markAt, lineAt, notBefore, boardAt, bestAfter, improve, relax, resolveIn, lineTripsAt, resolve, enqueue, takeTransfers, alightings, transferring, scanTripForward, rideSegments, dominated, pruned, passedOver, boarding, board, scanDepartures, scanStops, walkFrom, walkAll, ridePhase, stamped, walkPhase, idle, rounds, setOut, access, bestTarget, rowTarget, candidatesFrom, final, answer, query as thePromise}
-use Rattle.model.specs.Promise.{PlainDay, Demand3, transferInput}
-use Rattle.days.proofs.DayTests.{allOf, allIn, anyIn, sortedTest, risingTest, has, plain-when}
+use Rattle.model.specs.Promise.{transferInput, scheduled, PlainDay, Demand3}
+use Rattle.days.proofs.DayTests.{allOf, allIn, anyIn, sortedTest, risingTest, has, calm-when, plain-when}
 use Rattle.asking.specs.Lent.{Lent, tablesOf, queryOf}
 use Rattle.asking.specs.Door.{question1, readOk, writtenOk, question2, transferRunsOk, question3, columnBelow, lineNumbers, queryNumbers, question4, markRanges, transferRanges, settingRanges, walkRanges, question5, notEarlier, partOrder, departureOrder, columnRises, question6, verdict}
 use Rattle.tables.specs.Door.{countsOk, slicesOk, tripRuns, stopTimeNumbers, edgeNumbers, stopTimeRanges, tripRanges, windowRanges, edgeRanges, edgeRises, runsOk, numbersOk, rangesOk, orderOk}
@@ -44,13 +44,13 @@ abbrev X : Timetable
 X = tablesK .timetable
 
 -- the stops, the trips and the lines are 0, 1, 2; 0, 1, 2; 0, 1
-below-three : (P : ℕ → Type 0) → P 0 → P 1 → P 2 → (i : ℕ) → i < 3 → P i
+pub below-three : (P : ℕ → Type 0) → P 0 → P 1 → P 2 → (i : ℕ) → i < 3 → P i
 below-three P a b c zero h = a
 below-three P a b c (suc zero) h = b
 below-three P a b c (suc (suc zero)) h = c
 below-three P a b c (suc (suc (suc i))) h = absurd (omega arith)
 
-below-two : (P : ℕ → Type 0) → P 0 → P 1 → (i : ℕ) → i < 2 → P i
+pub below-two : (P : ℕ → Type 0) → P 0 → P 1 → (i : ℕ) → i < 2 → P i
 below-two P a b zero h = a
 below-two P a b (suc zero) h = b
 below-two P a b (suc (suc i)) h = absurd (omega arith)
@@ -59,7 +59,8 @@ below-two P a b (suc (suc i)) h = absurd (omega arith)
 pub plain-K : PlainDay tablesK queryK
 unfolding qK query transfersK builtK tK time trip counts timeOf tripOf windowOf edgeOf eventsBefore allOf allIn anyIn sortedTest risingTest has effectiveDuration edgesFrom targetsFrom targetCells holdsTarget useArcFlags someTransfer skipsEdge skipsTransfer flagsInUse frequencyListed same leadOf isLead lineOf lineTrips departuresOfLine firstNotBefore transferTo transfersOf iter every first some count tabFrom insertBy sortBy keep flatten cellOf
 plain-K =
-    plain-when tablesK queryK (tablesK .departures)
+    plain-when tablesK queryK
+    (calm-when tablesK queryK (tablesK .departures)
     (below-three (λ (s : ℕ). tablesK .departures s ≡ sorted X (tablesK .departures s)) refl refl refl)
     (below-three (λ (s : ℕ). tablesK .mark s ≡ markOf X (tablesK .departures s)) refl refl refl)
     refl
@@ -70,7 +71,7 @@ plain-K =
           (below-two (λ (p : ℕ). tablesK .line 0 .trip p ≡ getD (lineTrips X 0) p 0) refl refl)
           (λ p i. below-two (λ (p : ℕ). p < 1 → tablesK .line 1 .trip p ≡ getD (lineTrips X 1) p 0) (λ h. refl) (λ h. absurd (omega arith)) p (omega arith) i)
           l h p i;
-    })
+    }))
     (λ t o h i. below-three (λ (t : ℕ). (o : ℕ) → o < stopCount tablesK t → tablesK .transfers t o ≡ builtTransfers (transferInput tablesK 120) t o)
     (below-three (λ (o : ℕ). tablesK .transfers 0 o ≡ builtTransfers (transferInput tablesK 120) 0 o) refl refl refl)
     (below-three (λ (o : ℕ). tablesK .transfers 1 o ≡ builtTransfers (transferInput tablesK 120) 1 o) refl refl refl)
@@ -90,7 +91,7 @@ door-K = refl
 pub answered-K : queryOutcome lentK areasK ≡ answered (thePromise tablesK queryK) areasK
 answered-K = plain-answered lentK areasK door-K plain-K
 
-pub demand3-K : Demand3 tablesK queryK (thePromise tablesK queryK)
+pub demand3-K : Demand3 tablesK queryK (scheduled tablesK) (thePromise tablesK queryK)
 demand3-K = demand3-call lentK areasK (ap (λ (o : Outcome). o .reply .code) answered-K) plain-K .0
 
 -- with 385 at stop 2, and two candidates

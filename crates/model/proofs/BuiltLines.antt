@@ -1,4 +1,4 @@
--- What a plain day's lines give, since they are as built: trips of one line have the same stops; in a FIFO line a lower position is
+-- What a day's lines give, since they are as built: trips of one line have the same stops; in a FIFO line a lower position is
 -- nowhere later, and the codes are equal.
 use Prim.Native.Nat.{ℕ, _≤_, _<_}
 use mathlib.Core.Path.{_≡_, sym, ap, subst, _∙_}
@@ -12,10 +12,10 @@ use Rattle.line_layout.specs.Layout.{fifoLine, positionIn}
 use Rattle.line_layout.specs.Claims.{NotLater}
 use Rattle.built.proofs.Laws.{built-fifo}
 use Rattle.model.specs.Tables.{Tables, Query, trips, stopCount, stopAt, arrival, noDropOff, position, fifo}
-use Rattle.model.specs.Promise.{PlainDay}
+use Rattle.model.specs.Promise.{CalmDay}
 use Rattle.model.proofs.Base.{split, and-true}
 
-module _ (T : Tables) (Q : Query) (P : PlainDay T Q) where
+module _ (T : Tables) (Q : Query) (P : CalmDay T Q) where
   lines-same : (t u : ℕ) → t < trips T → u < trips T → T .lineOf u ≡ T .lineOf t → lineOf (T .timetable) u ≡ lineOf (T .timetable) t
   lines-same t u h l e = sym (P .line-built u l) ∙ e ∙ P .line-built t h
 

@@ -1,5 +1,5 @@
 -- The departures of one stop: after them every permitted departure not before the given time is ridden, or dominated.
-use Prim.Native.Nat.{ℕ, _-_, _≤_, _<_}
+use Prim.Native.Nat.{ℕ, _+_, _-_, _≤_, _<_}
 use mathlib.Core.Path.{_≡_, refl, sym, ap, subst, _∙_}
 use mathlib.Core.Logic.{_⊎_, inl, inr, ⊎-elim}
 use mathlib.Core.Bool.{Bool, true, false, cond, _&&_, _||_, not}
@@ -36,10 +36,10 @@ pub ride-ridden : (N : Net) → Plain N → (stamp t o : ℕ) (c : Core) → o <
 unfolding ride
 ride-ridden N P stamp t o c l = record { all = λ p h m a. scan-cov N stamp t P (scan-graph N stamp t _ _ c) (omega arith) p h m a }
 
--- an earlier trip of a FIFO line serves for a later one
-pub ridden-line : {N : Net} {c : Core} → Plain N → (t u o o′ : ℕ) → N .fifo (N .line t) ≡ true → N .line u ≡ N .line t → N .pos u < N .pos t → o′ ≤ o → Ridden N c u o′ → Ridden N c t o
-ridden-line {N} {c} P t u o o′ f l p h r =
-    record { all = λ q i m a. subst (λ (s : ℕ). Cov c s (N .arr t q)) (P .fifo-stop t u q l m) (cov-later (P .fifo-arr t u q f l p m) (r .all q (omega arith) (subst (λ (n : ℕ). q < n) (sym (P .fifo-len t u l)) m) (P .fifo-alight t u q f l m ∙ a))) }
+-- of two trips of a line that prune, the earlier serves for the later
+pub ridden-line : {N : Net} {c : Core} → Plain N → (t u o o′ : ℕ) → N .prunes t ≡ true → N .prunes u ≡ true → N .line u ≡ N .line t → N .pos u < N .pos t → o′ ≤ o → Ridden N c u o′ → Ridden N c t o
+ridden-line {N} {c} P t u o o′ f g l p h r =
+    record { all = λ q i m a. subst (λ (s : ℕ). Cov c s (N .arr t q)) (P .fifo-stop t u q l m) (cov-later (P .fifo-arr t u q f g l p m) (r .all q (omega arith) (subst (λ (n : ℕ). q < n) (sym (P .fifo-len t u l)) m) (P .fifo-alight t u q f g l m ∙ a))) }
 
 abbrev pub tS : Book → ℕ → ℕ
 tS k t = getD (k .TS) t 0
@@ -56,10 +56,10 @@ pub record Even (k : Book) : Type 0 where
   pub td : length (k .TD) ≡ length (k .TS)
 
 module _ (N : Net) (round stamp : ℕ) where
-  -- what a stop's handling keeps: each boarding of this round is ridden
+  -- what a stop's handling keeps: each boarding of this round is ridden, and those noted for pruning prune
   pub record Kept (s : St) : Type 0 where
     pub even : Even (s .k)
-    pub line : (u o : ℕ) → List·Memᴰ (u, o) (s .k .LB) → Ridden N (s .c) u o
+    pub line : (u o : ℕ) → List·Memᴰ (u, o) (s .k .LB) → (N .prunes u ≡ true) × Ridden N (s .c) u o
     pub trip : (t : ℕ) → tS (s .k) t ≡ stamp → Ridden N (s .c) t (tO (s .k) t)
     pub time : (t : ℕ) → tS (s .k) t ≡ stamp → tD (s .k) t ≡ N .dep t (tO (s .k) t)
     pub inside : (t : ℕ) → tS (s .k) t ≡ stamp → tO (s .k) t < N .len t
@@ -69,7 +69,7 @@ module _ (N : Net) (round stamp : ℕ) where
   kept-board P {s} K t o l =
       record {
         even = record { to = length-set (s .k .TO) t o ∙ K .even .to ∙ sym (length-set (s .k .TS) t stamp); td = length-set (s .k .TD) t (N .dep t o) ∙ K .even .td ∙ sym (length-set (s .k .TS) t stamp) };
-        line = line (N .fifo (N .line t));
+        line = line (N .prunes t) refl;
         trip = λ u e. ⊎-elim
             (λ q. subst (λ (x : ℕ). Ridden N (ride N stamp t o (s .c)) u x) (sym (q .2)) (subst (λ (x : ℕ). Ridden N (ride N stamp t o (s .c)) x o) (sym (q .0)) (ride-ridden N P stamp t o (s .c) l)))
             (λ q. subst (λ (x : ℕ). Ridden N (ride N stamp t o (s .c)) u x) (sym (q .1)) (ridden-le (ride-le N stamp t o (s .c)) (K .trip u (sym (q .0) ∙ e))))
@@ -84,12 +84,12 @@ module _ (N : Net) (round stamp : ℕ) where
             (three u);
       }
     where
-      old : (u p : ℕ) → List·Memᴰ (u, p) (s .k .LB) → Ridden N (ride N stamp t o (s .c)) u p
-      old u p m = ridden-le (ride-le N stamp t o (s .c)) (K .line u p m)
+      old : (u p : ℕ) → List·Memᴰ (u, p) (s .k .LB) → (N .prunes u ≡ true) × Ridden N (ride N stamp t o (s .c)) u p
+      old u p m = let k = K .line u p m in (k .0, ridden-le (ride-le N stamp t o (s .c)) (k .1))
 
-      line : (b : Bool) (u p : ℕ) → List·Memᴰ (u, p) (cond b ((t, o) ∷ s .k .LB) (s .k .LB)) → Ridden N (ride N stamp t o (s .c)) u p
-      line true u p m = ⊎-elim (λ e. subst (λ (d : ℕ × ℕ). Ridden N (ride N stamp t o (s .c)) (d .0) (d .1)) (sym e) (ride-ridden N P stamp t o (s .c) l)) (old u p) (List·Memᴰ·cases-cons m)
-      line false u p m = old u p m
+      line : (b : Bool) → N .prunes t ≡ b → (u p : ℕ) → List·Memᴰ (u, p) (cond b ((t, o) ∷ s .k .LB) (s .k .LB)) → (N .prunes u ≡ true) × Ridden N (ride N stamp t o (s .c)) u p
+      line true f u p m = ⊎-elim (λ e. subst (λ (d : ℕ × ℕ). (N .prunes (d .0) ≡ true) × Ridden N (ride N stamp t o (s .c)) (d .0) (d .1)) (sym e) (f, ride-ridden N P stamp t o (s .c) l)) (old u p) (List·Memᴰ·cases-cons m)
+      line false f u p m = old u p m
 
       three : (u : ℕ) → ((u ≡ t) × (getD (set (s .k .TS) t stamp) u 0 ≡ stamp) × (getD (set (s .k .TO) t o) u 0 ≡ o) × (getD (set (s .k .TD) t (N .dep t o)) u 0 ≡ N .dep t o))
           ⊎ ((getD (set (s .k .TS) t stamp) u 0 ≡ getD (s .k .TS) u 0) × (getD (set (s .k .TO) t o) u 0 ≡ getD (s .k .TO) u 0) × (getD (set (s .k .TD) t (N .dep t o)) u 0 ≡ getD (s .k .TD) u 0))
@@ -97,12 +97,13 @@ module _ (N : Net) (round stamp : ℕ) where
 
 module _ (N : Net) (round stamp after : ℕ) where
   -- why a departure is passed over
-  pub data Skip (k : Book) (t o : ℕ) : Type 0 where
-    s-trip : N .okTrip t ≡ false → Skip k t o
-    s-line : (u o′ : ℕ) → N .fifo (N .line t) ≡ true → List·Memᴰ (u, o′) (k .LB) → N .line u ≡ N .line t → N .pos u < N .pos t → o′ ≤ o → Skip k t o
-    s-pick : N .pick t o ≡ false → Skip k t o
-    s-early : N .dep t o < after → Skip k t o
-    s-passed : tS k t ≡ stamp → tD k t ≤ N .dep t o → (N .dep t o ≡ tD k t → tO k t ≤ o) → Skip k t o
+  pub data Skip (s : St) (t o : ℕ) : Type 0 where
+    s-trip : N .okTrip t ≡ false → Skip s t o
+    s-line : (u o′ : ℕ) → N .prunes t ≡ true → List·Memᴰ (u, o′) (s .k .LB) → N .line u ≡ N .line t → N .pos u < N .pos t → o′ ≤ o → Skip s t o
+    s-pick : N .pick t o ≡ false → Skip s t o
+    s-early : N .dep t o < after → Skip s t o
+    s-best : s .c .B ≤ N .dep t o → Skip s t o
+    s-passed : tS (s .k) t ≡ stamp → tD (s .k) t ≤ N .dep t o → (N .dep t o ≡ tD (s .k) t → tO (s .k) t ≤ o) → Skip s t o
 
   pub record Take (t o : ℕ) : Type 0 where
     pub ok : N .okTrip t ≡ true
@@ -111,8 +112,8 @@ module _ (N : Net) (round stamp after : ℕ) where
 
   pub data Deps : List (ℕ × ℕ) → St → St → Type 0 where
     nil : {s : St} → Deps [] s s
-    cut : {d : ℕ × ℕ} {ds : List (ℕ × ℕ)} {s : St} → s .c .B ≤ N .dep (d .0) (d .1) → Deps (d ∷ ds) s s
-    skip : {d : ℕ × ℕ} {ds : List (ℕ × ℕ)} {s s′ : St} → Skip (s .k) (d .0) (d .1) → Deps ds s s′ → Deps (d ∷ ds) s s′
+    cut : {d : ℕ × ℕ} {ds : List (ℕ × ℕ)} {s : St} → s .c .B + N .margin ≤ N .sch (d .0) (d .1) → Deps (d ∷ ds) s s
+    skip : {d : ℕ × ℕ} {ds : List (ℕ × ℕ)} {s s′ : St} → Skip s (d .0) (d .1) → Deps ds s s′ → Deps (d ∷ ds) s s′
     go : {d : ℕ × ℕ} {ds : List (ℕ × ℕ)} {s s′ : St} → Take (d .0) (d .1) → Deps ds (record { c = ride N stamp (d .0) (d .1) (s .c); k = board N round stamp (d .0) (d .1) (s .k) }) s′ → Deps (d ∷ ds) s s′
 
   pub deps-le : {ds : List (ℕ × ℕ)} {s s′ : St} → Deps ds s s′ → Le (s′ .c) (s .c)
@@ -121,11 +122,12 @@ module _ (N : Net) (round stamp after : ℕ) where
   deps-le (skip w r) = deps-le r
   deps-le (go {d = d} {s = s} w r) = Le-trans (deps-le r) (ride-le N stamp (d .0) (d .1) (s .c))
 
-  skip-ridden : Plain N → {s : St} → Kept N round stamp s → (t o : ℕ) → o < N .len t → Skip (s .k) t o → Take t o → Ridden N (s .c) t o
+  skip-ridden : Plain N → {s : St} → Kept N round stamp s → (t o : ℕ) → o < N .len t → Skip s t o → Take t o → Ridden N (s .c) t o
   skip-ridden P K t o l (s-trip e) w = absurd (no-both (w .ok) e)
-  skip-ridden P K t o l (s-line u o′ f m e p h) w = ridden-line P t u o o′ f e p h (K .line u o′ m)
+  skip-ridden P K t o l (s-line u o′ f m e p h) w = let k = K .line u o′ m in ridden-line P t u o o′ f (k .0) e p h (k .1)
   skip-ridden P K t o l (s-pick e) w = absurd (no-both (w .pick) e)
   skip-ridden P K t o l (s-early h) w = absurd (omega (arith, w .late))
+  skip-ridden P K t o l (s-best h) w = ridden-best P h
   skip-ridden P {s} K t o l (s-passed e h f) w =
       ridden-on
       (⊎-elim
@@ -143,10 +145,11 @@ module _ (N : Net) (round stamp after : ℕ) where
   pub deps-ridden : Plain N → {ds : List (ℕ × ℕ)} {s s′ : St} → Sorted N ds → ((t o : ℕ) → List·Memᴰ (t, o) ds → o < N .len t) → Kept N round stamp s → Deps ds s s′ → (t o : ℕ) → List·Memᴰ (t, o) ds → Take t o → Ridden N (s′ .c) t o
   deps-ridden P S I K nil t o m w = absurd (List·Memᴰ·not-nil m)
   deps-ridden P (more S₁ S) I K (cut {d = d} {s = s} h) t o m w =
-      ridden-best P (⊎-elim (λ e. subst (λ (x : ℕ × ℕ). s .c .B ≤ N .dep (x .0) (x .1)) (sym e) h) (λ m′. le-trans h (S₁ t o m′)) (List·Memᴰ·cases-cons m))
+      let b : s .c .B + N .margin ≤ N .sch t o = ⊎-elim (λ e. subst (λ (x : ℕ × ℕ). s .c .B + N .margin ≤ N .sch (x .0) (x .1)) (sym e) h) (λ m′. le-trans h (S₁ t o m′)) (List·Memᴰ·cases-cons m) in
+      ridden-best P (omega (arith, b, P .early t o (I t o m)))
   deps-ridden P (more S₁ S) I K (skip {d = d} {s = s} z r) t o m w =
       ⊎-elim
-      (λ e. ridden-le (deps-le r) (skip-ridden P K t o (I t o m) (subst (λ (x : ℕ × ℕ). Skip (s .k) (x .0) (x .1)) (sym e) z) w))
+      (λ e. ridden-le (deps-le r) (skip-ridden P K t o (I t o m) (subst (λ (x : ℕ × ℕ). Skip s (x .0) (x .1)) (sym e) z) w))
       (λ m′. deps-ridden P S (λ t o m. I t o (List·Memᴰ·tail m)) K r t o m′ w)
       (List·Memᴰ·cases-cons m)
   deps-ridden P (more S₁ S) I K (go {d = d} {s = s} {s′ = s′} z r) t o m w =
@@ -169,33 +172,34 @@ module _ (N : Net) (round stamp after : ℕ) where
           (b, List·Memᴰ·head refl, eqb-true _ _ (q .0), ltb-true _ _ (q .1), leb-true _ _ (p .1))
       here (inr h) ih = let r = ih h in (r .0, List·Memᴰ·tail (r .1), r .2, r .3, r .4)
 
-  passed-by : (t o : ℕ) (k : Book) → passed N stamp t o k ≡ true → Skip k t o
+  passed-by : (t o : ℕ) (s : St) → passed N stamp t o (s .k) ≡ true → Skip s t o
   unfolding passed
-  passed-by t o k e =
+  passed-by t o s e =
+      let k = s .k in
       let p = and-true (eqb (tS k t) stamp) (not (ltb (N .dep t o) (tD k t) || (eqb (N .dep t o) (tD k t) && ltb o (tO k t)))) e in
       let q = or-false (ltb (N .dep t o) (tD k t)) (eqb (N .dep t o) (tD k t) && ltb o (tO k t)) (not-true _ (p .1)) in
       s-passed (eqb-true _ _ (p .0)) (ltb-false _ _ (q .0)) (λ h. ⊎-elim (λ n. absurd (eqb-false _ _ n h)) (λ n. ltb-false _ _ n) (and-false _ _ (q .1)))
 
-  skips-by : (t o : ℕ) (k : Book) → skips N stamp after t o k ≡ true → Skip k t o
+  skips-by : (t o : ℕ) (s : St) → skips N stamp after t o s ≡ true → Skip s t o
   unfolding skips
-  skips-by t o k e =
+  skips-by t o s e =
       ⊎-elim
       (λ e₁. ⊎-elim
       (λ e₂. ⊎-elim
       (λ e₃. ⊎-elim
       (λ e₄. s-trip (not-true _ e₄))
-      (λ e₄. let p = and-true _ _ e₄ in let b = blocked-by t o (k .LB) (p .1) in s-line (b .0 .0) (b .0 .1) (p .0) (b .1) (b .2) (b .3) (b .4))
+      (λ e₄. let p = and-true _ _ e₄ in let b = blocked-by t o (s .k .LB) (p .1) in s-line (b .0 .0) (b .0 .1) (p .0) (b .1) (b .2) (b .3) (b .4))
       (or-true _ _ e₃))
       (λ e₃. s-pick (not-true _ e₃))
       (or-true _ _ e₂))
       (λ e₂. s-early (ltb-true _ _ e₂))
       (or-true _ _ e₁))
-      (λ e₁. passed-by t o k e₁)
+      (λ e₁. ⊎-elim (λ e₂. s-best (leb-true _ _ e₂)) (λ e₂. passed-by t o s e₂) (or-true _ _ e₁))
       (or-true _ _ e)
 
-  takes-by : (t o : ℕ) (k : Book) → skips N stamp after t o k ≡ false → Take t o
+  takes-by : (t o : ℕ) (s : St) → skips N stamp after t o s ≡ false → Take t o
   unfolding skips
-  takes-by t o k e =
+  takes-by t o s e =
       let e₁ = or-false _ _ e in
       let e₂ = or-false _ _ (e₁ .0) in
       let e₃ = or-false _ _ (e₂ .0) in
@@ -205,13 +209,13 @@ module _ (N : Net) (round stamp after : ℕ) where
   pub deps-graph : (ds : List (ℕ × ℕ)) (s : St) → Deps ds s (departures N round stamp after ds s)
   unfolding departures
   deps-graph [] s = nil
-  deps-graph (d ∷ ds) s = at-test (leb (s .c .B) (N .dep (d .0) (d .1))) refl (skips N stamp after (d .0) (d .1) (s .k)) refl (deps-graph ds s) (deps-graph ds n)
+  deps-graph (d ∷ ds) s = at-test (leb (s .c .B + N .margin) (N .sch (d .0) (d .1))) refl (skips N stamp after (d .0) (d .1) s) refl (deps-graph ds s) (deps-graph ds n)
     where
       n : St
       n = record { c = ride N stamp (d .0) (d .1) (s .c); k = board N round stamp (d .0) (d .1) (s .k) }
 
-      at-test : (x : Bool) → leb (s .c .B) (N .dep (d .0) (d .1)) ≡ x → (y : Bool) → skips N stamp after (d .0) (d .1) (s .k) ≡ y → Deps ds s (departures N round stamp after ds s) → Deps ds n (departures N round stamp after ds n)
+      at-test : (x : Bool) → leb (s .c .B + N .margin) (N .sch (d .0) (d .1)) ≡ x → (y : Bool) → skips N stamp after (d .0) (d .1) s ≡ y → Deps ds s (departures N round stamp after ds s) → Deps ds n (departures N round stamp after ds n)
           → Deps (d ∷ ds) s (elim x [ true ↦ s | false ↦ elim y [ true ↦ departures N round stamp after ds s | false ↦ departures N round stamp after ds n ] ])
       at-test true e y f p q = cut (leb-true _ _ e)
-      at-test false e true f p q = skip (skips-by (d .0) (d .1) (s .k) f) p
-      at-test false e false f p q = go (takes-by (d .0) (d .1) (s .k) f) q
+      at-test false e true f p q = skip (skips-by (d .0) (d .1) s f) p
+      at-test false e false f p q = go (takes-by (d .0) (d .1) s f) q

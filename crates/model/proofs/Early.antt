@@ -6,22 +6,22 @@ use mathlib.Core.List.{List, [], _∷_, _++_, List·Memᴰ, List·Memᴰ·head, 
 use native.Mathlib.Omega.{arith}
 use borrow.Author.Tests.{lt-ltb, lt-leb}
 use Rattle.model.proofs.Net.{Net}
-use Rattle.model.proofs.PlainSearch.{Book, St, departures, skips, ride, board, blocked}
+use Rattle.model.proofs.PlainSearch.{St, departures, skips, ride, board, blocked}
 
 module _ (N : Net) (round stamp after : ℕ) where
   or-right : (a : Bool) → (a || true) ≡ true
   or-right true = refl
   or-right false = refl
 
-  early-skips : (t o : ℕ) (k : Book) → N .dep t o < after → skips N stamp after t o k ≡ true
+  early-skips : (t o : ℕ) (s : St) → N .dep t o < after → skips N stamp after t o s ≡ true
   unfolding skips
-  early-skips t o k h = rw (lt-ltb (N .dep t o) after h, or-right (not (N .okTrip t) || (N .fifo (N .line t) && blocked N t o (k .LB)) || not (N .pick t o))) refl
+  early-skips t o s h = rw (lt-ltb (N .dep t o) after h, or-right (not (N .okTrip t) || (N .prunes t && blocked N t o (s .k .LB)) || not (N .pick t o))) refl
 
-  pub early : (pre ds : List (ℕ × ℕ)) (s : St) → after ≤ s .c .B → ((d : ℕ × ℕ) → List·Memᴰ d pre → N .dep (d .0) (d .1) < after) → departures N round stamp after (pre ++ ds) s ≡ departures N round stamp after ds s
+  pub early : (pre ds : List (ℕ × ℕ)) (s : St) → after ≤ s .c .B → ((d : ℕ × ℕ) → List·Memᴰ d pre → (N .sch (d .0) (d .1) < after) × (N .dep (d .0) (d .1) < after)) → departures N round stamp after (pre ++ ds) s ≡ departures N round stamp after ds s
   unfolding departures
   early [] ds s b h = refl
   early (d ∷ pre) ds s b h =
       let l = h d (List·Memᴰ·head refl) in
-      ap (λ (x : Bool). elim x as (λ y. St) [ true ↦ s | false ↦ elim (skips N stamp after (d .0) (d .1) (s .k)) [ true ↦ departures N round stamp after (pre ++ ds) s | false ↦ departures N round stamp after (pre ++ ds) (record { c = ride N stamp (d .0) (d .1) (s .c); k = board N round stamp (d .0) (d .1) (s .k) }) ] ]) (lt-leb (s .c .B) (N .dep (d .0) (d .1)) (omega arith))
-      ∙ ap (λ (x : Bool). elim x as (λ y. St) [ true ↦ departures N round stamp after (pre ++ ds) s | false ↦ departures N round stamp after (pre ++ ds) (record { c = ride N stamp (d .0) (d .1) (s .c); k = board N round stamp (d .0) (d .1) (s .k) }) ]) (early-skips (d .0) (d .1) (s .k) l)
+      ap (λ (x : Bool). elim x as (λ y. St) [ true ↦ s | false ↦ elim (skips N stamp after (d .0) (d .1) s) [ true ↦ departures N round stamp after (pre ++ ds) s | false ↦ departures N round stamp after (pre ++ ds) (record { c = ride N stamp (d .0) (d .1) (s .c); k = board N round stamp (d .0) (d .1) (s .k) }) ] ]) (lt-leb (s .c .B + N .margin) (N .sch (d .0) (d .1)) (omega (arith, l .0)))
+      ∙ ap (λ (x : Bool). elim x as (λ y. St) [ true ↦ departures N round stamp after (pre ++ ds) s | false ↦ departures N round stamp after (pre ++ ds) (record { c = ride N stamp (d .0) (d .1) (s .c); k = board N round stamp (d .0) (d .1) (s .k) }) ]) (early-skips (d .0) (d .1) s (l .1))
       ∙ early pre ds s b (λ e m. h e (List·Memᴰ·tail m))

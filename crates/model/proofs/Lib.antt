@@ -20,6 +20,8 @@ pub mod Stamps
 pub mod Simulation
 pub mod Lists
 pub mod BuiltLines
+pub mod Delayed
+pub mod TripDelays
 pub mod PlainNet
 pub mod Demand3
 pub mod Pareto

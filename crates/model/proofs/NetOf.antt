@@ -1,12 +1,14 @@
 -- Tables and query as the net of the optimality proof, and the full search's state as the plain search's.
 use Prim.Native.Nat.{ℕ, _-_}
-use mathlib.Core.Path.{_≡_, ap, _∙_}
-use mathlib.Core.Bool.{true, false, not}
+use mathlib.Core.Bool.{true, false, not, _||_}
 use mathlib.Core.List.{map}
 use lib.Dec.{ltb}
+use lib.IntN.{subℕ}
+use Rattle.signed.specs.Signed.{bitsOf}
 use Rattle.departures.specs.declared.DepartureRow.{DepartureRow}
-use Rattle.model.specs.Tables.{never, Tables, Origin, Query, isEgress, egressWalk, stops, trips, stopCount, stopAt, arrival, departure, noPickup, noDropOff, edgesFrom, edgeTo, walkTime, position, fifo, permitted}
-use Rattle.model.specs.Search.{reachedBy, Arrivals, Boardings, State, departuresAt, lineAt}
+use Rattle.model.specs.Tables.{never, Tables, Origin, Query, isEgress, egressWalk, stops, trips, stopCount, stopAt, departure, noPickup, noDropOff, edgesFrom, edgeTo, walkTime, position, permitted}
+use Rattle.model.specs.Search.{reachedBy, Arrivals, Boardings, State, departuresAt, lineAt, delayOf, skipped, marginOf, prunable}
+use Rattle.model.specs.Promise.{effective}
 use Rattle.model.proofs.Net.{Net}
 use Rattle.model.proofs.PlainSearch
 
@@ -30,14 +32,16 @@ net T Q =
       MAX = never;
       len = countAt T;
       stopAt = stopAt T;
-      arr = arrival T;
-      dep = departure T;
-      alight = λ t o. not (noDropOff T t o);
-      pick = λ t o. not (noPickup T t o);
+      arr = effective T Q .arrives;
+      dep = effective T Q .departs;
+      sch = departure T;
+      margin = marginOf T Q;
+      alight = λ t o. not (noDropOff T t o || skipped T Q (delayOf Q t) t o);
+      pick = λ t o. not (noPickup T t o || skipped T Q (delayOf Q t) t o);
       okTrip = permitted T Q;
       line = lineAt T;
       pos = position T;
-      fifo = fifo T;
+      prunes = λ t. prunable T Q (delayOf Q t) t;
       deps = λ x. map pairOf (departuresAt T x);
       edges = λ x. map (walkOf T Q) (edgesFrom T x);
       orig = map originOf (Q .origins);
@@ -49,6 +53,10 @@ net T Q =
       slack = Q .settings .candidateSlack;
     }
 
+-- the shift of a boarding of trip t at offset o
+abbrev pub shiftAt : Tables → Query → ℕ → ℕ → ℕ
+shiftAt T Q t o = bitsOf (subℕ (effective T Q .departs t o) (departure T t o))
+
 abbrev pub coreOf : Arrivals → PlainSearch.Core
 coreOf c = record { lab = map reachedBy (c .labels); E = c .earliest; B = c .best; SS = c .stopStamp; Q = c .reached }
 
@@ -57,27 +65,3 @@ bookOf k = record { TS = k .tripStamp; TO = k .boardOffset; TD = k .boardDepartu
 
 abbrev pub stateOf : State → PlainSearch.St
 stateOf s = record { c = coreOf (s .arrivals); k = bookOf (s .boardings) }
-
--- a query with other counts of delay rows and stop rows
-abbrev withDelays : Query → ℕ → ℕ → Query
-withDelays Q n m =
-    record {
-      start = Q .start;
-      origins = Q .origins;
-      egress = Q .egress;
-      modes = Q .modes;
-      wheelchair = Q .wheelchair;
-      change = Q .change;
-      wantedRounds = Q .wantedRounds;
-      transfers = Q .transfers;
-      delays = record { delays = n; delay = Q .delays .delay; stopRows = m; stopRow = Q .delays .stopRow };
-      flagsOff = Q .flagsOff;
-      settings = Q .settings;
-    }
-
--- the query without delay rows
-abbrev pub undelay : Query → Query
-undelay Q = withDelays Q 0 0
-
-pub undelay-same : (Q : Query) → Q .delays .delays ≡ 0 → Q .delays .stopRows ≡ 0 → Q ≡ undelay Q
-undelay-same Q e f = ap (λ (n : ℕ). withDelays Q n (Q .delays .stopRows)) e ∙ ap (λ (m : ℕ). withDelays Q 0 m) f

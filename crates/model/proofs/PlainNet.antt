@@ -1,5 +1,5 @@
--- A plain day's tables and query make a net with the laws that the optimality proof needs.
-use Prim.Native.Nat.{ℕ, suc, _-_, _≤_, _<_}
+-- A steady day's tables and query make a net with the laws that the optimality proof needs.
+use Prim.Native.Nat.{ℕ, suc, _+_, _-_, _≤_, _<_}
 use mathlib.Core.Path.{_≡_, refl, sym, ap, subst, _∙_}
 use mathlib.Core.Logic.{_⊎_, inl, inr, ⊎-elim}
 use mathlib.Core.Bool.{Bool, true, false, _&&_, _||_, not}
@@ -10,16 +10,17 @@ use borrow.Author.Tests.{ltb-true, eqb-true, eqb-false, lt-ltb, le-ltb}
 use Rattle.loops.specs.Count.{one}
 use Rattle.departures.specs.declared.DepartureRow.{DepartureRow}
 use Rattle.departures.specs.Departures.{sorted, frequencyListed, rowDeparture}
-use Rattle.model.specs.Tables.{never, Tables, Origin, Query, isEgress, egressWalk, stops, trips, stopCount, arrival, departure, noWindows, edgesFrom, edgeTo, walkTime, fifo}
-use Rattle.model.specs.Search.{departuresAt, markAt, lineAt}
+use Rattle.model.specs.Tables.{never, Tables, Origin, Query, isEgress, egressWalk, stops, trips, stopCount, arrival, departure, noDropOff, noWindows, edgesFrom, edgeTo, walkTime, fifo}
+use Rattle.model.specs.Search.{departuresAt, markAt, lineAt, delayOf, undelayed, skipped, prunable}
 use Rattle.model.specs.Door.{Door, InOrder, EgressRising}
-use Rattle.model.specs.Promise.{PlainDay}
-use Rattle.model.proofs.Base.{split, no-both}
+use Rattle.model.specs.Promise.{CalmDay, SteadyDay, effective}
+use Rattle.model.proofs.Base.{split, no-both, and-true}
 use Rattle.model.proofs.Net.{Plain, Sorted, none, more}
 use Rattle.model.proofs.Times
 use Rattle.model.proofs.NetOf.{net, pairOf, walkOf, originOf, countAt}
 use Rattle.model.proofs.Lists.{sort-has, keep-only, upto-only}
 use Rattle.model.proofs.BuiltLines.{same-count, same-stop, no-later-arrival, same-drop-off}
+use Rattle.model.proofs.Delayed.{on-time, stops-there, depart-late, depart-early}
 
 -- what the clamped readings give
 module _ (T : Tables) where
@@ -149,7 +150,10 @@ sorted-of T Q InOrder.none = none
 sorted-of T Q (InOrder.more {d = d} {ds = ds} h r) =
     more (λ u p m. let f = Memᴰ·of-map pairOf ds m in subst (λ (z : ℕ × ℕ). departure T (d .trip) (d .offset) ≤ departure T (z .0) (z .1)) (f .2) (h (f .0) (f .1))) (sorted-of T Q r)
 
-module _ (T : Tables) (Q : Query) (D : Door T Q) (P : PlainDay T Q) where
+module _ (T : Tables) (Q : Query) (D : Door T Q) (S : SteadyDay T Q) where
+  abbrev P : CalmDay T Q
+  P = S .calm
+
   pub calm-mark : (x : ℕ) → markAt T x ≡ false
   unfolding markAt
   calm-mark x = go (ltb x (stops T)) refl
@@ -162,8 +166,8 @@ module _ (T : Tables) (Q : Query) (D : Door T Q) (P : PlainDay T Q) where
           ∙ ap one (unlisted T (P .listed x) (λ d m. P .no-windows (d .trip) (D .listed-trip x d h (subst (λ (l : List DepartureRow). List·Memᴰ d l) (sym (P .departures-built x h)) (sort-has (rowDeparture (T .timetable)) (P .listed x) d m))))))
       go false e = refl
 
-  pub calm-trips : (x : ℕ) (d : DepartureRow) → List·Memᴰ d (departuresAt T x) → (d .trip < trips T) × (noWindows T (d .trip) ≡ true)
-  calm-trips x d m = let e = deps-at T x d m in let h = D .listed-trip x d (e .0) (e .1) in (h, P .no-windows (d .trip) h)
+  pub calm-trips : (x : ℕ) (d : DepartureRow) → List·Memᴰ d (departuresAt T x) → (d .trip < trips T) × (noWindows T (d .trip) ≡ true) × (d .offset < stopCount T (d .trip))
+  calm-trips x d m = let e = deps-at T x d m in let h = D .listed-trip x d (e .0) (e .1) in (h, P .no-windows (d .trip) h, D .listed-offset x d (e .0) (e .1))
 
   -- both trips are in the table, or both are past it
   both : (t u : ℕ) → lineAt T u ≡ lineAt T t → ((t < trips T) × (u < trips T) × (T .lineOf u ≡ T .lineOf t)) ⊎ ((trips T ≤ t) × (trips T ≤ u))
@@ -184,15 +188,19 @@ module _ (T : Tables) (Q : Query) (D : Door T Q) (P : PlainDay T Q) where
       let c = count-at T t o h in
       ⊎-elim (λ b. (b .0, b .1, b .2, c .1)) (λ b. absurd (omega (arith, b .0, c .0))) (both t u e)
 
-  -- the flag of the line of a trip in the table
-  flag : (t : ℕ) → t < trips T → fifo T (lineAt T t) ≡ true → fifo T (T .lineOf t) ≡ true
-  flag t h f = subst (λ (z : ℕ). fifo T z ≡ true) (at-line T t h) f
+  -- a trip that prunes has no delay row, and the line of one in the table is FIFO
+  flag : (t : ℕ) → t < trips T → prunable T Q (delayOf Q t) t ≡ true → (undelayed (delayOf Q t) ≡ true) × (fifo T (T .lineOf t) ≡ true)
+  flag t h f = let p = and-true _ _ f in (p .0, subst (λ (z : ℕ). fifo T z ≡ true) (at-line T t h) (p .1))
 
-  up : (t o : ℕ) → o < countAt T t → arrival T t o ≤ departure T t o
-  up t o h = let c = count-at T t o h in P .waits t o (c .0) (c .1)
+  up : (t o : ℕ) → o < countAt T t → effective T Q .arrives t o ≤ effective T Q .departs t o
+  up t o h = let c = count-at T t o h in omega (arith, S .no-times-fall .waits t o (c .0) (c .1))
 
-  on : (t o : ℕ) → suc o < countAt T t → departure T t o ≤ arrival T t (suc o)
-  on t o h = let c = count-at T t (suc o) h in P .rides t o (c .0) (c .1)
+  on : (t o : ℕ) → suc o < countAt T t → effective T Q .departs t o ≤ effective T Q .arrives t (suc o)
+  on t o h = let c = count-at T t (suc o) h in omega (arith, S .no-times-fall .rides t o (c .0) (c .1))
+
+  -- a trip that prunes arrives on schedule, and sets down where its schedule says
+  sets-down : (t o : ℕ) → undelayed (delayOf Q t) ≡ true → not (noDropOff T t o || skipped T Q (delayOf Q t) t o) ≡ not (noDropOff T t o || false)
+  sets-down t o e = ap (λ (z : Bool). not (noDropOff T t o || z)) (stops-there T Q (delayOf Q t) t o e)
 
   pub plain : Plain (net T Q)
   plain =
@@ -201,14 +209,22 @@ module _ (T : Tables) (Q : Query) (D : Door T Q) (P : PlainDay T Q) where
             (λ h. subst (λ (l : List DepartureRow). Sorted (net T Q) (map pairOf l)) (sym (at-deps T s h)) (sorted-of T Q (D .departures-sorted s h)))
             (λ h. subst (λ (l : List DepartureRow). Sorted (net T Q) (map pairOf l)) (sym (out-deps T s h)) none)
             (split s (stops T));
+        late = λ t o h. let c = count-at T t o h in depart-late T Q S t o (c .0) (c .1);
+        early = λ t o h. let c = count-at T t o h in depart-early T Q S t o (c .0) (c .1);
         dep-dep = Times.dep-dep (net T Q) up on;
         arr-arr = Times.arr-arr (net T Q) up on;
         dep-arr = Times.dep-arr (net T Q) up on;
         listed = λ s t o m. let d = row-of T s t o m in let h = D .listed-trip s _ (d .0) (d .1) in omega (arith, at-count T t h, D .listed-offset s _ (d .0) (d .1));
         fifo-len = λ t u e. ⊎-elim (λ b. omega (arith, at-count T t (b .0), at-count T u (b .1), same-count T Q P t u (b .0) (b .1) (b .2))) (λ b. out-count T u (b .1) ∙ sym (out-count T t (b .0))) (both t u e);
         fifo-stop = λ t u o e h. let b = both-in t u o e h in same-stop T Q P t u (b .0) (b .1) (b .2) o (b .3);
-        fifo-arr = λ t u o f e q h. let b = both-in t u o e h in no-later-arrival T Q P t u (b .0) (b .1) (b .2) (flag t (b .0) f) (omega arith) o (b .3);
-        fifo-alight = λ t u o f e h. let b = both-in t u o e h in ap not (same-drop-off T Q P t u (b .0) (b .1) (b .2) (flag t (b .0) f) o (b .3));
+        fifo-arr = λ t u o f g e q h.
+            let b = both-in t u o e h in
+            let k = flag t (b .0) f in
+            omega (arith, on-time T Q (delayOf Q t) t o (k .0), on-time T Q (delayOf Q u) u o (flag u (b .1) g .0), no-later-arrival T Q P t u (b .0) (b .1) (b .2) (k .1) (omega arith) o (b .3));
+        fifo-alight = λ t u o f g e h.
+            let b = both-in t u o e h in
+            let k = flag t (b .0) f in
+            sets-down u o (flag u (b .1) g .0) ∙ (ap (λ (z : Bool). not (z || false)) (same-drop-off T Q P t u (b .0) (b .1) (b .2) (k .1) o (b .3)) ∙ sym (sets-down t o (k .0)));
         deps-in = λ x t o m. row-of T x t o m .0;
         edge-in = λ x y d m. let e = edge-of T Q x y d m in let i = edge-in T x (e .edge) (e .member) in subst (λ (z : ℕ). z < stops T) (i .1) (D .edge-from (e .edge) (i .0));
         stop-in = λ t p h. let c = count-at T t p h in D .stop-in t p (c .0) (c .1);

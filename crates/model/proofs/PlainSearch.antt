@@ -1,4 +1,4 @@
--- The search, unflagged: what `run_tbr` does where no arc flags are in use, on no delays and no frequency trips.
+-- The search, unflagged: what `run_tbr` does where no arc flags are in use, on no frequency trips and no delay but of whole trips.
 use Prim.Native.Nat.{ℕ, zero, suc, _+_, _*_, _-_}
 use mathlib.Core.Bool.{Bool, true, false, cond, _&&_, _||_, not}
 use mathlib.Core.List.{List, [], _∷_, _++_}
@@ -56,22 +56,22 @@ module _ (N : Net) where
   blocked t o (b ∷ bs) = (eqb (N .line (b .0)) (N .line t) && ltb (N .pos (b .0)) (N .pos t) && leb (b .1) o) || blocked t o bs
 
   unfoldable pub board : ℕ → ℕ → ℕ → ℕ → Book → Book
-  board round stamp t o k = record { TS = set (k .TS) t stamp; TO = set (k .TO) t o; TD = set (k .TD) t (N .dep t o); LB = cond (N .fifo (N .line t)) ((t, o) ∷ k .LB) (k .LB); log = (round, t, o) ∷ k .log }
+  board round stamp t o k = record { TS = set (k .TS) t stamp; TO = set (k .TO) t o; TD = set (k .TD) t (N .dep t o); LB = cond (N .prunes t) ((t, o) ∷ k .LB) (k .LB); log = (round, t, o) ∷ k .log }
 
   -- is the trip passed over for a boarding of this round?
   unfoldable pub passed : ℕ → ℕ → ℕ → Book → Bool
   passed stamp t o k =
       eqb (getD (k .TS) t 0) stamp && not (ltb (N .dep t o) (getD (k .TD) t 0) || (eqb (N .dep t o) (getD (k .TD) t 0) && ltb o (getD (k .TO) t 0)))
 
-  unfoldable pub skips : ℕ → ℕ → ℕ → ℕ → Book → Bool
-  skips stamp after t o k = not (N .okTrip t) || (N .fifo (N .line t) && blocked t o (k .LB)) || not (N .pick t o) || ltb (N .dep t o) after || passed stamp t o k
+  unfoldable pub skips : ℕ → ℕ → ℕ → ℕ → St → Bool
+  skips stamp after t o s = not (N .okTrip t) || (N .prunes t && blocked t o (s .k .LB)) || not (N .pick t o) || ltb (N .dep t o) after || (leb (s .c .B) (N .dep t o) || passed stamp t o (s .k))
 
   unfoldable pub departures : ℕ → ℕ → ℕ → List (ℕ × ℕ) → St → St
   departures round stamp after [] s = s
   departures round stamp after (d ∷ ds) s =
-      elim (leb (s .c .B) (N .dep (d .0) (d .1))) [
+      elim (leb (s .c .B + N .margin) (N .sch (d .0) (d .1))) [
         | true ↦ s
-        | false ↦ elim (skips stamp after (d .0) (d .1) (s .k)) [
+        | false ↦ elim (skips stamp after (d .0) (d .1) s) [
           | true ↦ departures round stamp after ds s
           | false ↦ departures round stamp after ds (record { c = ride stamp (d .0) (d .1) (s .c); k = board round stamp (d .0) (d .1) (s .k) })
         ]

@@ -1,27 +1,24 @@
--- In unflagged mode, without delays and frequency trips, the full search goes step by step with the small one.
+-- In unflagged mode, without frequency trips and where arrivals do not depend on the boarding, the full search goes step by step with the
+-- small one.
 use Prim.Native.Nat.{ℕ, zero, suc, _+_, _*_, _-_, _≤_, _<_}
 use mathlib.Core.Path.{_≡_, refl, sym, ap, subst, _∙_}
 use mathlib.Core.Bool.{Bool, true, false, cond, _&&_, _||_, not}
-use mathlib.Core.List.{List, [], _∷_, _++_, map, List·Memᴰ, List·Memᴰ·head, List·Memᴰ·tail, List·Memᴰ·eq-of-singleton}
+use mathlib.Core.List.{List, [], _∷_, _++_, map, List·Memᴰ, List·Memᴰ·head, List·Memᴰ·tail, List·Memᴰ·eq-of-singleton, Memᴰ·map}
 use native.Mathlib.Omega.{arith}
-use native.Mathlib.Nat.{add-zero, sub-zero, min-zero}
 use lib.ListN.{length, getD, set, replicate, length-set, length-replicate, List·getD-map}
 use lib.Dec.{ltb, leb, eqb}
-use borrow.Author.Tests.{ltb-true, leb-false, lt-ltb, le-ltb, lt-leb, eqb-true, eq-eqb, ne-eqb}
-use lib.IntN.{pos, subℕ}
-use Rattle.loops.specs.Iter.{miss, iter, first}
-use Rattle.signed.specs.Signed.{bitsOf}
+use borrow.Author.Tests.{ltb-true, leb-false, lt-ltb, eqb-true, eq-eqb, ne-eqb}
 use Rattle.frequency.specs.declared.Boarding.{Boarding}
 use Rattle.frequency.specs.declared.FreqBoard.{FreqBoard}
 use Rattle.frequency.specs.declared.FreqBoard.the-variants.{Nothing, Board}
-use Rattle.realtime.specs.Times.{shifted}
 use Rattle.label.specs.declared.Label.{Label}
 use Rattle.label.specs.declared.Label.the-variants.{Empty, Access, Transit, Walk}
 use Rattle.label_table.specs.Table.{recordOf}
 use Rattle.departures.specs.declared.DepartureRow.{DepartureRow}
 use Rattle.frequency.specs.Gtfs.{earliestFreqBoard}
-use Rattle.model.specs.Tables.{never, Tables, Origin, Query, roundsOf, changeBefore, isEgress, egressWalk, stops, trips, stopCount, stopAt, arrival, departure, noPickup, noDropOff, noWindows, edgesFrom, edgeTo, walkTime, position, fifo, permitted}
-use Rattle.model.specs.Search.{reachedBy, Arrivals, Boardings, State, Answer, tripWindow, departureNow, marginOf, boardAt, notBefore, departuresAt, markAt, lineAt, bestAfter, improve, relax, alightings, scanTripForward, dominated, pruned, passedOver, boarding, board, scanDepartures, scanStops, walkFrom, walkAll, stamped, emptied, roundStart, ridePhase, walkPhase, idle, rounds, setOut, access, newArrivals, begin, bestTarget, rowTarget, candidatesFrom, final, answer}
+use Rattle.model.specs.Tables.{never, Tables, Origin, Query, roundsOf, changeBefore, isEgress, egressWalk, stops, trips, stopCount, stopAt, departure, noPickup, noDropOff, noWindows, edgesFrom, edgeTo, walkTime, position, permitted}
+use Rattle.model.specs.Search.{reachedBy, Arrivals, Boardings, State, Answer, tripWindow, delayOf, skipped, arrivalNow, marginOf, prunable, boardAt, notBefore, departuresAt, markAt, lineAt, bestAfter, improve, relax, alightings, scanTripForward, dominated, pruned, passedOver, boarding, board, scanDepartures, scanStops, walkFrom, walkAll, stamped, emptied, roundStart, ridePhase, walkPhase, idle, rounds, setOut, access, newArrivals, begin, bestTarget, rowTarget, candidatesFrom, final, answer}
+use Rattle.model.specs.Promise.{effective}
 use Rattle.model.proofs.Base.{no-both}
 use Rattle.model.proofs.Net.{Net, Plain}
 use Rattle.model.proofs.PlainSearch
@@ -30,7 +27,7 @@ use Rattle.model.proofs.Departures.{deps-le, deps-graph}
 use Rattle.model.proofs.Rounds.{Inv, round-inv}
 use Rattle.model.proofs.Access.{begin-inv}
 use Rattle.model.proofs.Stamps.{transit-stamped, round-long, idle-rounds}
-use Rattle.model.proofs.NetOf.{net, coreOf, bookOf, stateOf, undelay, pairOf, walkOf, originOf, countAt}
+use Rattle.model.proofs.NetOf.{net, shiftAt, coreOf, bookOf, stateOf, pairOf, walkOf, originOf, countAt}
 
 map-set : {A : Type 0} (f : A → ℕ) (l : List A) (i : ℕ) (x : A) → map f (set l i x) ≡ set (map f l) i (f x)
 map-set f [] i x = refl
@@ -41,23 +38,9 @@ map-replicate : {A : Type 0} (f : A → ℕ) (n : ℕ) (x : A) → map f (replic
 map-replicate f zero x = refl
 map-replicate f (suc n) x = ap (λ (z : List ℕ). f x ∷ z) (map-replicate f n x)
 
--- no shift, no delay
-self-shift : (a : ℕ) → bitsOf (subℕ a a) ≡ 0
-self-shift a = let e : subℕ a a ≡ pos 0 = rw (le-ltb a a (omega arith)) (ap pos (omega arith)) in ap bitsOf e
-
-unshifted : (a : ℕ) → shifted a 0 ≡ a
-unshifted a = add-zero a
-
-module _ (T : Tables) (Q₁ : Query) where
-  abbrev Q : Query
-  Q = undelay Q₁
-
+module _ (T : Tables) (Q : Query) where
   abbrev N : Net
   N = net T Q
-
-  no-margin : marginOf T Q ≡ 0
-  unfolding iter
-  no-margin = min-zero (Q .settings .marginCap)
 
   sim-improve : (stamp s v : ℕ) (l : Label) (c : Arrivals) → reachedBy l ≡ suc v → coreOf (improve T Q stamp s v l c) ≡ PlainSearch.imp N stamp s v (coreOf c)
   unfolding improve PlainSearch.imp bestAfter PlainSearch.best
@@ -73,35 +56,40 @@ module _ (T : Tables) (Q₁ : Query) where
       go true = sim-improve stamp s v l c e
       go false = refl
 
-  sim-alightings : (stamp t x o k off : ℕ) (c : Arrivals) → coreOf (alightings T Q stamp miss 0 t x o k off c) ≡ PlainSearch.scan N stamp t k off (coreOf c)
+  -- of a trip whose arrivals from here on, moved by this shift, are the net's
+  sim-alightings : (stamp t x o z k off : ℕ) → ((p : ℕ) → off ≤ p → p < off + k → arrivalNow T Q (delayOf Q t) z t p ≡ N .arr t p) → (c : Arrivals)
+      → coreOf (alightings T Q stamp (delayOf Q t) z t x o k off c) ≡ PlainSearch.scan N stamp t k off (coreOf c)
   unfolding alightings PlainSearch.scan
-  sim-alightings stamp t x o zero off c = refl
-  sim-alightings stamp t x o (suc k) off c =
+  sim-alightings stamp t x o z zero off A c = refl
+  sim-alightings stamp t x o z (suc k) off A c =
       subst
-      (λ (a : ℕ). coreOf (elim (noDropOff T t off || false) [ true ↦ alightings T Q stamp miss 0 t x o k (suc off) c | false ↦ elim (ltb a (c .best)) [ false ↦ c | true ↦ alightings T Q stamp miss 0 t x o k (suc off) (relax T Q stamp (stopAt T t off) a (Transit a t x o off (stamp - 2) 0) c) ] ])
-      ≡ elim (not (noDropOff T t off)) [ false ↦ PlainSearch.scan N stamp t k (suc off) (coreOf c) | true ↦ elim (ltb (arrival T t off) (c .best)) [ false ↦ coreOf c | true ↦ PlainSearch.scan N stamp t k (suc off) n′ ] ])
-      (sym (add-zero (arrival T t off)))
-      (go (noDropOff T t off) (ltb (arrival T t off) (c .best)) (sim-alightings stamp t x o k (suc off) c)
-      (sim-alightings stamp t x o k (suc off) n ∙ ap (PlainSearch.scan N stamp t k (suc off)) (sim-relax stamp (stopAt T t off) (arrival T t off) _ c refl)))
+      (λ (a : ℕ). coreOf (elim (noDropOff T t off || skipped T Q (delayOf Q t) t off) [ true ↦ alightings T Q stamp (delayOf Q t) z t x o k (suc off) c | false ↦ elim (ltb a (c .best)) [ false ↦ c | true ↦ alightings T Q stamp (delayOf Q t) z t x o k (suc off) (relax T Q stamp (stopAt T t off) a (Transit a t x o off (stamp - 2) z) c) ] ])
+      ≡ elim (not (noDropOff T t off || skipped T Q (delayOf Q t) t off)) [ false ↦ PlainSearch.scan N stamp t k (suc off) (coreOf c) | true ↦ elim (ltb (effective T Q .arrives t off) (c .best)) [ false ↦ coreOf c | true ↦ PlainSearch.scan N stamp t k (suc off) n′ ] ])
+      (sym (A off (omega arith) (omega arith)))
+      (go (noDropOff T t off || skipped T Q (delayOf Q t) t off) (ltb (effective T Q .arrives t off) (c .best)) (sim-alightings stamp t x o z k (suc off) A′ c)
+      (sim-alightings stamp t x o z k (suc off) A′ n ∙ ap (PlainSearch.scan N stamp t k (suc off)) (sim-relax stamp (stopAt T t off) (effective T Q .arrives t off) _ c refl)))
     where
+      A′ : (p : ℕ) → suc off ≤ p → p < suc off + k → arrivalNow T Q (delayOf Q t) z t p ≡ N .arr t p
+      A′ p l u = A p (omega arith) (omega arith)
+
       n : Arrivals
-      n = relax T Q stamp (stopAt T t off) (arrival T t off) (Transit (arrival T t off) t x o off (stamp - 2) 0) c
+      n = relax T Q stamp (stopAt T t off) (effective T Q .arrives t off) (Transit (effective T Q .arrives t off) t x o off (stamp - 2) z) c
 
       n′ : PlainSearch.Core
-      n′ = PlainSearch.relax N stamp (stopAt T t off) (arrival T t off) (coreOf c)
+      n′ = PlainSearch.relax N stamp (stopAt T t off) (effective T Q .arrives t off) (coreOf c)
 
-      go : (b d : Bool) → coreOf (alightings T Q stamp miss 0 t x o k (suc off) c) ≡ PlainSearch.scan N stamp t k (suc off) (coreOf c)
-          → coreOf (alightings T Q stamp miss 0 t x o k (suc off) n) ≡ PlainSearch.scan N stamp t k (suc off) n′
-          → coreOf (elim (b || false) [ true ↦ alightings T Q stamp miss 0 t x o k (suc off) c | false ↦ elim d [ false ↦ c | true ↦ alightings T Q stamp miss 0 t x o k (suc off) n ] ])
+      go : (b d : Bool) → coreOf (alightings T Q stamp (delayOf Q t) z t x o k (suc off) c) ≡ PlainSearch.scan N stamp t k (suc off) (coreOf c)
+          → coreOf (alightings T Q stamp (delayOf Q t) z t x o k (suc off) n) ≡ PlainSearch.scan N stamp t k (suc off) n′
+          → coreOf (elim b [ true ↦ alightings T Q stamp (delayOf Q t) z t x o k (suc off) c | false ↦ elim d [ false ↦ c | true ↦ alightings T Q stamp (delayOf Q t) z t x o k (suc off) n ] ])
           ≡ elim (not b) [ false ↦ PlainSearch.scan N stamp t k (suc off) (coreOf c) | true ↦ elim d [ false ↦ coreOf c | true ↦ PlainSearch.scan N stamp t k (suc off) n′ ] ]
       go true d p q = p
       go false false p q = refl
       go false true p q = q
 
-  sim-scan : (stamp t x o : ℕ) (c : Arrivals) → t < trips T → coreOf (scanTripForward T Q false stamp miss 0 t x o c) ≡ PlainSearch.ride N stamp t o (coreOf c)
+  sim-scan : (stamp t x o z : ℕ) (c : Arrivals) → t < trips T → ((p : ℕ) → o < p → p < stopCount T t → arrivalNow T Q (delayOf Q t) z t p ≡ N .arr t p) → coreOf (scanTripForward T Q false stamp (delayOf Q t) z t x o c) ≡ PlainSearch.ride N stamp t o (coreOf c)
   unfolding scanTripForward PlainSearch.ride countAt
-  sim-scan stamp t x o c h =
-      sim-alightings stamp t x o (stopCount T t - suc o) (suc o) c
+  sim-scan stamp t x o z c h A =
+      sim-alightings stamp t x o z (stopCount T t - suc o) (suc o) (λ p l u. A p (omega arith) (omega arith)) c
       ∙ ap (λ (b : Bool). PlainSearch.scan N stamp t (elim b as (λ z. ℕ) [ true ↦ stopCount T t | false ↦ 0 ] - suc o) (suc o) (coreOf c)) (sym (lt-ltb t (trips T) h))
 
   sim-blocked : (t o : ℕ) (bs : List (ℕ × ℕ)) → dominated T Q t o bs ≡ PlainSearch.blocked N t o bs
@@ -109,62 +97,58 @@ module _ (T : Tables) (Q₁ : Query) where
   sim-blocked t o [] = refl
   sim-blocked t o (b ∷ bs) = ap (λ (z : Bool). ((eqb (lineAt T (b .0)) (lineAt T t) && ltb (position T (b .0)) (position T t)) && leb (b .1) o) || z) (sim-blocked t o bs)
 
-  -- a boarding on schedule
-  abbrev onTime : ℕ → ℕ → Boarding
-  onTime t o = record { departure = departure T t o; «time_shift_s» = 0; window = 0; run = 0 }
+  -- a boarding
+  abbrev boardedAt : ℕ → ℕ → Boarding
+  boardedAt t o = record { departure = effective T Q .departs t o; «time_shift_s» = shiftAt T Q t o; window = 0; run = 0 }
 
-  calm-board : (t o after : ℕ) → noWindows T t ≡ true → boardAt T Q miss t o after ≡ elim (ltb (departure T t o) after) [ true ↦ Nothing | false ↦ Board (onTime t o) ]
+  calm-board : (t o after : ℕ) → noWindows T t ≡ true → boardAt T Q (delayOf Q t) t o after ≡ elim (ltb (effective T Q .departs t o) after) [ true ↦ Nothing | false ↦ Board (boardedAt t o) ]
   unfolding boardAt
   calm-board t o after w =
-      ap (λ (b : Bool). elim b as (λ z. FreqBoard) [ true ↦ F (departureNow T Q miss t o) (departureNow T Q miss t o) | false ↦ earliestFreqBoard (T .timetable .trip t .windows) (tripWindow T t) (departure T t 0) (departureNow T Q miss t o) after ]) w
-      ∙ (ap (λ (d : ℕ). F d d) (unshifted (departure T t o)) ∙ G (self-shift (departure T t o)))
-    where
-      F : ℕ → ℕ → FreqBoard
-      F d e = elim (ltb d after) [ true ↦ Nothing | false ↦ Board (record { departure = d; «time_shift_s» = bitsOf (subℕ e (departure T t o)); window = 0; run = 0 }) ]
+      ap (λ (b : Bool). elim b as (λ z. FreqBoard) [ true ↦ elim (ltb (effective T Q .departs t o) after) [ true ↦ Nothing | false ↦ Board (boardedAt t o) ] | false ↦ earliestFreqBoard (T .timetable .trip t .windows) (tripWindow T t) (departure T t 0) (effective T Q .departs t o) after ]) w
 
-      G : bitsOf (subℕ (departure T t o) (departure T t o)) ≡ 0 → F (departure T t o) (departure T t o) ≡ elim (ltb (departure T t o) after) [ true ↦ Nothing | false ↦ Board (onTime t o) ]
-      G e = ap (λ (x : ℕ). elim (ltb (departure T t o) after) as (λ z. FreqBoard) [ true ↦ Nothing | false ↦ Board (record { departure = departure T t o; «time_shift_s» = x; window = 0; run = 0 }) ]) e
-
-  -- one listed departure, before the best total
-  sim-boarding : (stamp after t o : ℕ) (s : State) → noWindows T t ≡ true → departure T t o < s .arrivals .best
-      → boarding T Q stamp after miss t o s ≡ elim (PlainSearch.skips N stamp after t o (bookOf (s .boardings))) [ true ↦ Nothing | false ↦ Board (onTime t o) ]
+  -- one listed departure
+  sim-boarding : (stamp after t o : ℕ) (s : State) → noWindows T t ≡ true
+      → boarding T Q stamp after (delayOf Q t) t o s ≡ elim (PlainSearch.skips N stamp after t o (stateOf s)) [ true ↦ Nothing | false ↦ Board (boardedAt t o) ]
   unfolding boarding pruned passedOver PlainSearch.skips PlainSearch.passed
-  sim-boarding stamp after t o s w h =
-      go (permitted T Q t) (fifo T (lineAt T t) && dominated T Q t o (s .boardings .lineBoards)) (fifo T (lineAt T t) && PlainSearch.blocked N t o (s .boardings .lineBoards)) (ap (λ (z : Bool). fifo T (lineAt T t) && z) (sim-blocked t o (s .boardings .lineBoards)))
-      (noPickup T t o) (ltb (departure T t o) after) (λ x. leb (s .arrivals .best) x || passedOver T Q stamp t o x (s .boardings)) (PlainSearch.passed N stamp t o (bookOf (s .boardings)))
-      (ap (λ (z : Bool). z || passedOver T Q stamp t o (departure T t o) (s .boardings)) (lt-leb (s .arrivals .best) (departure T t o) h)) (boardAt T Q miss t o after) (calm-board t o after w)
+  sim-boarding stamp after t o s w =
+      go (permitted T Q t) (prunable T Q (delayOf Q t) t && dominated T Q t o (s .boardings .lineBoards)) (prunable T Q (delayOf Q t) t && PlainSearch.blocked N t o (s .boardings .lineBoards)) (ap (λ (z : Bool). prunable T Q (delayOf Q t) t && z) (sim-blocked t o (s .boardings .lineBoards)))
+      (noPickup T t o) (skipped T Q (delayOf Q t) t o) (ltb (effective T Q .departs t o) after) (λ x. leb (s .arrivals .best) x || passedOver T Q stamp t o x (s .boardings)) (boardAt T Q (delayOf Q t) t o after) (calm-board t o after w)
     where
-      go : (A B B′ : Bool) → B ≡ B′ → (C D : Bool) (F : ℕ → Bool) (P : Bool) → F (departure T t o) ≡ P → (z : FreqBoard) → z ≡ elim D as (λ y. FreqBoard) [ true ↦ Nothing | false ↦ Board (onTime t o) ]
-          → _≡_ {A = FreqBoard} (elim (((not A || B) || C) || false) [ true ↦ Nothing | false ↦ elim z [ Nothing ↦ Nothing | Board b ↦ elim (F (b .departure)) [ true ↦ Nothing | false ↦ Board b ] ] ])
-          (elim ((((not A || B′) || not (not C)) || D) || P) [ true ↦ Nothing | false ↦ Board (onTime t o) ])
-      go false B B′ b C D F P f z e = refl
-      go true true true b C D F P f z e = refl
-      go true true false b C D F P f z e = absurd (no-both refl b)
-      go true false true b C D F P f z e = absurd (no-both b refl)
-      go true false false b true D F P f z e = refl
-      go true false false b false true F P f z e = ap (λ (z : FreqBoard). elim z as (λ y. FreqBoard) [ Nothing ↦ Nothing | Board b ↦ elim (F (b .departure)) [ true ↦ Nothing | false ↦ Board b ] ]) e
-      go true false false b false false F P f z e =
-          ap (λ (z : FreqBoard). elim z as (λ y. FreqBoard) [ Nothing ↦ Nothing | Board b ↦ elim (F (b .departure)) [ true ↦ Nothing | false ↦ Board b ] ]) e
-          ∙ ap (λ (z : Bool). elim z as (λ y. FreqBoard) [ true ↦ Nothing | false ↦ Board (onTime t o) ]) f
+      go : (A B B′ : Bool) → B ≡ B′ → (C S D : Bool) (F : ℕ → Bool) (z : FreqBoard) → z ≡ elim D as (λ y. FreqBoard) [ true ↦ Nothing | false ↦ Board (boardedAt t o) ]
+          → _≡_ {A = FreqBoard} (elim (((not A || B) || C) || S) [ true ↦ Nothing | false ↦ elim z [ Nothing ↦ Nothing | Board b ↦ elim (F (b .departure)) [ true ↦ Nothing | false ↦ Board b ] ] ])
+          (elim ((((not A || B′) || not (not (C || S))) || D) || F (effective T Q .departs t o)) [ true ↦ Nothing | false ↦ Board (boardedAt t o) ])
+      go false B B′ b C S D F z e = refl
+      go true true true b C S D F z e = refl
+      go true true false b C S D F z e = absurd (no-both refl b)
+      go true false true b C S D F z e = absurd (no-both b refl)
+      go true false false b true S D F z e = refl
+      go true false false b false true D F z e = refl
+      go true false false b false false true F z e = ap (λ (z : FreqBoard). elim z as (λ y. FreqBoard) [ Nothing ↦ Nothing | Board b ↦ elim (F (b .departure)) [ true ↦ Nothing | false ↦ Board b ] ]) e
+      go true false false b false false false F z e = ap (λ (z : FreqBoard). elim z as (λ y. FreqBoard) [ Nothing ↦ Nothing | Board b ↦ elim (F (b .departure)) [ true ↦ Nothing | false ↦ Board b ] ]) e
 
-  sim-board : (round stamp t o : ℕ) (k : Boardings) → bookOf (board T Q round stamp miss t o (departure T t o) k) ≡ PlainSearch.board N round stamp t o (bookOf k)
+  sim-board : (round stamp t o : ℕ) (k : Boardings) → bookOf (board T Q round stamp (delayOf Q t) t o (effective T Q .departs t o) k) ≡ PlainSearch.board N round stamp t o (bookOf k)
   unfolding board PlainSearch.board
   sim-board round stamp t o k = refl
 
-  sim-departing : (round stamp x after : ℕ) (ds : List DepartureRow) (s : State) → ((d : DepartureRow) → List·Memᴰ d ds → (d .trip < trips T) × (noWindows T (d .trip) ≡ true))
+  -- what a listed departure must have: its trip in the table and without windows; and, however it is boarded, the net's arrivals
+  pub record Ridable (d : DepartureRow) : Type 0 where
+    pub known : d .trip < trips T
+    pub unwindowed : noWindows T (d .trip) ≡ true
+    pub arrives : (p : ℕ) → d .offset < p → p < stopCount T (d .trip) → arrivalNow T Q (delayOf Q (d .trip)) (shiftAt T Q (d .trip) (d .offset)) (d .trip) p ≡ effective T Q .arrives (d .trip) p
+
+  sim-departing : (round stamp x after : ℕ) (ds : List DepartureRow) (s : State) → ((d : DepartureRow) → List·Memᴰ d ds → Ridable d)
       → stateOf (scanDepartures T Q false false round stamp x after ds s) ≡ PlainSearch.departures N round stamp after (map pairOf ds) (stateOf s)
-  unfolding scanDepartures PlainSearch.departures first
+  unfolding scanDepartures PlainSearch.departures
   sim-departing round stamp x after [] s I = refl
   sim-departing round stamp x after (d ∷ ds) s I =
-      ap (λ (m : ℕ). stateOf (elim (leb m (departure T (d .trip) (d .offset))) as (λ z. State) [ true ↦ s | false ↦ F (boarding T Q stamp after miss (d .trip) (d .offset) s) ])) (ap (λ (m : ℕ). s .arrivals .best + m) no-margin ∙ add-zero (s .arrivals .best))
-      ∙ go (leb (s .arrivals .best) (departure T (d .trip) (d .offset))) refl (sim-departing round stamp x after ds s (λ e m. I e (List·Memᴰ·tail m)))
+      go (leb (s .arrivals .best + marginOf T Q) (departure T (d .trip) (d .offset))) (sim-departing round stamp x after ds s (λ e m. I e (List·Memᴰ·tail m)))
       (sim-departing round stamp x after ds n (λ e m. I e (List·Memᴰ·tail m))
       ∙ ap (λ (z : PlainSearch.St). PlainSearch.departures N round stamp after (map pairOf ds) z)
-      (ap (λ (c : PlainSearch.Core). record { c = c; k = bookOf (n .boardings) }) (sim-scan stamp (d .trip) x (d .offset) (s .arrivals) (I d (List·Memᴰ·head refl) .0))
+      (ap (λ (c : PlainSearch.Core). record { c = c; k = bookOf (n .boardings) }) (sim-scan stamp (d .trip) x (d .offset) (shiftAt T Q (d .trip) (d .offset)) (s .arrivals) (I d (List·Memᴰ·head refl) .known) (I d (List·Memᴰ·head refl) .arrives))
       ∙ ap (λ (k : PlainSearch.Book). record { c = PlainSearch.ride N stamp (d .trip) (d .offset) (coreOf (s .arrivals)); k = k }) (sim-board round stamp (d .trip) (d .offset) (s .boardings))))
     where
       n : State
-      n = record { arrivals = scanTripForward T Q false stamp miss 0 (d .trip) x (d .offset) (s .arrivals); boardings = board T Q round stamp miss (d .trip) (d .offset) (departure T (d .trip) (d .offset)) (s .boardings) }
+      n = record { arrivals = scanTripForward T Q false stamp (delayOf Q (d .trip)) (shiftAt T Q (d .trip) (d .offset)) (d .trip) x (d .offset) (s .arrivals); boardings = board T Q round stamp (delayOf Q (d .trip)) (d .trip) (d .offset) (effective T Q .departs (d .trip) (d .offset)) (s .boardings) }
 
       n′ : PlainSearch.St
       n′ = record { c = PlainSearch.ride N stamp (d .trip) (d .offset) (coreOf (s .arrivals)); k = PlainSearch.board N round stamp (d .trip) (d .offset) (bookOf (s .boardings)) }
@@ -174,8 +158,8 @@ module _ (T : Tables) (Q₁ : Query) where
           elim z [
             | Nothing ↦ scanDepartures T Q false false round stamp x after ds s
             | Board b ↦ scanDepartures T Q false false round stamp x after ds (record {
-              arrivals = scanTripForward T Q false stamp miss (b .«time_shift_s») (d .trip) x (d .offset) (s .arrivals);
-              boardings = board T Q round stamp miss (d .trip) (d .offset) (b .departure) (s .boardings);
+              arrivals = scanTripForward T Q false stamp (delayOf Q (d .trip)) (b .«time_shift_s») (d .trip) x (d .offset) (s .arrivals);
+              boardings = board T Q round stamp (delayOf Q (d .trip)) (d .trip) (d .offset) (b .departure) (s .boardings);
             })
           ]
 
@@ -183,24 +167,31 @@ module _ (T : Tables) (Q₁ : Query) where
       R a b = elim a [ true ↦ stateOf s | false ↦ elim b [ true ↦ PlainSearch.departures N round stamp after (map pairOf ds) (stateOf s) | false ↦ PlainSearch.departures N round stamp after (map pairOf ds) n′ ] ]
 
       pick : (b : Bool) → stateOf (scanDepartures T Q false false round stamp x after ds s) ≡ PlainSearch.departures N round stamp after (map pairOf ds) (stateOf s) → stateOf (scanDepartures T Q false false round stamp x after ds n) ≡ PlainSearch.departures N round stamp after (map pairOf ds) n′
-          → stateOf (F (elim b [ true ↦ Nothing | false ↦ Board (onTime (d .trip) (d .offset)) ])) ≡ elim b [ true ↦ PlainSearch.departures N round stamp after (map pairOf ds) (stateOf s) | false ↦ PlainSearch.departures N round stamp after (map pairOf ds) n′ ]
+          → stateOf (F (elim b [ true ↦ Nothing | false ↦ Board (boardedAt (d .trip) (d .offset)) ])) ≡ elim b [ true ↦ PlainSearch.departures N round stamp after (map pairOf ds) (stateOf s) | false ↦ PlainSearch.departures N round stamp after (map pairOf ds) n′ ]
       pick true p q = p
       pick false p q = q
 
-      go : (a : Bool) → leb (s .arrivals .best) (departure T (d .trip) (d .offset)) ≡ a → stateOf (scanDepartures T Q false false round stamp x after ds s) ≡ PlainSearch.departures N round stamp after (map pairOf ds) (stateOf s) → stateOf (scanDepartures T Q false false round stamp x after ds n) ≡ PlainSearch.departures N round stamp after (map pairOf ds) n′
-          → stateOf (elim a [ true ↦ s | false ↦ F (boarding T Q stamp after miss (d .trip) (d .offset) s) ]) ≡ R a (PlainSearch.skips N stamp after (d .trip) (d .offset) (bookOf (s .boardings)))
-      go true e p q = refl
-      go false e p q = ap (λ z. stateOf (F z)) (sim-boarding stamp after (d .trip) (d .offset) s (I d (List·Memᴰ·head refl) .1) (leb-false _ _ e)) ∙ pick (PlainSearch.skips N stamp after (d .trip) (d .offset) (bookOf (s .boardings))) p q
+      go : (a : Bool) → stateOf (scanDepartures T Q false false round stamp x after ds s) ≡ PlainSearch.departures N round stamp after (map pairOf ds) (stateOf s) → stateOf (scanDepartures T Q false false round stamp x after ds n) ≡ PlainSearch.departures N round stamp after (map pairOf ds) n′
+          → stateOf (elim a [ true ↦ s | false ↦ F (boarding T Q stamp after (delayOf Q (d .trip)) (d .trip) (d .offset) s) ]) ≡ R a (PlainSearch.skips N stamp after (d .trip) (d .offset) (stateOf s))
+      go true p q = refl
+      go false p q = ap (λ z. stateOf (F z)) (sim-boarding stamp after (d .trip) (d .offset) s (I d (List·Memᴰ·head refl) .unwindowed)) ∙ pick (PlainSearch.skips N stamp after (d .trip) (d .offset) (stateOf s)) p q
 
   -- the scan may begin at the first departure that is not too early
-  late-enough : (round stamp after : ℕ) (ds : List DepartureRow) (s : PlainSearch.St) → after ≤ s .c .B → PlainSearch.departures N round stamp after (map pairOf (notBefore T after ds)) s ≡ PlainSearch.departures N round stamp after (map pairOf ds) s
+  late-enough : (round stamp after : ℕ) (ds : List DepartureRow) (s : PlainSearch.St) → after ≤ s .c .B → ((d : DepartureRow) → List·Memᴰ d ds → effective T Q .departs (d .trip) (d .offset) ≤ departure T (d .trip) (d .offset) + marginOf T Q)
+      → PlainSearch.departures N round stamp after (map pairOf (notBefore T (after - marginOf T Q) ds)) s ≡ PlainSearch.departures N round stamp after (map pairOf ds) s
   unfolding notBefore
-  late-enough round stamp after [] s h = refl
-  late-enough round stamp after (d ∷ ds) s h = go (ltb (departure T (d .trip) (d .offset)) after) refl (late-enough round stamp after ds s h)
+  late-enough round stamp after [] s h I = refl
+  late-enough round stamp after (d ∷ ds) s h I = go (ltb (departure T (d .trip) (d .offset)) (after - marginOf T Q)) refl (late-enough round stamp after ds s h (λ e m. I e (List·Memᴰ·tail m)))
     where
-      go : (b : Bool) → ltb (departure T (d .trip) (d .offset)) after ≡ b → PlainSearch.departures N round stamp after (map pairOf (notBefore T after ds)) s ≡ PlainSearch.departures N round stamp after (map pairOf ds) s
-          → PlainSearch.departures N round stamp after (map pairOf (elim b as (λ z. List DepartureRow) [ true ↦ notBefore T after ds | false ↦ d ∷ ds ])) s ≡ PlainSearch.departures N round stamp after (map pairOf (d ∷ ds)) s
-      go true e p = p ∙ sym (early N round stamp after (pairOf d ∷ []) (map pairOf ds) s h (λ z m. subst (λ (y : ℕ × ℕ). departure T (y .0) (y .1) < after) (sym (List·Memᴰ·eq-of-singleton m)) (ltb-true _ _ e)))
+      go : (b : Bool) → ltb (departure T (d .trip) (d .offset)) (after - marginOf T Q) ≡ b → PlainSearch.departures N round stamp after (map pairOf (notBefore T (after - marginOf T Q) ds)) s ≡ PlainSearch.departures N round stamp after (map pairOf ds) s
+          → PlainSearch.departures N round stamp after (map pairOf (elim b as (λ z. List DepartureRow) [ true ↦ notBefore T (after - marginOf T Q) ds | false ↦ d ∷ ds ])) s ≡ PlainSearch.departures N round stamp after (map pairOf (d ∷ ds)) s
+      go true e p =
+          let l : departure T (d .trip) (d .offset) < after - marginOf T Q = ltb-true _ _ e in
+          let r = I d (List·Memᴰ·head refl) in
+          p ∙ sym (early N round stamp after (pairOf d ∷ []) (map pairOf ds) s h (λ z m. subst (λ (y : ℕ × ℕ). (departure T (y .0) (y .1) < after) × (effective T Q .departs (y .0) (y .1) < after)) (sym (List·Memᴰ·eq-of-singleton m)) (before _ _ _ _ l r)))
+        where
+          before : (a m s d : ℕ) → s < a - m → d ≤ s + m → (s < a) × (d < a)
+          before a m s d u v = (omega arith, omega arith)
       go false e p = refl
 
   kept-members : (P : DepartureRow → Type 0) (after : ℕ) (ds : List DepartureRow) → ((d : DepartureRow) → List·Memᴰ d ds → P d) → (d : DepartureRow) → List·Memᴰ d (notBefore T after ds) → P d
@@ -217,20 +208,18 @@ module _ (T : Tables) (Q₁ : Query) where
   sim-change zero = refl
   sim-change (suc r) = refl
 
-  -- what the tables must give: marks and listed trips without frequency
+  -- what the tables must give: no mark, and listed departures as above
   pub record Calm : Type 0 where
     pub marks : (x : ℕ) → markAt T x ≡ false
-    pub listed : (x : ℕ) (d : DepartureRow) → List·Memᴰ d (departuresAt T x) → (d .trip < trips T) × (noWindows T (d .trip) ≡ true)
+    pub listed : (x : ℕ) (d : DepartureRow) → List·Memᴰ d (departuresAt T x) → Ridable d
 
-  sim-stops : Calm → (round stamp : ℕ) (xs : List ℕ) (s : State) → s .arrivals .best ≤ never → stateOf (scanStops T Q false round stamp xs s) ≡ PlainSearch.stops N round stamp xs (stateOf s)
+  sim-stops : Plain N → Calm → (round stamp : ℕ) (xs : List ℕ) (s : State) → s .arrivals .best ≤ never → stateOf (scanStops T Q false round stamp xs s) ≡ PlainSearch.stops N round stamp xs (stateOf s)
   unfolding scanStops PlainSearch.stops
-  sim-stops C round stamp [] s top = refl
-  sim-stops C round stamp (x ∷ xs) s top =
-      subst (λ (z : ℕ). stateOf (elim (eqb v never || leb (s .arrivals .best) a) [ true ↦ scanStops T Q false round stamp xs s | false ↦ elim (markAt T x) [ true ↦ scanStops T Q false round stamp xs (scanDepartures T Q false true round stamp x a (departuresAt T x) s) | false ↦ scanStops T Q false round stamp xs (scanDepartures T Q false false round stamp x a (notBefore T z (departuresAt T x)) s) ] ]) ≡ R (v + PlainSearch.change N round))
-      (sym (ap (λ (m : ℕ). a - m) no-margin ∙ sub-zero a))
-      (go (eqb v never) refl (leb (s .arrivals .best) a) refl (markAt T x) (C .marks x) (sim-stops C round stamp xs s top)
-      (sim-stops C round stamp xs n (omega (arith, top, ap (λ (z : PlainSearch.St). z .c .B) departed, deps-le N round stamp a (deps-graph N round stamp a (map pairOf (notBefore T a (departuresAt T x))) (stateOf s)) .b)) ∙ ap (PlainSearch.stops N round stamp xs) departed)
-      ∙ ap R (ap (λ (z : ℕ). v + z) (sim-change round)))
+  sim-stops P C round stamp [] s top = refl
+  sim-stops P C round stamp (x ∷ xs) s top =
+      go (eqb v never) refl (leb (s .arrivals .best) a) refl (markAt T x) (C .marks x) (sim-stops P C round stamp xs s top)
+      (sim-stops P C round stamp xs n (omega (arith, top, ap (λ (z : PlainSearch.St). z .c .B) departed, deps-le N round stamp a (deps-graph N round stamp a (map pairOf (notBefore T (a - marginOf T Q) (departuresAt T x))) (stateOf s)) .b)) ∙ ap (PlainSearch.stops N round stamp xs) departed)
+      ∙ ap R (ap (λ (z : ℕ). v + z) (sim-change round))
     where
       v : ℕ
       v = getD (s .arrivals .earliest) x 0
@@ -239,23 +228,23 @@ module _ (T : Tables) (Q₁ : Query) where
       a = getD (s .arrivals .earliest) x 0 + changeBefore Q round
 
       n : State
-      n = scanDepartures T Q false false round stamp x a (notBefore T a (departuresAt T x)) s
+      n = scanDepartures T Q false false round stamp x a (notBefore T (a - marginOf T Q) (departuresAt T x)) s
 
-      departed : stateOf (scanDepartures T Q false false round stamp x a (notBefore T a (departuresAt T x)) s) ≡ PlainSearch.departures N round stamp a (map pairOf (notBefore T a (departuresAt T x))) (stateOf s)
-      departed = sim-departing round stamp x a (notBefore T a (departuresAt T x)) s (kept-members (λ d. (d .trip < trips T) × (noWindows T (d .trip) ≡ true)) a (departuresAt T x) (C .listed x))
+      departed : stateOf (scanDepartures T Q false false round stamp x a (notBefore T (a - marginOf T Q) (departuresAt T x)) s) ≡ PlainSearch.departures N round stamp a (map pairOf (notBefore T (a - marginOf T Q) (departuresAt T x))) (stateOf s)
+      departed = sim-departing round stamp x a (notBefore T (a - marginOf T Q) (departuresAt T x)) s (kept-members Ridable (a - marginOf T Q) (departuresAt T x) (C .listed x))
 
       R : ℕ → PlainSearch.St
       R z = elim (leb (s .arrivals .best) z) [ true ↦ PlainSearch.stops N round stamp xs (stateOf s) | false ↦ PlainSearch.stops N round stamp xs (PlainSearch.departures N round stamp z (map pairOf (departuresAt T x)) (stateOf s)) ]
 
       -- an unreached stop is passed over: from it nothing leaves before the best total
-      go : (u : Bool) → eqb v never ≡ u → (b : Bool) → leb (s .arrivals .best) a ≡ b → (m : Bool) → m ≡ false → stateOf (scanStops T Q false round stamp xs s) ≡ PlainSearch.stops N round stamp xs (stateOf s) → stateOf (scanStops T Q false round stamp xs n) ≡ PlainSearch.stops N round stamp xs (PlainSearch.departures N round stamp a (map pairOf (notBefore T a (departuresAt T x))) (stateOf s))
+      go : (u : Bool) → eqb v never ≡ u → (b : Bool) → leb (s .arrivals .best) a ≡ b → (m : Bool) → m ≡ false → stateOf (scanStops T Q false round stamp xs s) ≡ PlainSearch.stops N round stamp xs (stateOf s) → stateOf (scanStops T Q false round stamp xs n) ≡ PlainSearch.stops N round stamp xs (PlainSearch.departures N round stamp a (map pairOf (notBefore T (a - marginOf T Q) (departuresAt T x))) (stateOf s))
           → stateOf (elim (u || b) [ true ↦ scanStops T Q false round stamp xs s | false ↦ elim m [ true ↦ scanStops T Q false round stamp xs (scanDepartures T Q false true round stamp x a (departuresAt T x) s) | false ↦ scanStops T Q false round stamp xs n ] ])
           ≡ elim b [ true ↦ PlainSearch.stops N round stamp xs (stateOf s) | false ↦ PlainSearch.stops N round stamp xs (PlainSearch.departures N round stamp a (map pairOf (departuresAt T x)) (stateOf s)) ]
       go true f true e m g p q = p
       go false f true e m g p q = p
       go true f false e m g p q = absurd (omega (arith, top, eqb-true (getD (s .arrivals .earliest) x 0) never f, leb-false (s .arrivals .best) (getD (s .arrivals .earliest) x 0 + changeBefore Q round) e))
       go false f false e true g p q = absurd (no-both refl g)
-      go false f false e false g p q = q ∙ ap (PlainSearch.stops N round stamp xs) (late-enough round stamp a (departuresAt T x) (stateOf s) (let l : a < s .arrivals .best = leb-false _ _ e in omega arith))
+      go false f false e false g p q = q ∙ ap (PlainSearch.stops N round stamp xs) (late-enough round stamp a (departuresAt T x) (stateOf s) (let l : a < s .arrivals .best = leb-false _ _ e in omega arith) (λ d m. P .late (d .trip) (d .offset) (P .listed x (d .trip) (d .offset) (Memᴰ·map pairOf m))))
 
   sim-walkFrom : (stamp x v : ℕ) (es : List ℕ) (c : Arrivals) → coreOf (walkFrom T Q false stamp x v es c) ≡ PlainSearch.walk N stamp v (map (walkOf T Q) es) (coreOf c)
   unfolding walkFrom PlainSearch.walk
@@ -282,9 +271,9 @@ module _ (T : Tables) (Q₁ : Query) where
   sim-walking stamp [] c = refl
   sim-walking stamp (x ∷ xs) c = sim-walking stamp xs (walkFrom T Q false stamp x (getD (c .earliest) x 0) (edgesFrom T x) c) ∙ ap (PlainSearch.walks N stamp xs) (sim-walkFrom stamp x (getD (c .earliest) x 0) (edgesFrom T x) c)
 
-  sim-riding : Calm → (r : ℕ) (s : State) → s .arrivals .best ≤ never → stateOf (ridePhase T Q false r s) ≡ PlainSearch.rideSt N r (stateOf s)
+  sim-riding : Plain N → Calm → (r : ℕ) (s : State) → s .arrivals .best ≤ never → stateOf (ridePhase T Q false r s) ≡ PlainSearch.rideSt N r (stateOf s)
   unfolding ridePhase
-  sim-riding C r s top = sim-stops C r (suc (suc r)) (s .arrivals .reached) (roundStart T Q s) top
+  sim-riding P C r s top = sim-stops P C r (suc (suc r)) (s .arrivals .reached) (roundStart T Q s) top
 
   all-stamped : (stamp : ℕ) (ss xs : List ℕ) → ((x : ℕ) → List·Memᴰ x xs → getD ss x 0 ≡ stamp) → stamped T Q stamp ss xs ≡ xs
   unfolding stamped
@@ -314,7 +303,7 @@ module _ (T : Tables) (Q₁ : Query) where
       ∙ ap (PlainSearch.walkSt N r) rode
     where
       rode : stateOf (ridePhase T Q false r s) ≡ PlainSearch.rideSt N r (stateOf s)
-      rode = sim-riding C r s (I .top)
+      rode = sim-riding P C r s (I .top)
 
   -- the two states agree, but for the line boardings of a round that did not run
   pub record Agree (s : State) (t : PlainSearch.St) : Type 0 where

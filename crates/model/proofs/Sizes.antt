@@ -43,7 +43,7 @@ bits-sub : (l a b : ℕ) → a < 2147483648 → b < 2147483648 → a ≤ b + l �
 bits-sub l a b p q u v = subst (λ (z : ℤ). natAbs z ≤ l) (sym (of-sub a b p q)) (size-sub l a b u v)
 
 -- a time moves back by no more than the delay's size
-shifted-back : (time bits : ℕ) → time ≤ shifted time bits + sizeOf bits
+pub shifted-back : (time bits : ℕ) → time ≤ shifted time bits + sizeOf bits
 shifted-back time bits =
     ⊎-elim (λ (l : bits < 2147483648). omega (arith, moved-low time bits l))
     (λ (l : 2147483648 ≤ bits). omega (arith, moved-high time bits l, size-high bits l))

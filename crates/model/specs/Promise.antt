@@ -1,24 +1,55 @@
--- What a guest relies on (the request's demand 3): plain day, journey, way, and the demand itself, in the request's and document 01's
--- words. No memory and no search stands here, but the log of the query's scans that a way's rounds refer to. Definitions only.
+-- What a guest relies on (the request's demand 3): plain day, steady day, journey, way, and the demand itself, in the request's and
+-- document 01's words. Journeys and ways take the trips' times as a parameter, of which there are two: on a plain day the request speaks of
+-- the scheduled ones; on a steady day, which has delays, the promise is of the effective ones. No memory and no search stands here, but
+-- how it reads the delay rows, and the log of the query's scans that a way's rounds refer to. Definitions only.
 use Prim.Native.Nat.{ℕ, zero, suc, _+_, _≤_, _<_}
 use mathlib.Core.Path.{_≡_}
-use mathlib.Core.Bool.{Bool, true, false}
+use mathlib.Core.Bool.{Bool, true, false, cond, not, _||_}
 use mathlib.Core.List.{List, List·Memᴰ}
+use lib.IntN.{pos, subℕ, _+ℤ_}
+use lib.Signed.{nonNeg}
+use Rattle.signed.specs.Signed.{ofBits, bitsOf}
+use Rattle.realtime.specs.Times.{departureGiven, arrivalGiven, sizeOf, shifted, effectiveDeparture}
 use Rattle.departures.specs.declared.DepartureRow.{DepartureRow}
 use Rattle.line_numbers.specs.Lines.{lineOf, linesOf}
 use Rattle.built.specs.Built.{AsBuilt}
 use Rattle.departures.specs.Departures.{sorted, markOf}
 use Rattle.line_transfers.specs.Transfers.{Input, builtTransfers}
 use Rattle.model.specs.Tables.{never, Tables, Origin, Query, roundsOf, changeBefore, stops, trips, stopCount, stopAt, arrival, departure, noPickup, noDropOff, noWindows, edgesFrom, edgeTo, walkTime, permitted}
-use Rattle.model.specs.Search.{Answer, flagsInUse}
+use Rattle.model.specs.Search.{Answer, flagsInUse, delayOf, delayAt, skipped, arrivalNow}
 
 -- what the transfers call makes its transfers from
 abbrev pub transferInput : Tables → ℕ → Input
 transferInput T time = record { timetable = T .timetable; lines = T .lines; lineOf = T .lineOf; listed = T .departures; time = time }
 
+-- THE TRIPS' TIMES: of trip t at offset o, its departure, its arrival, and whether it stops there
+pub record TripTimes : Type 0 where
+  pub departs : ℕ → ℕ → ℕ
+  pub arrives : ℕ → ℕ → ℕ
+  pub served : ℕ → ℕ → Bool
+
+-- on schedule, as the stop times have them
+abbrev pub scheduled : Tables → TripTimes
+scheduled T = record { departs = departure T; arrives = arrival T; served = λ t o. true }
+
+-- effective (01, item 4): departure and arrival are each moved by their own delay where a stop row gives one, else by the trip's, and
+-- floored at 0; a skipped stop is not served
+abbrev pub effective : Tables → Query → TripTimes
+effective T Q =
+    record {
+      departs = λ t o. effectiveDeparture (departure T t o) (delayAt T Q (delayOf Q t) t o);
+      arrives = λ t o. let d = delayAt T Q (delayOf Q t) t o in shifted (arrival T t o) (cond (arrivalGiven (d .flags)) (d .«arrival_delay») (d .«trip_delay»));
+      served = λ t o. not (skipped T Q (delayOf Q t) t o);
+    }
+
+-- "no trip whose times fall": no departure precedes its arrival, no arrival the departure before it
+pub record NoTimesFall (T : Tables) (W : TripTimes) : Type 0 where
+  pub waits : (t o : ℕ) → t < trips T → o < stopCount T t → W .arrives t o ≤ W .departs t o
+  pub rides : (t o : ℕ) → t < trips T → suc o < stopCount T t → W .departs t o ≤ W .arrives t (suc o)
+
 module _ (T : Tables) (Q : Query) where
-  -- PLAIN DAY
-  pub record PlainDay : Type 0 where
+  -- what both kinds of day have
+  pub record CalmDay : Type 0 where
     -- "tables as our building calls wrote them": from a caller's list of departures for each stop
     pub listed : ℕ → List DepartureRow
     pub departures-built : (s : ℕ) → s < stops T → T .departures s ≡ sorted (T .timetable) (listed s)
@@ -26,20 +57,10 @@ module _ (T : Tables) (Q : Query) where
     pub lines-built : T .lines ≡ linesOf (T .timetable)
     pub line-built : (t : ℕ) → t < trips T → T .lineOf t ≡ lineOf (T .timetable) t
     pub lists-built : AsBuilt (T .timetable) (T .line)
-    pub transfers-built : (t o : ℕ) → t < trips T → o < stopCount T t → T .transfers t o ≡ builtTransfers (transferInput T (Q .settings .transferTime)) t o
     -- "no frequency trips": a frequency trip has windows
     pub no-windows : (t : ℕ) → t < trips T → noWindows T t ≡ true
-    -- "no delays": no delay row
-    pub no-delays : Q .delays .delays ≡ 0
     -- "no arc flags in use": the switch puts them off, or they skip no walk edge or transfer
     pub no-flags : flagsInUse T Q ≡ false
-    -- "no trip whose times fall": no departure precedes its arrival, no arrival the departure before it
-    pub waits : (t o : ℕ) → t < trips T → o < stopCount T t → arrival T t o ≤ departure T t o
-    pub rides : (t o : ℕ) → t < trips T → suc o < stopCount T t → departure T t o ≤ arrival T t (suc o)
-    -- "lines evenly listed": where one trip's departure is listed at an offset, that of each trip of its line is listed at the same
-    -- offset, save where its pickup is 1
-    pub evenly-listed : (s t u o : ℕ) → s < stops T → List·Memᴰ (record { trip = t; offset = o }) (T .departures s) → u < trips T → T .lineOf u ≡ T .lineOf t → noPickup T u o ≡ false
-        → List·Memᴰ (record { trip = u; offset = o }) (T .departures s)
     -- "walks complete", with this query's durations: edges A to B and B to C (C not A) have an edge A to C no longer than the two
     -- together; an origin at B and an edge B to C have an origin at C no longer than the two together
     pub edges-complete : (a e f : ℕ) → List·Memᴰ e (edgesFrom T a) → List·Memᴰ f (edgesFrom T (edgeTo T e)) → (edgeTo T f ≡ a → ⊥)
@@ -47,24 +68,69 @@ module _ (T : Tables) (Q : Query) where
     pub origins-complete : (a : Origin) (f : ℕ) → List·Memᴰ a (Q .origins) → List·Memᴰ f (edgesFrom T (a .stop))
         → (b : Origin) × (List·Memᴰ b (Q .origins)) × (b .stop ≡ edgeTo T f) × (b .duration ≤ a .duration + walkTime T Q f)
 
-  -- BOARDING (01, "Permitted"): at stop x, trip t at offset o. The trip is permitted, the departure is listed, pickup is not 1.
+  -- PLAIN DAY
+  pub record PlainDay : Type 0 where
+    pub calm : CalmDay
+    -- "tables as our building calls wrote them", the transfers too
+    pub transfers-built : (t o : ℕ) → t < trips T → o < stopCount T t → T .transfers t o ≡ builtTransfers (transferInput T (Q .settings .transferTime)) t o
+    -- "no delays": no delay row
+    pub no-delays : Q .delays .delays ≡ 0
+    -- "no trip whose times fall": on schedule
+    pub no-times-fall : NoTimesFall T (scheduled T)
+    -- "lines evenly listed": where one trip's departure is listed at an offset, that of each trip of its line is listed at the same
+    -- offset, save where its pickup is 1
+    pub evenly-listed : (s t u o : ℕ) → s < stops T → List·Memᴰ (record { trip = t; offset = o }) (T .departures s) → u < trips T → T .lineOf u ≡ T .lineOf t → noPickup T u o ≡ false
+        → List·Memᴰ (record { trip = u; offset = o }) (T .departures s)
+
+  -- when one who boarded trip t at offset o arrives at offset p (01, item 4): where the stop row there gives neither time, the arrival is
+  -- moved as far as the departure boarded was
+  abbrev pub arrivesFrom : ℕ → ℕ → ℕ → ℕ
+  arrivesFrom t o p = arrivalNow T Q (delayOf Q t) (bitsOf (subℕ (effective T Q .departs t o) (departure T t o))) t p
+
+  -- STEADY DAY: with delays and skipped stops, whatever the transfers, and lines listed in any way
+  pub record SteadyDay : Type 0 where
+    pub calm : CalmDay
+    -- no trip's effective times fall
+    pub no-times-fall : NoTimesFall T (effective T Q)
+    -- no departure is further from its schedule than the cap of the margin
+    pub not-late : (t o : ℕ) → t < trips T → o < stopCount T t → effective T Q .departs t o ≤ departure T t o + Q .settings .marginCap
+    pub not-early : (t o : ℕ) → t < trips T → o < stopCount T t → departure T t o ≤ effective T Q .departs t o + Q .settings .marginCap
+    -- a trip arrives when it does, wherever one boarded it
+    pub one-arrival : (t o p : ℕ) → t < trips T → o < p → p < stopCount T t → arrivesFrom t o p ≡ effective T Q .arrives t p
+
+  -- DELAYS OF WHOLE TRIPS, which make a day steady whose schedule does not fall: of a trip in the table
+  pub record TripDelays : Type 0 where
+    -- a stop row may say "skipped", and gives no time
+    pub only-skips : (j : ℕ) → j < Q .delays .stopRows → Q .delays .delay (Q .delays .stopRow j .row) .trip < trips T
+        → (departureGiven (Q .delays .stopRow j .flags) || arrivalGiven (Q .delays .stopRow j .flags)) ≡ false
+    -- the delay is no larger than the cap of the margin
+    pub within-cap : (i : ℕ) → i < Q .delays .delays → Q .delays .delay i .trip < trips T → sizeOf (Q .delays .delay i .delay) ≤ Q .settings .marginCap
+    -- and puts no departure before 0
+    pub after-zero : (i o : ℕ) → i < Q .delays .delays → Q .delays .delay i .trip < trips T → o < stopCount T (Q .delays .delay i .trip)
+        → nonNeg (pos (departure T (Q .delays .delay i .trip) o) +ℤ ofBits (Q .delays .delay i .delay)) ≡ true
+
+module _ (T : Tables) (Q : Query) (W : TripTimes) where
+  -- BOARDING (01, "Permitted"): at stop x, trip t at offset o. The trip is permitted, the departure is listed, pickup is not 1, the
+  -- stop is served.
   pub record Boarding (x t o : ℕ) : Type 0 where
     pub trip : permitted T Q t ≡ true
     pub listed : List·Memᴰ (record { trip = t; offset = o }) (T .departures x)
     pub pickup : noPickup T t o ≡ false
+    pub served : W .served t o ≡ true
 
-  -- ALIGHTING: trip t, boarded at offset o, is left at a later offset p whose drop-off is not 1
+  -- ALIGHTING: trip t, boarded at offset o, is left at a later offset p that is served and whose drop-off is not 1
   pub record Alighting (t o p : ℕ) : Type 0 where
     pub later : o < p
     pub inside : p < stopCount T t
     pub dropOff : noDropOff T t p ≡ false
+    pub served : W .served t p ≡ true
 
   -- JOURNEY ("access walk, at most one ride a round, one walk edge allowed after each ride, the change time before every boarding but
   -- the first"): has it just left a ride, how many rides, which stop, when. A ride lasts from departure to arrival.
   pub data Journey : Bool → ℕ → ℕ → ℕ → Type 0 where
     access : (a : Origin) → List·Memᴰ a (Q .origins) → Journey false zero (a .stop) (Q .start + a .duration)
-    ride : {b : Bool} {n x v : ℕ} (t o p : ℕ) → Journey b n x v → Boarding x t o → Alighting t o p → v + changeBefore Q n ≤ departure T t o
-        → Journey true (suc n) (stopAt T t p) (arrival T t p)
+    ride : {b : Bool} {n x v : ℕ} (t o p : ℕ) → Journey b n x v → Boarding x t o → Alighting t o p → v + changeBefore Q n ≤ W .departs t o
+        → Journey true (suc n) (stopAt T t p) (W .arrives t p)
     foot : {n x v : ℕ} (e : ℕ) → Journey true n x v → List·Memᴰ e (edgesFrom T x) → Journey false n (edgeTo T e) (v + walkTime T Q e)
 
   -- a whole journey of at most n rides, closed by an egress walk, whose end is the arrival
@@ -88,8 +154,8 @@ module _ (T : Tables) (Q : Query) where
   -- trip from that boarding; scans: these (round, trip, offset).
   pub data Way (scans : List (ℕ × ℕ × ℕ)) : ℕ → ℕ → ℕ → Type 0 where
     access : (a : Origin) → List·Memᴰ a (Q .origins) → Way scans (a .stop) (Q .start + a .duration) zero
-    ride : {x v q : ℕ} (r t o p : ℕ) → Way scans x v q → q ≤ r → List·Memᴰ (r, t, o) scans → Boarding x t o → Alighting t o p → v + changeBefore Q r ≤ departure T t o
-        → Way scans (stopAt T t p) (arrival T t p) r
+    ride : {x v q : ℕ} (r t o p : ℕ) → Way scans x v q → q ≤ r → List·Memᴰ (r, t, o) scans → Boarding x t o → Alighting t o p → v + changeBefore Q r ≤ W .departs t o
+        → Way scans (stopAt T t p) (W .arrives t p) r
     foot : {x v q : ℕ} (e : ℕ) → Way scans x v q → List·Memᴰ e (edgesFrom T x) → Way scans (edgeTo T e) (v + walkTime T Q e) q
 
   -- a total that is the arrival of a way which closes with the egress walk of the stop given with it

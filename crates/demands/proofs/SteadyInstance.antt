@@ -1,0 +1,131 @@
+-- AN INSTANCE of a steady day, in one statement about what is lent: K's stops and trips, without transfers, T0 not listed at stop 1, and a day
+-- on which T0 is late by another time at each stop, T1 runs early and skips stop 1, T2 is late, and a trip that is not in the table is later
+-- than the cap (`days` specs/K `givenDelays`). The door admits the slices, the day that they say is a steady one, and the call's whole outcome
+-- is the answer with the total 450 at stop 2.
+use Prim.Native.Nat.{ℕ, zero, suc, _-_, _<_}
+use mathlib.Core.Path.{_≡_, refl, ap}
+use mathlib.Core.List.{List, [], _∷_, _++_, flatten}
+use native.Mathlib.Omega.{arith}
+use lib.ListN.{length, getD, replicate}
+use Rattle.label.specs.Label.{noDistance}
+use Rattle.model.specs.Tables.{Tables, Query, stopCount, changeBefore, isEgress, egressWalk, edgesFrom, fifo, modeWanted, usable, permitted}
+use Rattle.model.specs.Search.{targetsFrom, targetCells, holdsTarget, useArcFlags, someTransfer, skipsEdge, skipsTransfer, flagsInUse, departuresAt, markAt, lineAt, notBefore, boardAt, bestAfter, improve, relax, resolveIn, lineTripsAt, resolve, enqueue, takeTransfers, alightings, transferring, scanTripForward, rideSegments, dominated, pruned, passedOver, boarding, board, scanDepartures, scanStops, walkFrom, walkAll, ridePhase, stamped, walkPhase, idle, rounds, setOut, access, bestTarget, rowTarget, candidatesFrom, final, answer, query as thePromise}
+use Rattle.model.specs.Promise.{effective, SteadyDay, Demand3}
+use Rattle.days.proofs.DayTests.{allOf, allIn, anyIn, sortedTest, calm-when, steady-when}
+use Rattle.asking.specs.Lent.{Lent, tablesOf, queryOf}
+use Rattle.asking.specs.Door.{question1, readOk, writtenOk, question2, transferRunsOk, question3, columnBelow, lineNumbers, queryNumbers, question4, markRanges, transferRanges, settingRanges, walkRanges, question5, notEarlier, partOrder, departureOrder, columnRises, question6, verdict}
+use Rattle.tables.specs.Door.{countsOk, slicesOk, tripRuns, stopTimeNumbers, edgeNumbers, stopTimeRanges, tripRanges, windowRanges, edgeRanges, edgeRises, runsOk, numbersOk, rangesOk, orderOk}
+use Rattle.departures.specs.Listed.{runIn, stopRunsOk, rowNumbers, rowsOk, rowAtStop, stopRowsOk, atStopsOk, listedOk}
+use Rattle.line_layout.specs.Listed.{runIn as lineRunIn, lineRunsOk, entriesOk}
+use Rattle.asking.proofs.Examples.{trip}
+use Rattle.asking.specs.declared.QueryCounts.{QueryCounts}
+use Rattle.tables.specs.Tables.{timeOf, tripOf, windowOf, edgeOf, cellOf}
+use Rattle.line_transfers.specs.Transfers.{eventsBefore, departuresOfLine, firstNotBefore, transferTo, transfersOf, builtTransfers}
+use Rattle.line_numbers.specs.Lines.{same, leadOf, isLead, lineOf, lineTrips}
+use Rattle.departures.specs.Departures.{frequencyListed, sorted, markOf}
+use Rattle.tables.specs.Timetable.{Timetable}
+use Rattle.loops.specs.Iter.{iter, every, first, some}
+use Rattle.loops.specs.Count.{count, tabFrom}
+use Rattle.sorts.specs.Sort.{insertBy, sortBy}
+use Rattle.sorts.specs.Orders.{keep}
+use Rattle.walk.specs.Walk.{effectiveDuration, roundCount}
+use Rattle.line_layout.specs.Layout.{fifoLine, inOrder, neighbours, lastIn, positionIn}
+use Rattle.replies.specs.Outcome.{Areas, areas, lengthsOf, Outcome, reply, answered, queryOutcome}
+use Rattle.demands.proofs.Demands.{steady-answered, steady-call}
+use Rattle.demands.proofs.Instance.{below-two, below-three, areasK}
+
+-- a stop time: stop, arrival, departure, sequence
+unfoldable pub stopTime : ℕ → ℕ → ℕ → ℕ → List ℕ
+stopTime stop arrival departure sequence = stop ∷ arrival ∷ departure ∷ sequence ∷ 0 ∷ 0 ∷ []
+
+unfoldable pub tD : List ℕ
+tD =
+    (stopTime 0 100 100 0 ++ stopTime 1 200 210 1 ++ stopTime 2 400 400 2)
+    ++ (stopTime 0 160 160 0 ++ stopTime 1 260 270 1 ++ stopTime 2 460 460 2)
+    ++ (stopTime 1 320 320 0 ++ stopTime 2 380 380 1)
+    ++ (trip 0 3 ++ trip 3 3 ++ trip 6 2)
+    ++ (0 ∷ 0 ∷ 0 ∷ [])
+
+-- lines {T0, T1} and {T2}; departures, sorted; no mark; every run of transfers is empty
+unfoldable pub builtD : List ℕ
+builtD =
+    (0 ∷ 0 ∷ 1 ∷ [])
+    ++ (0 ∷ 2 ∷ 2 ∷ 1 ∷ [])
+    ++ (0 ∷ 1 ∷ 2 ∷ [])
+    ++ (0 ∷ 2 ∷ 2 ∷ 2 ∷ 4 ∷ 0 ∷ [])
+    ++ (0 ∷ 0 ∷ 1 ∷ 0 ∷ 1 ∷ 1 ∷ 2 ∷ 0 ∷ [])
+    ++ (0 ∷ 0 ∷ 0 ∷ [])
+    ++ replicate 16 0
+
+-- start 90, change 120, origin 0 (10), egress 2 (5); four delay rows, six stop rows. (4294967286 is the bits of -10.)
+unfoldable pub qD : List ℕ
+qD =
+    (90 ∷ 120 ∷ 0 ∷ 0 ∷ 0 ∷ 0 ∷ 0 ∷ []) ++ (0 ∷ 10 ∷ []) ++ (2 ∷ 5 ∷ [])
+    ++ (0 ∷ 40 ∷ 1 ∷ 4294967286 ∷ 2 ∷ 50 ∷ 4294967295 ∷ 30000 ∷ [])
+    ++ (0 ∷ 1 ∷ 3 ∷ 60 ∷ 55 ∷ 0 ∷ 2 ∷ 3 ∷ 80 ∷ 80 ∷ 1 ∷ 1 ∷ 4 ∷ 0 ∷ 0 ∷ [])
+    ++ (2 ∷ 0 ∷ 1 ∷ 60 ∷ 0 ∷ 2 ∷ 1 ∷ 3 ∷ 65 ∷ 65 ∷ 3 ∷ 1 ∷ 1 ∷ 30 ∷ 0 ∷ [])
+
+unfoldable pub countsD : QueryCounts
+countsD =
+    record {
+      timetable = record { stops = 3; trips = 3; times = 8; windows = 0; edges = 0 };
+      cells = 0;
+      patterns = 0;
+      lines = 2;
+      entries = 3;
+      departures = 4;
+      transfers = 0;
+      delays = 4;
+      «stop_rows» = 6;
+      origins = 1;
+      egress = 1;
+    }
+
+-- what is lent to be read, and the tables and the query that it says
+abbrev pub lentD : Lent
+lentD = record { n = countsD; t = tD; built = builtD; transfers = []; patterns = []; distances = noDistance ∷ []; q = qD }
+
+abbrev pub tablesD : Tables
+tablesD = tablesOf lentD
+
+abbrev pub queryD : Query
+queryD = queryOf lentD
+
+abbrev X : Timetable
+X = tablesD .timetable
+
+-- THE DAY THAT THE SLICES SAY IS A STEADY ONE: lines, departures and marks as built, from the departures as they are listed
+pub steady-D : SteadyDay tablesD queryD
+unfolding qD builtD tD stopTime trip countsD timeOf tripOf windowOf edgeOf eventsBefore allOf allIn anyIn effectiveDuration edgesFrom targetsFrom targetCells holdsTarget useArcFlags someTransfer skipsEdge skipsTransfer flagsInUse frequencyListed same leadOf isLead lineOf lineTrips iter every first some count tabFrom insertBy sortBy keep flatten cellOf
+steady-D =
+    steady-when tablesD queryD
+    (calm-when tablesD queryD (tablesD .departures)
+    (below-three (λ (s : ℕ). tablesD .departures s ≡ sorted X (tablesD .departures s)) refl refl refl)
+    (below-three (λ (s : ℕ). tablesD .mark s ≡ markOf X (tablesD .departures s)) refl refl refl)
+    refl
+    (below-three (λ (t : ℕ). tablesD .lineOf t ≡ lineOf X t) refl refl refl)
+    (record {
+      count = below-two (λ (l : ℕ). tablesD .line l .count ≡ length (lineTrips X l)) refl refl;
+      trip = λ l p h i. below-two (λ (l : ℕ). (p : ℕ) → p < tablesD .line l .count → tablesD .line l .trip p ≡ getD (lineTrips X l) p 0)
+          (below-two (λ (p : ℕ). tablesD .line 0 .trip p ≡ getD (lineTrips X 0) p 0) refl refl)
+          (λ p i. below-two (λ (p : ℕ). p < 1 → tablesD .line 1 .trip p ≡ getD (lineTrips X 1) p 0) (λ h. refl) (λ h. absurd (omega arith)) p (omega arith) i)
+          l h p i;
+    }))
+    refl
+
+-- areas as for K; no arc flags are in use, so the halves of the queue may be empty
+pub door-D : verdict lentD (lengthsOf areasK) ≡ 0
+unfolding countsD qD builtD tD stopTime trip every timeOf tripOf windowOf edgeOf countsOk slicesOk tripRuns stopTimeNumbers edgeNumbers stopTimeRanges tripRanges windowRanges edgeRanges edgeRises runsOk numbersOk rangesOk orderOk runIn stopRunsOk rowNumbers rowsOk rowAtStop stopRowsOk atStopsOk listedOk lineRunIn lineRunsOk entriesOk eventsBefore question1 readOk writtenOk question2 transferRunsOk question3 columnBelow lineNumbers queryNumbers question4 markRanges transferRanges settingRanges walkRanges question5 notEarlier partOrder departureOrder columnRises question6 verdict
+door-D = refl
+
+-- THE CALL ANSWERS, and its answer keeps demand 3 by effective times
+pub answered-D : queryOutcome lentD areasK ≡ answered (thePromise tablesD queryD) areasK
+answered-D = steady-answered lentD areasK door-D steady-D
+
+pub steady-call-D : Demand3 tablesD queryD (effective tablesD queryD) (thePromise tablesD queryD)
+steady-call-D = steady-call lentD areasK (ap (λ (o : Outcome). o .reply .code) answered-D) steady-D .0
+
+-- with 450 at stop 2, and two candidates
+pub reply-D : queryOutcome lentD areasK .reply ≡ reply 0 450 2 2
+unfolding countsD qD builtD tD stopTime trip timeOf tripOf windowOf edgeOf cellOf eventsBefore changeBefore isEgress egressWalk edgesFrom fifo modeWanted usable permitted targetsFrom targetCells holdsTarget useArcFlags someTransfer skipsEdge skipsTransfer flagsInUse departuresAt markAt lineAt notBefore boardAt bestAfter improve relax resolveIn lineTripsAt resolve enqueue takeTransfers alightings transferring scanTripForward rideSegments dominated pruned passedOver boarding board scanDepartures scanStops walkFrom walkAll ridePhase stamped walkPhase idle rounds setOut access bestTarget rowTarget candidatesFrom final answer thePromise inOrder neighbours fifoLine lastIn positionIn effectiveDuration roundCount iter every first some count tabFrom insertBy sortBy keep flatten
+reply-D = ap (λ (o : Outcome). o .reply) answered-D
