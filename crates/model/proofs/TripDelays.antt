@@ -152,10 +152,10 @@ module _ (T : Tables) (Q : Query) (D : Door T Q) (S : TripDelays T Q) where
       record {
         calm = C;
         no-times-fall = record {
-          waits = λ t o u n. let m = shifted-mono (arrival T t o) (departure T t o) (lateBy Q (delayOf Q t)) (F .waits t o u n) in omega (arith, m, departs-late t o u, arrives-late t o u);
-          rides = λ t o u n. let m = shifted-mono (departure T t o) (arrival T t (suc o)) (lateBy Q (delayOf Q t)) (F .rides t o u n) in omega (arith, m, departs-late t o u, arrives-late t (suc o) u);
+          waits = λ t o u n. let l = F .waits t o u n in let m = shifted-mono (arrival T t o) (departure T t o) (lateBy Q (delayOf Q t)) (omega (arith, l)) in omega (arith, m, departs-late t o u, arrives-late t o u);
+          rides = λ t o u n. let l = F .rides t o u n in let m = shifted-mono (departure T t o) (arrival T t (suc o)) (lateBy Q (delayOf Q t)) (omega (arith, l)) in omega (arith, m, departs-late t o u, arrives-late t (suc o) u);
         };
         not-late = λ t o u n. omega (arith, departs-late t o u, shifted-near (departure T t o) (lateBy Q (delayOf Q t)), within t u);
         not-early = λ t o u n. omega (arith, departs-late t o u, shifted-back (departure T t o) (lateBy Q (delayOf Q t)), within t u);
-        one-arrival = one;
+        one-arrival = λ t o p u l n. one t o p u (omega (arith, l)) n;
       }
