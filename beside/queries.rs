@@ -10,6 +10,7 @@ include!(concat!(env!("BESIDE"), "/damage.rs"));
 include!(concat!(env!("BESIDE"), "/drawn.rs"));
 include!(concat!(env!("BESIDE"), "/met.rs"));
 include!(concat!(env!("BESIDE"), "/journeys.rs"));
+include!(concat!(env!("BESIDE"), "/steady.rs"));
 include!(concat!(env!("BESIDE"), "/jobs.rs"));
 
 const COUNT: u64 = 400_000;
@@ -61,6 +62,11 @@ struct Tallies {
     // calls with hostile words, among those above
     hostile: u64,
     plain: Tally,
+    steady: Tally,
+    // of what steady days must have met (STEADY), how often
+    steady_met: [u64; 14],
+    // steady days with one condition broken (BREAKS): those that differed were found
+    broken: [Tally; 4],
     met: Met,
     // cases that are not what their maker says
     wrong: u64,
@@ -70,6 +76,9 @@ impl Tallies {
     fn join(&mut self, t: &Tallies) {
         (0..2).for_each(|k| self.calls[k].join(&t.calls[k]));
         self.plain.join(&t.plain);
+        self.steady.join(&t.steady);
+        self.steady_met.iter_mut().zip(t.steady_met).for_each(|(a, b)| *a += b);
+        (0..4).for_each(|k| self.broken[k].join(&t.broken[k]));
         self.met.join(&t.met);
         self.sizes += t.sizes;
         self.sizes_differed += t.sizes_differed;
@@ -77,18 +86,29 @@ impl Tallies {
         self.wrong += t.wrong;
     }
     fn differed(&self) -> bool {
-        self.calls.iter().any(|c| c.differed > 0) || self.plain.differed > 0 || self.sizes_differed > 0
+        self.calls.iter().any(|c| c.differed > 0) || self.plain.differed > 0 || self.steady.differed > 0 || self.sizes_differed > 0
     }
     fn fine(&self) -> bool {
-        !self.differed() && self.wrong == 0 && self.calls.iter().all(|c| c.met_all()) && self.plain.no_way > 0 && self.met.missing().is_empty()
+        !self.differed() && self.wrong == 0 && self.calls.iter().all(|c| c.met_all()) && self.plain.no_way > 0 && self.met.missing().is_empty() && self.days_fine()
+    }
+    // steady days met all they must, and each broken condition was found
+    fn days_fine(&self) -> bool {
+        let s = &self.steady;
+        s.no_way > 0 && s.flagged > 0 && s.flagged < s.compared && self.steady_met.iter().all(|n| *n > 0) && self.broken.iter().all(|b| b.differed > 0)
     }
     fn print(&self) {
         self.calls[0].print("run_tbr");
         self.calls[1].print("query");
         println!("instances of the two calls together: {} ({} of them with hostile words)", self.calls[0].compared + self.calls[1].compared, self.hostile);
         println!("workspace sizes: {} compared, {} differed", self.sizes, self.sizes_differed);
-        let p = &self.plain;
-        println!("query against all journeys and ways, plain days: {} compared ({} no way, {} with flags on), {} differed", p.compared, p.no_way, p.flagged, p.differed);
+        for (name, d) in [("plain", &self.plain), ("steady", &self.steady)] {
+            let Tally { compared, no_way, flagged, differed, .. } = d;
+            println!("query against all journeys and ways, {name} days: {compared} compared ({no_way} no way, {flagged} with flags on), {differed} differed");
+        }
+        let list = |words: Vec<String>| words.join(", ");
+        println!("  steady days with {}", list(STEADY.iter().zip(self.steady_met).map(|(name, n)| format!("{name}: {n}")).collect()));
+        let broken = BREAKS.iter().zip(&self.broken).map(|(name, b)| format!("{name}: {} of {}", b.differed, b.compared));
+        println!("  days with one condition broken, found to differ: {}", list(broken.collect()));
         self.met.print();
         if self.wrong > 0 {
             println!("{} cases are not what they should be", self.wrong);
@@ -177,10 +197,16 @@ fn job(seed: u64, count: u64) -> Tallies {
             let (x, a) = hostile(&mut r);
             compare(&mut t, &x, &a, None);
             t.hostile += 2;
-            plain_searches(&mut r, &mut t);
+            day_searches(&mut r, &mut t, Day::Plain);
+        }
+        if i % 5 == 2 {
+            day_searches(&mut r, &mut t, Day::Steady);
+        }
+        if i % 25 == 3 {
+            day_searches(&mut r, &mut t, Day::Broken((i / 25 % 4) as usize));
         }
         if first && t.differed() {
-            println!("first difference after {} searches and {} plain days", t.sizes, t.plain.compared);
+            println!("first difference after {} searches, {} plain and {} steady days", t.sizes, t.plain.compared, t.steady.compared);
             break;
         }
     }
