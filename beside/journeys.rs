@@ -247,7 +247,7 @@ fn day_searches(r: &mut Random, t: &mut Tallies, day: Day) {
             (c.origins, c.q.wheelchair) = (origins, wheelchair);
         }
         delay(r, &mut c, day);
-        t.wrong += !(calm(&c) && is_of(&c, day)) as u64;
+        t.wrong += !(is_of(&c, day) && (k > 0 || calm(&c))) as u64;
         day_search(r, t, &c, day);
     }
 }

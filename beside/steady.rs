@@ -62,9 +62,47 @@ fn delay(r: &mut Random, c: &mut Case, day: Day) {
     }
     unknown(r, c);
     read_rows(c);
-    if r.yes(50) {
+    if r.yes(if broken.is_some() { 80 } else { 35 }) {
+        sharpen(r, c);
+    } else if r.yes(50) {
         c.egress.values_mut().for_each(|a| a.duration_s = r.below(30));
     }
+}
+
+// the rides of delayed trips that may be boarded at an origin's stop: size of the delay, trip, offset, the origin's duration
+fn delayed_rides(c: &Case) -> Vec<(u32, u32, u32, u32)> {
+    let mut out = vec![];
+    for (t, delay) in c.delays.iter().filter(|d| d.0 != UNKNOWN) {
+        for o in 0..c.e.trips[*t as usize].stop_time_len {
+            let (x, v) = (stop_time_of(&c.e, *t, o).stop_idx, departs(c, *t, o));
+            let access = c.origins.iter().filter(|a| a.stop_idx == x).map(|a| a.duration_s).min();
+            if let Some(d) = access.filter(|d| *d <= v && v - d <= LIMIT && boards(c, x, *t, o, v, 0) && !alights(c, *t, o).is_empty()) {
+                out.push((delay.unsigned_abs(), *t, o, d));
+            }
+        }
+    }
+    out
+}
+
+// a query on the edge: a delayed trip, most often the one delayed most, leaves just when its stop is reached; and the egress walk from there
+// arrives a second later than it
+fn sharpen(r: &mut Random, c: &mut Case) {
+    let rides = delayed_rides(c);
+    if rides.is_empty() {
+        return;
+    }
+    let any = rides[r.below(rides.len() as u32) as usize];
+    let (_, t, o, access_s) = if r.yes(70) { *rides.iter().max_by_key(|x| x.0).unwrap() } else { any };
+    let ends = alights(c, t, o);
+    let last = ends[r.below(ends.len() as u32) as usize];
+    let (y, v) = if r.yes(50) { *ends.iter().min_by_key(|e| e.1).unwrap() } else { last };
+    c.start = departs(c, t, o) - access_s;
+    if r.yes(50) {
+        c.egress.clear();
+    }
+    let x = stop_time_of(&c.e, t, o).stop_idx;
+    c.egress.insert(x, access(x, (v + 1).saturating_sub(departs(c, t, o)), 0.0));
+    c.egress.insert(y, access(y, 0, 0.0));
 }
 
 // where delays lie: about 0, or up to the cap, or down to it; the query is as much later or earlier
