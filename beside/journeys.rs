@@ -97,6 +97,7 @@ fn day_of(r: &mut Random, day: Day) -> Case {
             break c;
         }
     };
+    // further queries draw no delays of their own
     c.kind = kind;
     rising_times(&mut c.e);
     build_lines(&mut c.e);

@@ -1,9 +1,10 @@
 // queries [COUNT [SEED [JOBS]]]: `run_tbr` and `query` beside the Rust: COUNT random searches of all kinds, small and large, a third of them damaged;
-// queue halves with just enough room and too little; 0, 1, limit and limit + 1 of every count; for every ten of them a search of hostile words, and
-// four plain days, there against all journeys and ways. JOBS threads share them, each with a seed of its own. Every word of every area is
-// compared, after a refusal too; one instance is one call with all that it could have written. It prints how many were compared, by
-// the code expected, what was met in the answered ones (met.rs), and how many differed; status 1 where any did, or where a code or a
-// thing was never met.
+// queue halves with just enough room and too little; 0, 1, limit and limit + 1 of every count; for every ten of them a search of hostile words,
+// four plain days and two steady ones, there against all journeys and ways; for every hundred, four days with one condition of a steady day
+// broken, where the same test must find answers that are not what demand 3 asks. JOBS threads share them, each with a seed of its own. Every
+// word of every area is compared, after a refusal too; one instance is one call with all that it could have written. It prints how many were
+// compared, by the code expected, what was met in the answered ones (met.rs) and on steady days (steady.rs), and how many differed; status 1
+// where any did, where a code or a thing was never met, or where a broken condition was never found.
 #![allow(dead_code, unused)]
 include!(concat!(env!("BESIDE"), "/query_parts.rs"));
 include!(concat!(env!("BESIDE"), "/damage.rs"));
@@ -64,9 +65,9 @@ struct Tallies {
     plain: Tally,
     steady: Tally,
     // of what steady days must have met (STEADY), how often
-    steady_met: [u64; 14],
+    steady_met: [u64; STEADY.len()],
     // steady days with one condition broken (BREAKS): those that differed were found
-    broken: [Tally; 4],
+    broken: [Tally; BREAKS.len()],
     met: Met,
     // cases that are not what their maker says
     wrong: u64,
@@ -89,30 +90,35 @@ impl Tallies {
         self.calls.iter().any(|c| c.differed > 0) || self.plain.differed > 0 || self.steady.differed > 0 || self.sizes_differed > 0
     }
     fn fine(&self) -> bool {
-        !self.differed() && self.wrong == 0 && self.calls.iter().all(|c| c.met_all()) && self.plain.no_way > 0 && self.met.missing().is_empty() && self.days_fine()
+        let calls = self.calls.iter().all(|c| c.met_all());
+        !self.differed() && self.wrong == 0 && calls && self.plain.no_way > 0 && self.met.missing().is_empty() && self.days_fine()
     }
-    // steady days met all they must, and each broken condition was found
+    // have steady days met all they must, and was each broken condition found?
     fn days_fine(&self) -> bool {
         let s = &self.steady;
-        s.no_way > 0 && s.flagged > 0 && s.flagged < s.compared && self.steady_met.iter().all(|n| *n > 0) && self.broken.iter().all(|b| b.differed > 0)
+        let met = s.no_way > 0 && s.flagged > 0 && s.flagged < s.compared && self.steady_met.iter().all(|n| *n > 0);
+        met && self.broken.iter().all(|b| b.differed > 0)
     }
     fn print(&self) {
         self.calls[0].print("run_tbr");
         self.calls[1].print("query");
         println!("instances of the two calls together: {} ({} of them with hostile words)", self.calls[0].compared + self.calls[1].compared, self.hostile);
         println!("workspace sizes: {} compared, {} differed", self.sizes, self.sizes_differed);
-        for (name, d) in [("plain", &self.plain), ("steady", &self.steady)] {
-            let Tally { compared, no_way, flagged, differed, .. } = d;
-            println!("query against all journeys and ways, {name} days: {compared} compared ({no_way} no way, {flagged} with flags on), {differed} differed");
-        }
-        let list = |words: Vec<String>| words.join(", ");
-        println!("  steady days with {}", list(STEADY.iter().zip(self.steady_met).map(|(name, n)| format!("{name}: {n}")).collect()));
-        let broken = BREAKS.iter().zip(&self.broken).map(|(name, b)| format!("{name}: {} of {}", b.differed, b.compared));
-        println!("  days with one condition broken, found to differ: {}", list(broken.collect()));
+        self.print_days();
         self.met.print();
         if self.wrong > 0 {
             println!("{} cases are not what they should be", self.wrong);
         }
+    }
+    fn print_days(&self) {
+        for (name, d) in [("plain", &self.plain), ("steady", &self.steady)] {
+            let counts = format!("{} compared ({} no way, {} with flags on), {} differed", d.compared, d.no_way, d.flagged, d.differed);
+            println!("query against all journeys and ways, {name} days: {counts}");
+        }
+        let met: Vec<String> = STEADY.iter().zip(self.steady_met).map(|(name, n)| format!("{name} {n}")).collect();
+        println!("  steady days with: {}", met.join(", "));
+        let broken: Vec<String> = BREAKS.iter().zip(&self.broken).map(|(name, b)| format!("{name} {} of {}", b.differed, b.compared)).collect();
+        println!("  found to differ where one condition is broken: {}", broken.join(", "));
     }
 }
 

@@ -9,9 +9,9 @@ const BREAKS: [&str; 4] = ["a departure given", "an arrival given", "a delay pas
 
 // what steady days must have met
 const STEADY: [&str; 14] = [
-    "no transfers", "hand-made transfers", "an unevenly listed line", "a departure at a last stop", "a late trip", "an early trip", "a delay row of 0",
-    "a skipped stop", "a delay of 21,600", "a delay of -21,600", "an unknown trip past the cap", "a trip that leaves at 0", "trips with and without delay in a line",
-    "the best total by a delayed trip",
+    "no transfers", "hand-made transfers", "an unevenly listed line", "a departure at a last stop", "a line with and without delay rows",
+    "an unknown trip past the cap", "the best total by a delayed trip", "a late trip", "an early trip", "a delay row of 0", "a delay of 21,600",
+    "a delay of -21,600", "a skipped stop", "a trip that leaves at 0",
 ];
 
 // TABLES
@@ -30,7 +30,7 @@ fn list_unevenly(r: &mut Random, c: &mut Case) {
 
 // at times all times later, so that trips may run early by as much as the cap, the first of them to leave at 0
 fn leave_later(r: &mut Random, c: &mut Case, day: Day) {
-    if c.later > 0 || day == Day::Broken(3) || !r.yes(30) {
+    if c.later > 0 || day == Day::Broken(3) || !r.yes(if day == Day::Broken(2) { 50 } else { 30 }) {
         return;
     }
     let first = c.e.stop_times.iter().map(|s| s.departure_s).min().unwrap();
@@ -61,6 +61,7 @@ fn delay(r: &mut Random, c: &mut Case, day: Day) {
         break_one(r, c, k);
     }
     unknown(r, c);
+    strangers(r, c);
     read_rows(c);
     if r.yes(if broken.is_some() { 80 } else { 35 }) {
         sharpen(r, c);
@@ -108,7 +109,7 @@ fn sharpen(r: &mut Random, c: &mut Case) {
 // where delays lie: about 0, or up to the cap, or down to it; the query is as much later or earlier
 fn far_off(r: &mut Random, c: &mut Case, broken: Option<usize>) -> i32 {
     let at_cap = broken == Some(2);
-    let early = r.yes(if c.later > 0 { 40 } else { 2 });
+    let early = r.yes(if c.later == 0 { 2 } else if at_cap { 100 } else { 40 });
     let late = at_cap || r.yes(20);
     let by = CAP as u32 - 30 * r.below(11);
     if early {
@@ -122,26 +123,40 @@ fn far_off(r: &mut Random, c: &mut Case, broken: Option<usize>) -> i32 {
     }
 }
 
+// as scheduled, and the earliest of the trip, as its times rise
+fn first_departure(c: &Case, t: u32) -> i32 {
+    stop_time_of(&c.e, t, 0).departure_s as i32
+}
+
 // delay rows of both signs, within the cap and not before 0; stop rows that skip or say nothing
 fn delay_steadily(r: &mut Random, c: &mut Case, broken: Option<usize>) {
     let far = far_off(r, c, broken);
     let percent = if broken.is_some() { 100 } else { [30, 60, 90][r.below(3) as usize] };
-    let step = [30, 30, 10, 1][r.below(4) as usize];
+    let (step, wide) = ([30, 30, 10, 1][r.below(4) as usize], if r.yes(10) { 10 } else { 1 });
     for t in 0..c.e.trips.len() as u32 {
         if !r.yes(percent) {
             continue;
         }
-        let near = (step * r.below(300 / step + 1)) as i32;
-        let drawn = if r.yes(8) { 0 } else if far == 0 || r.yes(10) { near - 150 } else { far - far.signum() * near };
-        let first = stop_time_of(&c.e, t, 0).departure_s as i32;
+        let near = (wide * step * r.below(300 / step + 1)) as i32;
+        let wanted = if r.yes(8) { 0 } else if far == 0 || r.yes(10) { near - 150 * wide as i32 } else { far - far.signum() * near };
         let row = c.delays.len() as u32;
-        c.delays.push((t, drawn.max(-first)));
+        c.delays.push((t, wanted.max(-first_departure(c, t))));
         for sequence in 0..6 {
             if r.yes(10) {
                 c.stop_rows.push([row, sequence, if r.yes(80) { 4 } else { 0 }, r.signed_inside(), r.signed_inside()]);
             }
         }
     }
+}
+
+// unknown trips may have anything
+fn strangers(r: &mut Random, c: &mut Case) {
+    for row in 0..c.delays.len() {
+        if c.delays[row].0 == UNKNOWN && r.yes(30) {
+            c.stop_rows.push([row as u32, 2 + r.below(4), r.below(8), r.signed_inside(), r.signed_inside()]);
+        }
+    }
+    c.stop_rows.sort();
 }
 
 // what the Rust reads, out of the rows
@@ -168,7 +183,7 @@ fn break_one(r: &mut Random, c: &mut Case, k: usize) {
 fn give(r: &mut Random, c: &mut Case, flag: u32) {
     for (row, (t, delay)) in c.delays.clone().into_iter().enumerate() {
         let len = c.e.trips[t as usize].stop_time_len;
-        let o = if flag == 1 { r.below(len) } else { (1 + r.below(len)).min(len.saturating_sub(2)).max(1).min(len - 1) };
+        let o = if flag == 1 { r.below(len) } else if len < 3 { len - 1 } else { 1 + r.below(len - 2) };
         let own = delay + if flag == 1 || o + 1 < len { 30 + r.below(3000) as i32 } else { -(r.below(400) as i32) };
         let sequence = stop_time_of(&c.e, t, o).stop_sequence;
         c.stop_rows.retain(|s| (s[0], s[1]) != (row as u32, sequence));
@@ -177,22 +192,29 @@ fn give(r: &mut Random, c: &mut Case, flag: u32) {
     c.stop_rows.sort();
 }
 
-// delays just past the cap, at times by one second
+// all delays just past the cap, at times by one second, save where a trip would leave before 0
 fn past_cap(r: &mut Random, c: &mut Case) {
     let most = if r.yes(30) { 1 } else { 400 };
-    for d in c.delays.iter_mut() {
+    let early = c.delays.iter().any(|d| d.1 < -CAP / 2);
+    for k in 0..c.delays.len() {
         let size = CAP + 1 + r.below(most) as i32;
-        let first = c.e.stop_times[c.e.trips[d.0 as usize].stop_time_start as usize].departure_s as i32;
-        d.1 = if d.1 < 0 && first >= size { -size } else { size };
+        if !early {
+            c.delays[k].1 = size;
+        } else if first_departure(c, c.delays[k].0) >= size {
+            c.delays[k].1 = -size;
+        }
+    }
+    if c.delays.iter().all(|d| d.1.abs() <= CAP) {
+        c.delays[0].1 = CAP + 1;
     }
 }
 
 // trips that leave before 0, at times by one second, and a query from 0 on
 fn before_0(r: &mut Random, c: &mut Case) {
     let most = if r.yes(30) { 1 } else { 400 };
-    for d in c.delays.iter_mut() {
-        let first = c.e.stop_times[c.e.trips[d.0 as usize].stop_time_start as usize].departure_s as i32;
-        d.1 = (-first - 1 - r.below(most) as i32).max(-CAP);
+    for k in 0..c.delays.len() {
+        let first = first_departure(c, c.delays[k].0);
+        c.delays[k].1 = (-first - 1 - r.below(most) as i32).max(-CAP);
     }
     let least = c.origins.iter().map(|o| o.duration_s).min().unwrap_or(0);
     c.origins.iter_mut().for_each(|o| o.duration_s -= least);
@@ -201,22 +223,24 @@ fn before_0(r: &mut Random, c: &mut Case) {
 
 // IS IT SUCH A DAY?
 
-// the calm part: tables as built, no windows, flags not in use, no scheduled time falls, walks complete
+// the calm part of the tables: as built, no windows, no scheduled time falls, walks complete
 fn calm(c: &Case) -> bool {
     let mut e = c.e.clone();
     build_departures(&mut e);
     build_lines(&mut e);
-    let built = e.stop_departures == c.e.stop_departures && e.stop_has_freq == c.e.stop_has_freq && e.line_trips == c.e.line_trips && e.line_of_trip == c.e.line_of_trip;
+    let built = |e: &StaticEpoch| (e.stop_departures.clone(), e.stop_has_freq.clone(), e.line_trips.clone(), e.line_of_trip.clone());
     let rises = |t: &GlobalTrip| {
-        let times: Vec<u32> = (0..t.stop_time_len).map(|o| &e.stop_times[(t.stop_time_start + o) as usize]).flat_map(|s| [s.arrival_s, s.departure_s]).collect();
+        let of_trip = &e.stop_times[t.stop_time_start as usize..(t.stop_time_start + t.stop_time_len) as usize];
+        let times: Vec<u32> = of_trip.iter().flat_map(|s| [s.arrival_s, s.departure_s]).collect();
         times.windows(2).all(|p| p[0] <= p[1])
     };
-    built && e.trips.iter().all(|t| t.frequency_windows.is_empty() && rises(t)) && (!flags_on(c) || skip_nothing(c)) && walks_complete(c)
+    built(&e) == built(&c.e) && e.trips.iter().all(|t| t.frequency_windows.is_empty() && rises(t)) && walks_complete(c)
 }
 
 // two edges, and an origin and an edge, have an edge and an origin no longer, save from a stop back to it
 fn walks_complete(c: &Case) -> bool {
-    let edges: Vec<(u32, u32, u32)> = c.e.walk_edges.iter().map(|w| (w.from_stop_idx, w.to_stop_idx, w.effective_duration_s(c.q.wheelchair))).collect();
+    let row = |w: &WalkEdge| (w.from_stop_idx, w.to_stop_idx, w.effective_duration_s(c.q.wheelchair));
+    let edges: Vec<(u32, u32, u32)> = c.e.walk_edges.iter().map(row).collect();
     let walk = |a: u32, b: u32, most: u32| edges.iter().any(|e| (e.0, e.1) == (a, b) && e.2 <= most);
     let after = |x: u32| edges.iter().filter(move |e| e.0 == x);
     edges.iter().all(|e| after(e.1).all(|f| f.1 == e.0 || walk(e.0, f.1, e.2 + f.2)))
@@ -227,12 +251,16 @@ fn walks_complete(c: &Case) -> bool {
 fn conditions(c: &Case) -> [bool; 4] {
     let known: Vec<&(u32, i32)> = c.delays.iter().filter(|d| (d.0 as usize) < c.e.trips.len()).collect();
     let given = |flag: u32| c.stop_rows.iter().any(|s| s[2] & flag != 0 && (c.delays[s[0] as usize].0 as usize) < c.e.trips.len());
-    let after_0 = |d: &&(u32, i32)| (0..c.e.trips[d.0 as usize].stop_time_len).all(|o| stop_time_of(&c.e, d.0, o).departure_s as i64 + d.1 as i64 >= 0);
+    let put = |t: u32, o: u32, delay: i32| stop_time_of(&c.e, t, o).departure_s as i64 + delay as i64;
+    let after_0 = |d: &&(u32, i32)| (0..c.e.trips[d.0 as usize].stop_time_len).all(|o| put(d.0, o, d.1) >= 0);
     [!given(1), !given(2), known.iter().all(|d| d.1.unsigned_abs() <= 21_600), known.iter().all(after_0)]
 }
 
-// no delay row, all conditions, or all but the one broken
+// flags not in use; and no delay row, all conditions, or all but the one broken
 fn is_of(c: &Case, day: Day) -> bool {
+    if flags_on(c) && !skip_nothing(c) {
+        return false;
+    }
     match day {
         Day::Plain => c.delays.is_empty(),
         Day::Steady => conditions(c) == [true; 4],
@@ -249,19 +277,27 @@ fn uneven(c: &Case) -> bool {
     listed.iter().any(|(t, o)| c.e.line_trips[c.e.line_of_trip[*t as usize] as usize].iter().any(|u| left_out(*u, *o)))
 }
 
+// does a label of the best stop, by a delayed ride, arrive as the best total has it?
+fn best_delayed(c: &Case, reply: &Reply, labels: &[u32]) -> bool {
+    let moved = |t: u32| delay_row(c, t).map_or(0, |k| c.delays[k].1) != 0;
+    let of_stop = || labels.chunks(8).skip(13 * reply.stop as usize).take(13);
+    c.egress.get(&reply.stop).is_some_and(|a| of_stop().any(|w| w[0] == 2 && w[1] + a.duration_s == reply.total && moved(w[2])))
+}
+
+// of STEADY, which it has
 fn steady_met(c: &Case, reply: &Reply, labels: &[u32]) -> [bool; 14] {
     let transfers = || c.e.trip_transfers.iter().flatten().flatten();
-    let known = || c.delays.iter().filter(|d| d.0 != UNKNOWN);
-    let offsets = |t: u32| (0..c.e.trips[t as usize].stop_time_len).map(move |o| (t, o));
     let last = c.e.stop_departures.iter().flatten().any(|d| d.1 + 1 == c.e.trips[d.0 as usize].stop_time_len);
-    let delayed = |t: &u32| delay_row(c, *t).is_some();
-    // a label of the best stop by a delayed ride that arrives as the best total has it
-    let best = |w: &[u32]| w[0] == 2 && w[1] + c.egress[&reply.stop].duration_s == reply.total && known().any(|d| d.0 == w[2] && d.1 != 0);
-    let by_delayed = reply.total != u32::MAX && labels.chunks(8).skip(13 * reply.stop as usize).take(13).any(best);
+    let has_row = |t: &u32| delay_row(c, *t).is_some();
+    let mixed = c.e.line_trips.iter().any(|l| l.iter().any(has_row) && !l.iter().all(has_row));
+    let stranger = c.delays.iter().any(|d| d.0 == UNKNOWN && d.1.abs() > CAP);
+    let some = |test: fn(i32) -> bool| c.delays.iter().any(|d| d.0 != UNKNOWN && test(d.1));
+    let event = |test: fn(&Case, u32, u32) -> bool| {
+        c.delays.iter().filter(|d| d.0 != UNKNOWN).any(|d| (0..c.e.trips[d.0 as usize].stop_time_len).any(|o| test(c, d.0, o)))
+    };
     [
-        transfers().next().is_none(), transfers().any(|x| x.min_transfer_s != 120), uneven(c), last, known().any(|d| d.1 > 0), known().any(|d| d.1 < 0),
-        known().any(|d| d.1 == 0), known().any(|d| offsets(d.0).any(|(t, o)| !served(c, t, o))), known().any(|d| d.1 == CAP), known().any(|d| d.1 == -CAP),
-        c.delays.iter().any(|d| d.0 == UNKNOWN && d.1.abs() > CAP), known().any(|d| offsets(d.0).any(|(t, o)| departs(c, t, o) == 0)),
-        c.e.line_trips.iter().any(|l| l.iter().any(delayed) && !l.iter().all(delayed)), by_delayed,
+        transfers().next().is_none(), transfers().any(|x| x.min_transfer_s != 120), uneven(c), last, mixed, stranger, best_delayed(c, reply, labels),
+        some(|d| d > 0), some(|d| d < 0), some(|d| d == 0), some(|d| d == CAP), some(|d| d == -CAP), event(|c, t, o| !served(c, t, o)),
+        event(|c, t, o| departs(c, t, o) == 0),
     ]
 }
