@@ -70,40 +70,44 @@ fn delay(r: &mut Random, c: &mut Case, day: Day) {
     }
 }
 
-// the rides of delayed trips that may be boarded at an origin's stop: size of the delay, trip, offset, the origin's duration
-fn delayed_rides(c: &Case) -> Vec<(u32, u32, u32, u32)> {
-    let mut out = vec![];
-    for (t, delay) in c.delays.iter().filter(|d| d.0 != UNKNOWN) {
-        for o in 0..c.e.trips[*t as usize].stop_time_len {
-            let (x, v) = (stop_time_of(&c.e, *t, o).stop_idx, departs(c, *t, o));
-            let access = c.origins.iter().filter(|a| a.stop_idx == x).map(|a| a.duration_s).min();
-            if let Some(d) = access.filter(|d| *d <= v && v - d <= LIMIT && boards(c, x, *t, o, v, 0) && !alights(c, *t, o).is_empty()) {
-                out.push((delay.unsigned_abs(), *t, o, d));
-            }
-        }
-    }
-    out
+// a ride: size of the trip's delay, trip, offset
+type Ride = (u32, u32, u32);
+
+// the rides of delayed trips that may be boarded at this stop, at this time or later, and left
+fn delayed_rides(c: &Case, x: u32, from: u32) -> Vec<Ride> {
+    let at_stop = c.e.stop_departures[x as usize].iter().filter_map(|(t, o)| delay_row(c, *t).map(|k| (c.delays[k].1.unsigned_abs(), *t, *o)));
+    at_stop.filter(|(_, t, o)| boards(c, x, *t, *o, from, 0) && !alights(c, *t, *o).is_empty()).collect()
 }
 
-// a query on the edge: a delayed trip, most often the one delayed most, leaves just when its stop is reached; and the egress walk from there
-// arrives a second later than it
-fn sharpen(r: &mut Random, c: &mut Case) {
-    let rides = delayed_rides(c);
-    if rides.is_empty() {
-        return;
-    }
-    let any = rides[r.below(rides.len() as u32) as usize];
-    let (_, t, o, access_s) = if r.yes(70) { *rides.iter().max_by_key(|x| x.0).unwrap() } else { any };
+// one of some rides, most often of the longest delay, and where and when it may be left, most often first
+fn picked(r: &mut Random, c: &Case, rides: &[Ride]) -> Option<(u32, u32, (u32, u32))> {
+    let any = *rides.get(r.below(rides.len().max(1) as u32) as usize)?;
+    let (_, t, o) = if r.yes(70) { *rides.iter().max_by_key(|x| x.0)? } else { any };
     let ends = alights(c, t, o);
-    let last = ends[r.below(ends.len() as u32) as usize];
-    let (y, v) = if r.yes(50) { *ends.iter().min_by_key(|e| e.1).unwrap() } else { last };
-    c.start = departs(c, t, o) - access_s;
+    let end = ends[r.below(ends.len() as u32) as usize];
+    Some((t, o, if r.yes(50) { *ends.iter().min_by_key(|e| e.1)? } else { end }))
+}
+
+// a query on the edge: a delayed trip leaves just when its stop is reached; at times another just when the change time after it has passed; and
+// the egress walk from the first stop arrives a second later than the ride does
+fn sharpen(r: &mut Random, c: &mut Case) -> Option<()> {
+    let all: Vec<Ride> = c.origins.iter().flat_map(|a| delayed_rides(c, a.stop_idx, a.duration_s)).collect();
+    let (t, o, (mut y, mut v)) = picked(r, c, &all)?;
+    let (x, leaves) = (stop_time_of(&c.e, t, o).stop_idx, departs(c, t, o));
+    let access_s = c.origins.iter().filter(|a| a.stop_idx == x).map(|a| a.duration_s).min()?;
+    c.start = (leaves - access_s).min(LIMIT);
+    if r.yes(40) {
+        if let Some((u, p, end)) = picked(r, c, &delayed_rides(c, y, v)) {
+            c.q.default_transfer_s = (departs(c, u, p) - v).min(LIMIT);
+            (y, v) = end;
+        }
+    }
     if r.yes(50) {
         c.egress.clear();
     }
-    let x = stop_time_of(&c.e, t, o).stop_idx;
-    c.egress.insert(x, access(x, (v + 1).saturating_sub(departs(c, t, o)), 0.0));
+    c.egress.insert(x, access(x, (v + 1).saturating_sub(leaves).min(LIMIT), 0.0));
     c.egress.insert(y, access(y, 0, 0.0));
+    Some(())
 }
 
 // where delays lie: about 0, or up to the cap, or down to it; the query is as much later or earlier
