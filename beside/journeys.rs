@@ -141,15 +141,17 @@ fn moved(c: &Case, (t, o): (u32, u32), time: u32, flag: u32, field: usize) -> u3
     (time as i64 + delay as i64).max(0) as u32
 }
 
+// the effective departure of trip t at offset o
 fn departs(c: &Case, t: u32, o: u32) -> u32 {
     moved(c, (t, o), stop_time_of(&c.e, t, o).departure_s, 1, 3)
 }
 
+// the effective arrival
 fn arrives(c: &Case, t: u32, o: u32) -> u32 {
     moved(c, (t, o), stop_time_of(&c.e, t, o).arrival_s, 2, 4)
 }
 
-// not skipped
+// is its stop there not skipped?
 fn served(c: &Case, t: u32, o: u32) -> bool {
     stop_row(c, t, o).map_or(true, |s| s[2] & 4 == 0)
 }
@@ -253,12 +255,14 @@ fn day_searches(r: &mut Random, t: &mut Tallies, day: Day) {
     }
 }
 
+// is `query`'s answer what demand 3 asks? A refusal is none, and finds nothing on a broken day.
 fn day_search(r: &mut Random, t: &mut Tallies, c: &Case, day: Day) {
     let x = lend(r, c, false);
     let mut a = areas(r, &x.sizes, 4096);
     let reply = ask_ours(Call::Query, &x, &mut a);
     let candidates: Vec<[u32; 3]> = a.candidates.chunks(3).take(reply.candidates as usize).map(|k| k.try_into().unwrap()).collect();
-    let right = reply.code == 0 && demand_3(c, reply.total, reply.stop, &candidates);
+    let differs = if reply.code == 0 { !demand_3(c, reply.total, reply.stop, &candidates) } else { !matches!(day, Day::Broken(_)) };
+    t.wrong += (reply.code != 0) as u64;
     let days = match day {
         Day::Plain => &mut t.plain,
         Day::Steady => &mut t.steady,
@@ -267,7 +271,7 @@ fn day_search(r: &mut Random, t: &mut Tallies, c: &Case, day: Day) {
     days.compared += 1;
     days.no_way += (reply.total == u32::MAX) as u64;
     days.flagged += flags_on(c) as u64;
-    days.differed += !right as u64;
+    days.differed += differs as u64;
     if day == Day::Steady {
         let met = steady_met(c, &reply, &a.labels);
         t.steady_met.iter_mut().zip(met).for_each(|(n, yes)| *n += yes as u64);

@@ -79,7 +79,7 @@ impl Tallies {
         self.plain.join(&t.plain);
         self.steady.join(&t.steady);
         self.steady_met.iter_mut().zip(t.steady_met).for_each(|(a, b)| *a += b);
-        (0..4).for_each(|k| self.broken[k].join(&t.broken[k]));
+        self.broken.iter_mut().zip(&t.broken).for_each(|(a, b)| a.join(b));
         self.met.join(&t.met);
         self.sizes += t.sizes;
         self.sizes_differed += t.sizes_differed;
@@ -110,6 +110,7 @@ impl Tallies {
             println!("{} cases are not what they should be", self.wrong);
         }
     }
+    // the comparison with all journeys and ways
     fn print_days(&self) {
         for (name, d) in [("plain", &self.plain), ("steady", &self.steady)] {
             let counts = format!("{} compared ({} no way, {} with flags on), {} differed", d.compared, d.no_way, d.flagged, d.differed);
