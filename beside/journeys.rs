@@ -1,4 +1,5 @@
-// Plain days, and all journeys and ways on them, as crates/model/specs/Promise.antt defines them; no search of the Rust's stands here.
+// Plain and steady days, and all journeys and ways on them, as crates/model/specs/Promise.antt defines them; no search of the Rust's and none of
+// its readings of delays stands here.
 use std::collections::BTreeSet;
 
 // no time falls
@@ -78,19 +79,38 @@ fn complete_walks(c: &mut Case) -> bool {
     true
 }
 
-fn plain_day(r: &mut Random) -> Case {
+// what a day is made as: without delays; steady; steady save for one condition (steady.rs)
+#[derive(Clone, Copy, PartialEq)]
+enum Day {
+    Plain,
+    Steady,
+    Broken(usize),
+}
+
+// tables of such a day, with a query; on a plain day the lines evenly listed, else any departures and any transfers
+fn day_of(r: &mut Random, day: Day) -> Case {
     let kind = 4 * r.below(2);
-    let which = [1, 3][r.below(2) as usize];
+    let which = [1, 3, 2][r.below(if day == Day::Plain { 2 } else { 3 }) as usize];
     let mut c = loop {
         let mut c = drawn(r, kind, which).0;
-        if complete_walks(&mut c) {
+        if complete_walks(&mut c) && (c.later == 0 || day != Day::Broken(3)) {
             break c;
         }
     };
+    // further queries draw no delays of their own
+    c.kind = kind;
     rising_times(&mut c.e);
     build_lines(&mut c.e);
-    list_evenly(r, &mut c.e);
+    if day == Day::Plain {
+        list_evenly(r, &mut c.e);
+    } else {
+        list_unevenly(r, &mut c);
+        leave_later(r, &mut c, day);
+    }
     build_all(&mut c.e);
+    if day != Day::Plain {
+        any_transfers(r, &mut c.e);
+    }
     // the flags skip nothing
     for p in c.e.flag_patterns.iter_mut() {
         *p = gtfs::cell_bitset::CellBitSet::new(512);
@@ -103,6 +123,39 @@ fn stop_time_of(e: &StaticEpoch, t: u32, o: u32) -> &PackedStopTime {
     &e.stop_times[(e.trips[t as usize].stop_time_start + o) as usize]
 }
 
+// the delay row of a trip: the rows stand by trip, each trip in the table once at most
+fn delay_row(c: &Case, t: u32) -> Option<usize> {
+    c.delays.binary_search_by_key(&t, |d| d.0).ok()
+}
+
+// the stop row of trip t at offset o: of its delay row and the stop time's sequence; they stand by row and sequence
+fn stop_row(c: &Case, t: u32, o: u32) -> Option<&[u32; 5]> {
+    let of = (delay_row(c, t)? as u32, stop_time_of(&c.e, t, o).stop_sequence);
+    c.stop_rows.binary_search_by_key(&of, |s| (s[0], s[1])).ok().map(|k| &c.stop_rows[k])
+}
+
+// a scheduled time of trip t at offset o, moved by the delay that its stop row gives in this field under this flag, else by the trip's; not below 0
+fn moved(c: &Case, (t, o): (u32, u32), time: u32, flag: u32, field: usize) -> u32 {
+    let of_trip = || delay_row(c, t).map_or(0, |k| c.delays[k].1);
+    let delay = stop_row(c, t, o).filter(|s| s[2] & flag != 0).map_or_else(of_trip, |s| s[field] as i32);
+    (time as i64 + delay as i64).max(0) as u32
+}
+
+// the effective departure of trip t at offset o
+fn departs(c: &Case, t: u32, o: u32) -> u32 {
+    moved(c, (t, o), stop_time_of(&c.e, t, o).departure_s, 1, 3)
+}
+
+// the effective arrival
+fn arrives(c: &Case, t: u32, o: u32) -> u32 {
+    moved(c, (t, o), stop_time_of(&c.e, t, o).arrival_s, 2, 4)
+}
+
+// is its stop there not skipped?
+fn served(c: &Case, t: u32, o: u32) -> bool {
+    stop_row(c, t, o).map_or(true, |s| s[2] & 4 == 0)
+}
+
 fn permitted(c: &Case, t: u32) -> bool {
     let trip = &c.e.trips[t as usize];
     c.e.active[t as usize]
@@ -113,14 +166,17 @@ fn permitted(c: &Case, t: u32) -> bool {
 
 // may trip t be boarded at offset o at stop x, standing there at v with so much change time before it?
 fn boards(c: &Case, x: u32, t: u32, o: u32, v: u32, change: u32) -> bool {
-    let s = stop_time_of(&c.e, t, o);
-    permitted(c, t) && s.pickup_type != 1 && v + change <= s.departure_s && c.e.stop_departures[x as usize].contains(&(t, o))
+    permitted(c, t)
+        && stop_time_of(&c.e, t, o).pickup_type != 1
+        && v + change <= departs(c, t, o)
+        && served(c, t, o)
+        && c.e.stop_departures[x as usize].contains(&(t, o))
 }
 
 // where and when it may be left
 fn alights(c: &Case, t: u32, o: u32) -> Vec<(u32, u32)> {
-    let len = c.e.trips[t as usize].stop_time_len;
-    (o + 1..len).map(|p| stop_time_of(&c.e, t, p)).filter(|s| s.drop_off_type != 1).map(|s| (s.stop_idx, s.arrival_s)).collect()
+    let left = |p: &u32| stop_time_of(&c.e, t, *p).drop_off_type != 1 && served(c, t, *p);
+    (o + 1..c.e.trips[t as usize].stop_time_len).filter(left).map(|p| (stop_time_of(&c.e, t, p).stop_idx, arrives(c, t, p))).collect()
 }
 
 fn walked(c: &Case, x: u32, v: u32) -> Vec<(u32, u32)> {
@@ -182,28 +238,42 @@ fn demand_3(c: &Case, total: u32, stop: u32, candidates: &[[u32; 3]]) -> bool {
     arrives(total, stop) && candidates.iter().all(|k| arrives(k[0], k[1])) && earliest.iter().enumerate().all(|(n, v)| *v == u32::MAX || covered(n, *v))
 }
 
-// so many queries on the tables of one plain day: another start, egress, change time, rounds, modes, excluded trips; the walks stay complete
+// so many queries on the tables of one day: another start, egress, change time, rounds, modes, excluded trips, delays; the walks stay complete
 const ASKED: u32 = 4;
 
-fn plain_searches(r: &mut Random, t: &mut Tallies) {
-    let mut c = plain_day(r);
+fn day_searches(r: &mut Random, t: &mut Tallies, day: Day) {
+    let mut c = day_of(r, day);
     for k in 0..ASKED {
-        if k > 0 {
+        if k > 0 || day != Day::Plain {
             let (origins, wheelchair) = (c.origins.clone(), c.q.wheelchair);
             ask_anew(r, &mut c);
             (c.origins, c.q.wheelchair) = (origins, wheelchair);
         }
-        plain_search(r, t, &c);
+        delay(r, &mut c, day);
+        t.wrong += !(is_of(&c, day) && (k > 0 || calm(&c))) as u64;
+        day_search(r, t, &c, day);
     }
 }
 
-fn plain_search(r: &mut Random, t: &mut Tallies, c: &Case) {
+// is `query`'s answer what demand 3 asks? A refusal is none, and finds nothing on a broken day.
+fn day_search(r: &mut Random, t: &mut Tallies, c: &Case, day: Day) {
     let x = lend(r, c, false);
     let mut a = areas(r, &x.sizes, 4096);
     let reply = ask_ours(Call::Query, &x, &mut a);
     let candidates: Vec<[u32; 3]> = a.candidates.chunks(3).take(reply.candidates as usize).map(|k| k.try_into().unwrap()).collect();
-    t.plain.compared += 1;
-    t.plain.no_way += (reply.total == u32::MAX) as u64;
-    t.plain.flagged += flags_on(c) as u64;
-    t.plain.differed += (reply.code != 0 || !demand_3(c, reply.total, reply.stop, &candidates)) as u64;
+    let differs = if reply.code == 0 { !demand_3(c, reply.total, reply.stop, &candidates) } else { !matches!(day, Day::Broken(_)) };
+    t.wrong += (reply.code != 0) as u64;
+    let days = match day {
+        Day::Plain => &mut t.plain,
+        Day::Steady => &mut t.steady,
+        Day::Broken(k) => &mut t.broken[k],
+    };
+    days.compared += 1;
+    days.no_way += (reply.total == u32::MAX) as u64;
+    days.flagged += flags_on(c) as u64;
+    days.differed += differs as u64;
+    if day == Day::Steady {
+        let met = steady_met(c, &reply, &a.labels);
+        t.steady_met.iter_mut().zip(met).for_each(|(n, yes)| *n += yes as u64);
+    }
 }

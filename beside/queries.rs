@@ -1,15 +1,17 @@
 // queries [COUNT [SEED [JOBS]]]: `run_tbr` and `query` beside the Rust: COUNT random searches of all kinds, small and large, a third of them damaged;
-// queue halves with just enough room and too little; 0, 1, limit and limit + 1 of every count; for every ten of them a search of hostile words, and
-// four plain days, there against all journeys and ways. JOBS threads share them, each with a seed of its own. Every word of every area is
-// compared, after a refusal too; one instance is one call with all that it could have written. It prints how many were compared, by
-// the code expected, what was met in the answered ones (met.rs), and how many differed; status 1 where any did, or where a code or a
-// thing was never met.
+// queue halves with just enough room and too little; 0, 1, limit and limit + 1 of every count; for every ten of them a search of hostile words,
+// four plain days and two steady ones, there against all journeys and ways; for every hundred, four days with one condition of a steady day
+// broken, where the same test must find answers that are not what demand 3 asks. JOBS threads share them, each with a seed of its own. Every
+// word of every area is compared, after a refusal too; one instance is one call with all that it could have written. It prints how many were
+// compared, by the code expected, what was met in the answered ones (met.rs) and on steady days (steady.rs), and how many differed; status 1
+// where any did, where a code or a thing was never met, or where a broken condition was never found.
 #![allow(dead_code, unused)]
 include!(concat!(env!("BESIDE"), "/query_parts.rs"));
 include!(concat!(env!("BESIDE"), "/damage.rs"));
 include!(concat!(env!("BESIDE"), "/drawn.rs"));
 include!(concat!(env!("BESIDE"), "/met.rs"));
 include!(concat!(env!("BESIDE"), "/journeys.rs"));
+include!(concat!(env!("BESIDE"), "/steady.rs"));
 include!(concat!(env!("BESIDE"), "/jobs.rs"));
 
 const COUNT: u64 = 400_000;
@@ -61,6 +63,11 @@ struct Tallies {
     // calls with hostile words, among those above
     hostile: u64,
     plain: Tally,
+    steady: Tally,
+    // of what steady days must have met (STEADY), how often
+    steady_met: [u64; STEADY.len()],
+    // steady days with one condition broken (BREAKS): those that differed were found
+    broken: [Tally; BREAKS.len()],
     met: Met,
     // cases that are not what their maker says
     wrong: u64,
@@ -70,6 +77,9 @@ impl Tallies {
     fn join(&mut self, t: &Tallies) {
         (0..2).for_each(|k| self.calls[k].join(&t.calls[k]));
         self.plain.join(&t.plain);
+        self.steady.join(&t.steady);
+        self.steady_met.iter_mut().zip(t.steady_met).for_each(|(a, b)| *a += b);
+        self.broken.iter_mut().zip(&t.broken).for_each(|(a, b)| a.join(b));
         self.met.join(&t.met);
         self.sizes += t.sizes;
         self.sizes_differed += t.sizes_differed;
@@ -77,22 +87,39 @@ impl Tallies {
         self.wrong += t.wrong;
     }
     fn differed(&self) -> bool {
-        self.calls.iter().any(|c| c.differed > 0) || self.plain.differed > 0 || self.sizes_differed > 0
+        self.calls.iter().any(|c| c.differed > 0) || self.plain.differed > 0 || self.steady.differed > 0 || self.sizes_differed > 0
     }
     fn fine(&self) -> bool {
-        !self.differed() && self.wrong == 0 && self.calls.iter().all(|c| c.met_all()) && self.plain.no_way > 0 && self.met.missing().is_empty()
+        let calls = self.calls.iter().all(|c| c.met_all());
+        !self.differed() && self.wrong == 0 && calls && self.plain.no_way > 0 && self.met.missing().is_empty() && self.days_fine()
+    }
+    // have steady days met all they must, and was each broken condition found?
+    fn days_fine(&self) -> bool {
+        let s = &self.steady;
+        let met = s.no_way > 0 && s.flagged > 0 && s.flagged < s.compared && self.steady_met.iter().all(|n| *n > 0);
+        met && self.broken.iter().all(|b| b.differed > 0)
     }
     fn print(&self) {
         self.calls[0].print("run_tbr");
         self.calls[1].print("query");
         println!("instances of the two calls together: {} ({} of them with hostile words)", self.calls[0].compared + self.calls[1].compared, self.hostile);
         println!("workspace sizes: {} compared, {} differed", self.sizes, self.sizes_differed);
-        let p = &self.plain;
-        println!("query against all journeys and ways, plain days: {} compared ({} no way, {} with flags on), {} differed", p.compared, p.no_way, p.flagged, p.differed);
+        self.print_days();
         self.met.print();
         if self.wrong > 0 {
             println!("{} cases are not what they should be", self.wrong);
         }
+    }
+    // the comparison with all journeys and ways
+    fn print_days(&self) {
+        for (name, d) in [("plain", &self.plain), ("steady", &self.steady)] {
+            let counts = format!("{} compared ({} no way, {} with flags on), {} differed", d.compared, d.no_way, d.flagged, d.differed);
+            println!("query against all journeys and ways, {name} days: {counts}");
+        }
+        let met: Vec<String> = STEADY.iter().zip(self.steady_met).map(|(name, n)| format!("{name} {n}")).collect();
+        println!("  steady days with: {}", met.join(", "));
+        let broken: Vec<String> = BREAKS.iter().zip(&self.broken).map(|(name, b)| format!("{name} {} of {}", b.differed, b.compared)).collect();
+        println!("  found to differ where one condition is broken: {}", broken.join(", "));
     }
 }
 
@@ -177,10 +204,16 @@ fn job(seed: u64, count: u64) -> Tallies {
             let (x, a) = hostile(&mut r);
             compare(&mut t, &x, &a, None);
             t.hostile += 2;
-            plain_searches(&mut r, &mut t);
+            day_searches(&mut r, &mut t, Day::Plain);
+        }
+        if i % 5 == 2 {
+            day_searches(&mut r, &mut t, Day::Steady);
+        }
+        if i % 25 == 3 {
+            day_searches(&mut r, &mut t, Day::Broken((i / 25 % 4) as usize));
         }
         if first && t.differed() {
-            println!("first difference after {} searches and {} plain days", t.sizes, t.plain.compared);
+            println!("first difference after {} searches, {} plain and {} steady days", t.sizes, t.plain.compared, t.steady.compared);
             break;
         }
     }

@@ -275,6 +275,12 @@ fn by_hand(r: &mut Random, e: &mut StaticEpoch) {
             }
         }
     }
+    transfers_by_hand(r, e);
+}
+
+// some transfers changed, some added
+fn transfers_by_hand(r: &mut Random, e: &mut StaticEpoch) {
+    let nt = e.trips.len() as u32;
     for x in e.trip_transfers.iter_mut().flatten().flatten() {
         if r.yes(8) {
             (x.target_trip, x.target_board_off) = (r.below(nt + 2), r.below(5));
