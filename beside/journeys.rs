@@ -250,6 +250,10 @@ fn day_searches(r: &mut Random, t: &mut Tallies, day: Day) {
             (c.origins, c.q.wheelchair) = (origins, wheelchair);
         }
         delay(r, &mut c, day);
+        // at times nothing was there to break
+        if matches!(day, Day::Broken(_)) && !is_of(&c, day) {
+            continue;
+        }
         t.wrong += !(is_of(&c, day) && (k > 0 || calm(&c))) as u64;
         day_search(r, t, &c, day);
     }

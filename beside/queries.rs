@@ -118,7 +118,7 @@ impl Tallies {
         }
         let met: Vec<String> = STEADY.iter().zip(self.steady_met).map(|(name, n)| format!("{name} {n}")).collect();
         println!("  steady days with: {}", met.join(", "));
-        let broken: Vec<String> = BREAKS.iter().zip(&self.broken).map(|(name, b)| format!("{name} {} of {}", b.differed, b.compared)).collect();
+        let broken: Vec<String> = BREAKS.iter().zip(&self.broken).map(|((name, _), b)| format!("{name} {} of {}", b.differed, b.compared)).collect();
         println!("  found to differ where one condition is broken: {}", broken.join(", "));
     }
 }

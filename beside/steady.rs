@@ -1,17 +1,18 @@
 // Steady days: delays and skipped stops on which demand 3 still holds; and days on which one condition of theirs is broken, where it need not.
-// A steady day is calm, and of the trips in the table no departure and no arrival is given by a stop row, no delay is longer than the cap
-// either way, and no departure is put before second 0. The transfers and what is listed may be any.
+// A steady day is calm, no effective times of a trip fall, no departure is further from its schedule than the cap, and no arrival depends on where
+// one boarded. The transfers and what is listed may be any.
 
 const CAP: i32 = 21_600;
 
-// the conditions, each broken alone on some days
-const BREAKS: [&str; 4] = ["a departure given", "an arrival given", "a delay past the cap", "a departure before 0"];
+// what breaks one condition alone on some days, and which: times do not fall, within the cap, one arrival
+const BREAKS: [(&str, usize); 4] = [("a departure given", 2), ("an arrival given", 0), ("a delay past the cap", 1), ("a departure before 0", 2)];
 
 // what steady days must have met
-const STEADY: [&str; 14] = [
+const STEADY: [&str; 17] = [
     "no transfers", "hand-made transfers", "an unevenly listed line", "a departure at a last stop", "a line with and without delay rows",
     "an unknown trip past the cap", "the best total by a delayed trip", "a late trip", "an early trip", "a delay row of 0", "a delay of 21,600",
-    "a delay of -21,600", "a skipped stop", "a trip that leaves at 0",
+    "a delay of -21,600", "a skipped stop", "a trip that leaves at 0", "a departure given", "an arrival given",
+    "the best total by a trip with times given",
 ];
 
 // TABLES
@@ -57,8 +58,9 @@ fn delay(r: &mut Random, c: &mut Case, day: Day) {
     let broken = if let Day::Broken(k) = day { Some(k) } else { None };
     (c.delays, c.stop_rows) = (vec![], vec![]);
     delay_steadily(r, c, broken);
-    if let Some(k) = broken {
-        break_one(r, c, k);
+    match broken {
+        Some(k) => break_one(r, c, k),
+        None => give_steadily(r, c),
     }
     unknown(r, c);
     strangers(r, c);
@@ -153,6 +155,50 @@ fn delay_steadily(r: &mut Random, c: &mut Case, broken: Option<usize>) {
     }
 }
 
+// times given at single stops of some trips, which are taken back where a condition would not hold
+fn give_steadily(r: &mut Random, c: &mut Case) {
+    let percent = [0, 15, 50][r.below(3) as usize];
+    for row in 0..c.delays.len() {
+        if !r.yes(percent) {
+            continue;
+        }
+        let kept = c.stop_rows.clone();
+        give_from(r, c, row);
+        if !(rises(c, c.delays[row].0) && within_cap(c, c.delays[row].0) && one_arrival(c, c.delays[row].0)) {
+            c.stop_rows = kept;
+        }
+    }
+}
+
+// both times at each stop from one on, near the trip's delay and not before the stop before it; or one arrival alone
+fn give_from(r: &mut Random, c: &mut Case, row: usize) {
+    let (t, delay) = c.delays[row];
+    let len = c.e.trips[t as usize].stop_time_len;
+    let from = r.below(len);
+    let alone = r.yes(25);
+    let mut last = if from > 0 { departs(c, t, from - 1) as i64 } else { 0 };
+    for o in from..if alone { from + 1 } else { len } {
+        let s = stop_time_of(&c.e, t, o);
+        let (sequence, arrival, departure) = (s.stop_sequence, s.arrival_s as i64, s.departure_s as i64);
+        let near = delay as i64 - 40 + 10 * r.below(12) as i64;
+        let arrives = (arrival + near).max(last);
+        let departs = (departure + near + 10 * r.below(3) as i64).max(arrives);
+        last = departs;
+        put_stop_row(c, [row as u32, sequence, if alone { 2 } else { 3 }, (departs - departure) as u32, (arrives - arrival) as u32]);
+    }
+}
+
+// in place of the row there, which may skip the stop
+fn put_stop_row(c: &mut Case, mut s: [u32; 5]) {
+    match c.stop_rows.binary_search_by_key(&(s[0], s[1]), |o| (o[0], o[1])) {
+        Ok(k) => {
+            s[2] |= c.stop_rows[k][2] & 4;
+            c.stop_rows[k] = s;
+        }
+        Err(k) => c.stop_rows.insert(k, s),
+    }
+}
+
 // unknown trips may have anything
 fn strangers(r: &mut Random, c: &mut Case) {
     for row in 0..c.delays.len() {
@@ -182,18 +228,22 @@ fn break_one(r: &mut Random, c: &mut Case, k: usize) {
     }
 }
 
-// departures given later than the trip's delay has them (flag 1), or arrivals such that a later stop is reached sooner (flag 2): later ones in the
-// middle of a trip, earlier ones at the end of a short one
+// departures given later than the trip's delay has them, though before the next arrival (flag 1), or arrivals such that a later stop is reached
+// sooner (flag 2): later ones in the middle of a trip, earlier ones at the end of a short one
 fn give(r: &mut Random, c: &mut Case, flag: u32) {
     for (row, (t, delay)) in c.delays.clone().into_iter().enumerate() {
         let len = c.e.trips[t as usize].stop_time_len;
         let o = if flag == 1 { r.below(len) } else if len < 3 { len - 1 } else { 1 + r.below(len - 2) };
-        let own = delay + if flag == 1 || o + 1 < len { 30 + r.below(3000) as i32 } else { -(r.below(400) as i32) };
-        let sequence = stop_time_of(&c.e, t, o).stop_sequence;
-        c.stop_rows.retain(|s| (s[0], s[1]) != (row as u32, sequence));
-        c.stop_rows.push([row as u32, sequence, flag, own as u32, own as u32]);
+        let room = if o + 1 < len { arrives(c, t, o + 1).saturating_sub(departs(c, t, o)) } else { 0 };
+        let by = match flag {
+            1 => 1 + r.below(room.max(1)) as i32,
+            _ if o + 1 < len => 30 + r.below(3000) as i32,
+            _ => -(r.below(400) as i32),
+        };
+        let own = (delay + by) as u32;
+        c.stop_rows.retain(|s| (s[0], s[1]) != (row as u32, stop_time_of(&c.e, t, o).stop_sequence));
+        put_stop_row(c, [row as u32, stop_time_of(&c.e, t, o).stop_sequence, flag, own, own]);
     }
-    c.stop_rows.sort();
 }
 
 // all delays just past the cap, at times by one second, save where a trip would leave before 0
@@ -251,24 +301,49 @@ fn walks_complete(c: &Case) -> bool {
         && c.origins.iter().all(|o| after(o.stop_idx).all(|f| c.origins.iter().any(|p| p.stop_idx == f.1 && p.duration_s <= o.duration_s + f.2)))
 }
 
-// the conditions on delays, each of the trips in the table: no departure given, no arrival given, within the cap, after zero
-fn conditions(c: &Case) -> [bool; 4] {
-    let known: Vec<&(u32, i32)> = c.delays.iter().filter(|d| (d.0 as usize) < c.e.trips.len()).collect();
-    let given = |flag: u32| c.stop_rows.iter().any(|s| s[2] & flag != 0 && (c.delays[s[0] as usize].0 as usize) < c.e.trips.len());
-    let put = |t: u32, o: u32, delay: i32| stop_time_of(&c.e, t, o).departure_s as i64 + delay as i64;
-    let after_0 = |d: &&(u32, i32)| (0..c.e.trips[d.0 as usize].stop_time_len).all(|o| put(d.0, o, d.1) >= 0);
-    [!given(1), !given(2), known.iter().all(|d| d.1.unsigned_abs() <= 21_600), known.iter().all(after_0)]
+// no effective time of a trip falls
+fn rises(c: &Case, t: u32) -> bool {
+    let times: Vec<u32> = (0..c.e.trips[t as usize].stop_time_len).flat_map(|o| [arrives(c, t, o), departs(c, t, o)]).collect();
+    times.windows(2).all(|p| p[0] <= p[1])
 }
 
-// flags not in use; and no delay row, all conditions, or all but the one broken
+// no departure of a trip is further from its schedule than the cap
+fn within_cap(c: &Case, t: u32) -> bool {
+    (0..c.e.trips[t as usize].stop_time_len).all(|o| departs(c, t, o).abs_diff(stop_time_of(&c.e, t, o).departure_s) <= 21_600)
+}
+
+// wherever a trip is boarded, it arrives at its effective times: where no time is given, the arrival is moved as far as the departure boarded was
+fn one_arrival(c: &Case, t: u32) -> bool {
+    let shift = |o: u32| departs(c, t, o) as i64 - stop_time_of(&c.e, t, o).departure_s as i64;
+    let given = |p: u32| stop_row(c, t, p).is_some_and(|s| s[2] & 3 != 0);
+    let same = |o: u32, p: u32| (stop_time_of(&c.e, t, p).arrival_s as i64 + shift(o)).max(0) == arrives(c, t, p) as i64;
+    (1..c.e.trips[t as usize].stop_time_len).all(|p| given(p) || (0..p).all(|o| same(o, p)))
+}
+
+// the conditions of a steady day
+fn conditions(c: &Case) -> [bool; 3] {
+    [rises, within_cap, one_arrival].map(|holds| (0..c.e.trips.len() as u32).all(|t| holds(c, t)))
+}
+
+// delays of whole trips: of trips in the table no time is given, no delay is past the cap, no departure is put before 0
+fn trip_delays(c: &Case) -> bool {
+    let known: Vec<&(u32, i32)> = c.delays.iter().filter(|d| (d.0 as usize) < c.e.trips.len()).collect();
+    let given = c.stop_rows.iter().any(|s| s[2] & 3 != 0 && (c.delays[s[0] as usize].0 as usize) < c.e.trips.len());
+    let put = |t: u32, o: u32, delay: i32| stop_time_of(&c.e, t, o).departure_s as i64 + delay as i64;
+    let after_0 = |d: &&(u32, i32)| (0..c.e.trips[d.0 as usize].stop_time_len).all(|o| put(d.0, o, d.1) >= 0);
+    !given && known.iter().all(|d| d.1.unsigned_abs() <= 21_600) && known.iter().all(after_0)
+}
+
+// flags not in use; and no delay row, all conditions, or all but the one broken; delays of whole trips break none
 fn is_of(c: &Case, day: Day) -> bool {
-    if flags_on(c) && !skip_nothing(c) {
+    let kept = conditions(c);
+    if flags_on(c) && !skip_nothing(c) || trip_delays(c) && kept != [true; 3] {
         return false;
     }
     match day {
         Day::Plain => c.delays.is_empty(),
-        Day::Steady => conditions(c) == [true; 4],
-        Day::Broken(k) => conditions(c).iter().enumerate().all(|(i, kept)| *kept == (i != k)),
+        Day::Steady => kept == [true; 3],
+        Day::Broken(k) => kept.iter().enumerate().all(|(i, kept)| *kept == (i != BREAKS[k].1)),
     }
 }
 
@@ -281,15 +356,14 @@ fn uneven(c: &Case) -> bool {
     listed.iter().any(|(t, o)| c.e.line_trips[c.e.line_of_trip[*t as usize] as usize].iter().any(|u| left_out(*u, *o)))
 }
 
-// does a label of the best stop, by a delayed ride, arrive as the best total has it?
-fn best_delayed(c: &Case, reply: &Reply, labels: &[u32]) -> bool {
-    let moved = |t: u32| delay_row(c, t).map_or(0, |k| c.delays[k].1) != 0;
+// does a label of the best stop, by a ride of such a trip, arrive as the best total has it?
+fn best_by(c: &Case, reply: &Reply, labels: &[u32], trip: impl Fn(u32) -> bool) -> bool {
     let of_stop = || labels.chunks(8).skip(13 * reply.stop as usize).take(13);
-    c.egress.get(&reply.stop).is_some_and(|a| of_stop().any(|w| w[0] == 2 && w[1] + a.duration_s == reply.total && moved(w[2])))
+    c.egress.get(&reply.stop).is_some_and(|a| of_stop().any(|w| w[0] == 2 && w[1] + a.duration_s == reply.total && trip(w[2])))
 }
 
 // of STEADY, which it has
-fn steady_met(c: &Case, reply: &Reply, labels: &[u32]) -> [bool; 14] {
+fn steady_met(c: &Case, reply: &Reply, labels: &[u32]) -> [bool; 17] {
     let transfers = || c.e.trip_transfers.iter().flatten().flatten();
     let last = c.e.stop_departures.iter().flatten().any(|d| d.1 + 1 == c.e.trips[d.0 as usize].stop_time_len);
     let has_row = |t: &u32| delay_row(c, *t).is_some();
@@ -299,9 +373,12 @@ fn steady_met(c: &Case, reply: &Reply, labels: &[u32]) -> [bool; 14] {
     let event = |test: fn(&Case, u32, u32) -> bool| {
         c.delays.iter().filter(|d| d.0 != UNKNOWN).any(|d| (0..c.e.trips[d.0 as usize].stop_time_len).any(|o| test(c, d.0, o)))
     };
+    let given = |t: u32, flags: u32| (0..c.e.trips[t as usize].stop_time_len).any(|o| stop_row(c, t, o).is_some_and(|s| s[2] & flags != 0));
+    let delayed = best_by(c, reply, labels, |t| delay_row(c, t).map_or(0, |k| c.delays[k].1) != 0);
     [
-        transfers().next().is_none(), transfers().any(|x| x.min_transfer_s != 120), uneven(c), last, mixed, stranger, best_delayed(c, reply, labels),
+        transfers().next().is_none(), transfers().any(|x| x.min_transfer_s != 120), uneven(c), last, mixed, stranger, delayed,
         some(|d| d > 0), some(|d| d < 0), some(|d| d == 0), some(|d| d == CAP), some(|d| d == -CAP), event(|c, t, o| !served(c, t, o)),
-        event(|c, t, o| departs(c, t, o) == 0),
+        event(|c, t, o| departs(c, t, o) == 0), event(|c, t, o| stop_row(c, t, o).is_some_and(|s| s[2] & 1 != 0)),
+        event(|c, t, o| stop_row(c, t, o).is_some_and(|s| s[2] & 2 != 0)), best_by(c, reply, labels, |t| given(t, 3)),
     ]
 }
