@@ -2,16 +2,16 @@
 -- on which T0 is late by another time at each stop, T1 runs early and skips stop 1, T2 is late, and a trip that is not in the table is later
 -- than the cap (`days` specs/K `givenDelays`). The door admits the slices, the day that they say is a steady one, and the call's whole outcome
 -- is the answer with the total 450 at stop 2.
-use Prim.Native.Nat.{ℕ, zero, suc, _-_, _<_}
+use Prim.Native.Nat.{ℕ, _<_}
 use mathlib.Core.Path.{_≡_, refl, ap}
 use mathlib.Core.List.{List, [], _∷_, _++_, flatten}
 use native.Mathlib.Omega.{arith}
 use lib.ListN.{length, getD, replicate}
 use Rattle.label.specs.Label.{noDistance}
-use Rattle.model.specs.Tables.{Tables, Query, stopCount, changeBefore, isEgress, egressWalk, edgesFrom, fifo, modeWanted, usable, permitted}
+use Rattle.model.specs.Tables.{Tables, Query, changeBefore, isEgress, egressWalk, edgesFrom, fifo, modeWanted, usable, permitted}
 use Rattle.model.specs.Search.{targetsFrom, targetCells, holdsTarget, useArcFlags, someTransfer, skipsEdge, skipsTransfer, flagsInUse, departuresAt, markAt, lineAt, notBefore, boardAt, bestAfter, improve, relax, resolveIn, lineTripsAt, resolve, enqueue, takeTransfers, alightings, transferring, scanTripForward, rideSegments, dominated, pruned, passedOver, boarding, board, scanDepartures, scanStops, walkFrom, walkAll, ridePhase, stamped, walkPhase, idle, rounds, setOut, access, bestTarget, rowTarget, candidatesFrom, final, answer, query as thePromise}
 use Rattle.model.specs.Promise.{effective, SteadyDay, Demand3}
-use Rattle.days.proofs.DayTests.{allOf, allIn, anyIn, sortedTest, calm-when, steady-when}
+use Rattle.days.proofs.DayTests.{allOf, allIn, anyIn, calm-when, steady-when}
 use Rattle.asking.specs.Lent.{Lent, tablesOf, queryOf}
 use Rattle.asking.specs.Door.{question1, readOk, writtenOk, question2, transferRunsOk, question3, columnBelow, lineNumbers, queryNumbers, question4, markRanges, transferRanges, settingRanges, walkRanges, question5, notEarlier, partOrder, departureOrder, columnRises, question6, verdict}
 use Rattle.tables.specs.Door.{countsOk, slicesOk, tripRuns, stopTimeNumbers, edgeNumbers, stopTimeRanges, tripRanges, windowRanges, edgeRanges, edgeRises, runsOk, numbersOk, rangesOk, orderOk}
@@ -20,7 +20,7 @@ use Rattle.line_layout.specs.Listed.{runIn as lineRunIn, lineRunsOk, entriesOk}
 use Rattle.asking.proofs.Examples.{trip}
 use Rattle.asking.specs.declared.QueryCounts.{QueryCounts}
 use Rattle.tables.specs.Tables.{timeOf, tripOf, windowOf, edgeOf, cellOf}
-use Rattle.line_transfers.specs.Transfers.{eventsBefore, departuresOfLine, firstNotBefore, transferTo, transfersOf, builtTransfers}
+use Rattle.line_transfers.specs.Transfers.{eventsBefore}
 use Rattle.line_numbers.specs.Lines.{same, leadOf, isLead, lineOf, lineTrips}
 use Rattle.departures.specs.Departures.{frequencyListed, sorted, markOf}
 use Rattle.tables.specs.Timetable.{Timetable}
@@ -30,7 +30,7 @@ use Rattle.sorts.specs.Sort.{insertBy, sortBy}
 use Rattle.sorts.specs.Orders.{keep}
 use Rattle.walk.specs.Walk.{effectiveDuration, roundCount}
 use Rattle.line_layout.specs.Layout.{fifoLine, inOrder, neighbours, lastIn, positionIn}
-use Rattle.replies.specs.Outcome.{Areas, areas, lengthsOf, Outcome, reply, answered, queryOutcome}
+use Rattle.replies.specs.Outcome.{areas, lengthsOf, Outcome, reply, answered, queryOutcome}
 use Rattle.demands.proofs.Demands.{steady-answered, steady-call}
 use Rattle.demands.proofs.Instance.{below-two, below-three, areasK}
 

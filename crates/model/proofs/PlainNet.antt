@@ -1,5 +1,5 @@
 -- A steady day's tables and query make a net with the laws that the optimality proof needs.
-use Prim.Native.Nat.{ℕ, suc, _+_, _-_, _≤_, _<_}
+use Prim.Native.Nat.{ℕ, suc, _-_, _≤_, _<_}
 use mathlib.Core.Path.{_≡_, refl, sym, ap, subst, _∙_}
 use mathlib.Core.Logic.{_⊎_, inl, inr, ⊎-elim}
 use mathlib.Core.Bool.{Bool, true, false, _&&_, _||_, not}
@@ -10,7 +10,7 @@ use borrow.Author.Tests.{ltb-true, eqb-true, eqb-false, lt-ltb, le-ltb}
 use Rattle.loops.specs.Count.{one}
 use Rattle.departures.specs.declared.DepartureRow.{DepartureRow}
 use Rattle.departures.specs.Departures.{sorted, frequencyListed, rowDeparture}
-use Rattle.model.specs.Tables.{never, Tables, Origin, Query, isEgress, egressWalk, stops, trips, stopCount, arrival, departure, noDropOff, noWindows, edgesFrom, edgeTo, walkTime, fifo}
+use Rattle.model.specs.Tables.{never, Tables, Origin, Query, isEgress, egressWalk, stops, trips, stopCount, departure, noDropOff, noWindows, edgesFrom, edgeTo, walkTime, fifo}
 use Rattle.model.specs.Search.{departuresAt, markAt, lineAt, delayOf, undelayed, skipped, prunable}
 use Rattle.model.specs.Door.{Door, InOrder, EgressRising}
 use Rattle.model.specs.Promise.{CalmDay, SteadyDay, effective}
