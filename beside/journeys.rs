@@ -99,7 +99,10 @@ fn day_of(r: &mut Random, day: Day) -> Case {
     };
     // further queries draw no delays of their own
     c.kind = kind;
-    rising_times(&mut c.e);
+    // a steady day's schedule may fall, where nobody rides or other times are given
+    if day != Day::Steady || r.yes(85) {
+        rising_times(&mut c.e);
+    }
     build_lines(&mut c.e);
     if day == Day::Plain {
         list_evenly(r, &mut c.e);
@@ -250,8 +253,9 @@ fn day_searches(r: &mut Random, t: &mut Tallies, day: Day) {
             (c.origins, c.q.wheelchair) = (origins, wheelchair);
         }
         delay(r, &mut c, day);
-        // at times nothing was there to break
-        if matches!(day, Day::Broken(_)) && !is_of(&c, day) {
+        // at times nothing was there to break, or rides are permitted whose times fall
+        let made = day == Day::Plain || day == Day::Steady && schedule_rises(&c.e);
+        if !made && !is_of(&c, day) {
             continue;
         }
         t.wrong += !(is_of(&c, day) && (k > 0 || calm(&c))) as u64;

@@ -1,6 +1,6 @@
 // Steady days: delays and skipped stops on which demand 3 still holds; and days on which one condition of theirs is broken, where it need not.
-// A steady day is calm, no effective times of a trip fall, no departure is further from its schedule than the cap, and no arrival depends on where
-// one boarded. The transfers and what is listed may be any.
+// A steady day is calm, and of the rides that tables and query permit no effective times fall, no departure is further from its schedule than the
+// cap, and no arrival depends on where one boarded. The transfers and what is listed may be any.
 
 const CAP: i32 = 21_600;
 
@@ -8,11 +8,11 @@ const CAP: i32 = 21_600;
 const BREAKS: [(&str, usize); 4] = [("a departure given", 2), ("an arrival given", 0), ("a delay past the cap", 1), ("a departure before 0", 2)];
 
 // what steady days must have met
-const STEADY: [&str; 17] = [
+const STEADY: [&str; 18] = [
     "no transfers", "hand-made transfers", "an unevenly listed line", "a departure at a last stop", "a line with and without delay rows",
     "an unknown trip past the cap", "the best total by a delayed trip", "a late trip", "an early trip", "a delay row of 0", "a delay of 21,600",
     "a delay of -21,600", "a skipped stop", "a trip that leaves at 0", "a departure given", "an arrival given",
-    "the best total by a trip with times given",
+    "the best total by a trip with times given", "scheduled times that fall",
 ];
 
 // TABLES
@@ -129,7 +129,7 @@ fn far_off(r: &mut Random, c: &mut Case, broken: Option<usize>) -> i32 {
     }
 }
 
-// as scheduled, and the earliest of the trip, as its times rise
+// as scheduled, and the earliest of the trip where its times rise
 fn first_departure(c: &Case, t: u32) -> i32 {
     stop_time_of(&c.e, t, 0).departure_s as i32
 }
@@ -164,13 +164,13 @@ fn give_steadily(r: &mut Random, c: &mut Case) {
         }
         let kept = c.stop_rows.clone();
         give_from(r, c, row);
-        if !(rises(c, c.delays[row].0) && within_cap(c, c.delays[row].0) && one_arrival(c, c.delays[row].0)) {
+        if conditions_of(c, c.delays[row].0) != [true; 3] {
             c.stop_rows = kept;
         }
     }
 }
 
-// both times at each stop from one on, near the trip's delay and not before the stop before it; or one arrival alone
+// times at each stop from one on, near the trip's delay and not before the stop before it; at times one time alone, and none where a stop is skipped
 fn give_from(r: &mut Random, c: &mut Case, row: usize) {
     let (t, delay) = c.delays[row];
     let len = c.e.trips[t as usize].stop_time_len;
@@ -178,13 +178,17 @@ fn give_from(r: &mut Random, c: &mut Case, row: usize) {
     let alone = r.yes(25);
     let mut last = if from > 0 { departs(c, t, from - 1) as i64 } else { 0 };
     for o in from..if alone { from + 1 } else { len } {
+        if !served(c, t, o) && r.yes(60) {
+            continue;
+        }
         let s = stop_time_of(&c.e, t, o);
         let (sequence, arrival, departure) = (s.stop_sequence, s.arrival_s as i64, s.departure_s as i64);
         let near = delay as i64 - 40 + 10 * r.below(12) as i64;
         let arrives = (arrival + near).max(last);
         let departs = (departure + near + 10 * r.below(3) as i64).max(arrives);
         last = departs;
-        put_stop_row(c, [row as u32, sequence, if alone { 2 } else { 3 }, (departs - departure) as u32, (arrives - arrival) as u32]);
+        let flags = if alone || o + 1 == len && r.yes(50) { 2 } else if o == 0 && r.yes(50) { 1 } else { 3 };
+        put_stop_row(c, [row as u32, sequence, flags, (departs - departure) as u32, (arrives - arrival) as u32]);
     }
 }
 
@@ -277,18 +281,22 @@ fn before_0(r: &mut Random, c: &mut Case) {
 
 // IS IT SUCH A DAY?
 
-// the calm part of the tables: as built, no windows, no scheduled time falls, walks complete
+// the calm part of the tables: as built, no windows, walks complete
 fn calm(c: &Case) -> bool {
     let mut e = c.e.clone();
     build_departures(&mut e);
     build_lines(&mut e);
     let built = |e: &StaticEpoch| (e.stop_departures.clone(), e.stop_has_freq.clone(), e.line_trips.clone(), e.line_of_trip.clone());
-    let rises = |t: &GlobalTrip| {
+    built(&e) == built(&c.e) && e.trips.iter().all(|t| t.frequency_windows.is_empty()) && walks_complete(c)
+}
+
+// no scheduled times fall
+fn schedule_rises(e: &StaticEpoch) -> bool {
+    e.trips.iter().all(|t| {
         let of_trip = &e.stop_times[t.stop_time_start as usize..(t.stop_time_start + t.stop_time_len) as usize];
         let times: Vec<u32> = of_trip.iter().flat_map(|s| [s.arrival_s, s.departure_s]).collect();
         times.windows(2).all(|p| p[0] <= p[1])
-    };
-    built(&e) == built(&c.e) && e.trips.iter().all(|t| t.frequency_windows.is_empty() && rises(t)) && walks_complete(c)
+    })
 }
 
 // two edges, and an origin and an edge, have an edge and an origin no longer, save from a stop back to it
@@ -301,37 +309,58 @@ fn walks_complete(c: &Case) -> bool {
         && c.origins.iter().all(|o| after(o.stop_idx).all(|f| c.origins.iter().any(|p| p.stop_idx == f.1 && p.duration_s <= o.duration_s + f.2)))
 }
 
-// no effective time of a trip falls
-fn rises(c: &Case, t: u32) -> bool {
-    let times: Vec<u32> = (0..c.e.trips[t as usize].stop_time_len).flat_map(|o| [arrives(c, t, o), departs(c, t, o)]).collect();
-    times.windows(2).all(|p| p[0] <= p[1])
+// where a trip may be boarded, and where one who boarded it at offset o may leave it
+fn boarded_at(c: &Case, t: u32) -> Vec<u32> {
+    let listed = |o: u32, x: u32| c.e.stop_departures[x as usize].contains(&(t, o));
+    let may = |o: &u32| stop_time_of(&c.e, t, *o).pickup_type != 1 && served(c, t, *o) && listed(*o, stop_time_of(&c.e, t, *o).stop_idx);
+    if permitted(c, t) { (0..c.e.trips[t as usize].stop_time_len).filter(may).collect() } else { vec![] }
 }
 
-// no departure of a trip is further from its schedule than the cap
-fn within_cap(c: &Case, t: u32) -> bool {
-    (0..c.e.trips[t as usize].stop_time_len).all(|o| departs(c, t, o).abs_diff(stop_time_of(&c.e, t, o).departure_s) <= 21_600)
+fn left_at(c: &Case, t: u32, o: u32) -> Vec<u32> {
+    let may = |p: &u32| stop_time_of(&c.e, t, *p).drop_off_type != 1 && served(c, t, *p);
+    (o + 1..c.e.trips[t as usize].stop_time_len).filter(may).collect()
 }
 
-// wherever a trip is boarded, it arrives at its effective times: where no time is given, the arrival is moved as far as the departure boarded was
-fn one_arrival(c: &Case, t: u32) -> bool {
+// no effective times fall: from departure to arrival, from arrival to arrival, from departure to departure
+fn rises(c: &Case, t: u32, boarded: &[u32]) -> bool {
+    let ride = |o: u32| {
+        let times: Vec<u32> = std::iter::once(departs(c, t, o)).chain(left_at(c, t, o).into_iter().map(|p| arrives(c, t, p))).collect();
+        times.windows(2).all(|w| w[0] <= w[1])
+    };
+    boarded.iter().all(|o| ride(*o)) && boarded.windows(2).all(|w| departs(c, t, w[0]) <= departs(c, t, w[1]))
+}
+
+// no departure is further from its schedule than the cap
+fn within_cap(c: &Case, t: u32, boarded: &[u32]) -> bool {
+    boarded.iter().all(|o| departs(c, t, *o).abs_diff(stop_time_of(&c.e, t, *o).departure_s) <= 21_600)
+}
+
+// wherever it is boarded, the trip arrives at its effective times: where no time is given, the arrival is moved as far as the departure boarded was
+fn one_arrival(c: &Case, t: u32, boarded: &[u32]) -> bool {
     let shift = |o: u32| departs(c, t, o) as i64 - stop_time_of(&c.e, t, o).departure_s as i64;
     let given = |p: u32| stop_row(c, t, p).is_some_and(|s| s[2] & 3 != 0);
-    let same = |o: u32, p: u32| (stop_time_of(&c.e, t, p).arrival_s as i64 + shift(o)).max(0) == arrives(c, t, p) as i64;
-    (1..c.e.trips[t as usize].stop_time_len).all(|p| given(p) || (0..p).all(|o| same(o, p)))
+    let same = |o: u32, p: u32| given(p) || (stop_time_of(&c.e, t, p).arrival_s as i64 + shift(o)).max(0) == arrives(c, t, p) as i64;
+    boarded.iter().all(|o| left_at(c, t, *o).into_iter().all(|p| same(*o, p)))
 }
 
-// the conditions of a steady day
+// the conditions of a steady day, of one trip and of all
+fn conditions_of(c: &Case, t: u32) -> [bool; 3] {
+    let boarded = boarded_at(c, t);
+    [rises(c, t, &boarded), within_cap(c, t, &boarded), one_arrival(c, t, &boarded)]
+}
+
 fn conditions(c: &Case) -> [bool; 3] {
-    [rises, within_cap, one_arrival].map(|holds| (0..c.e.trips.len() as u32).all(|t| holds(c, t)))
+    let all = (0..c.e.trips.len() as u32).map(|t| conditions_of(c, t));
+    all.fold([true; 3], |a, b| [a[0] && b[0], a[1] && b[1], a[2] && b[2]])
 }
 
-// delays of whole trips: of trips in the table no time is given, no delay is past the cap, no departure is put before 0
+// delays of whole trips: no scheduled times fall; of trips in the table no time is given, no delay is past the cap, no departure is put before 0
 fn trip_delays(c: &Case) -> bool {
     let known: Vec<&(u32, i32)> = c.delays.iter().filter(|d| (d.0 as usize) < c.e.trips.len()).collect();
     let given = c.stop_rows.iter().any(|s| s[2] & 3 != 0 && (c.delays[s[0] as usize].0 as usize) < c.e.trips.len());
     let put = |t: u32, o: u32, delay: i32| stop_time_of(&c.e, t, o).departure_s as i64 + delay as i64;
     let after_0 = |d: &&(u32, i32)| (0..c.e.trips[d.0 as usize].stop_time_len).all(|o| put(d.0, o, d.1) >= 0);
-    !given && known.iter().all(|d| d.1.unsigned_abs() <= 21_600) && known.iter().all(after_0)
+    schedule_rises(&c.e) && !given && known.iter().all(|d| d.1.unsigned_abs() <= 21_600) && known.iter().all(after_0)
 }
 
 // flags not in use; and no delay row, all conditions, or all but the one broken; delays of whole trips break none
@@ -341,7 +370,7 @@ fn is_of(c: &Case, day: Day) -> bool {
         return false;
     }
     match day {
-        Day::Plain => c.delays.is_empty(),
+        Day::Plain => c.delays.is_empty() && schedule_rises(&c.e),
         Day::Steady => kept == [true; 3],
         Day::Broken(k) => kept.iter().enumerate().all(|(i, kept)| *kept == (i != BREAKS[k].1)),
     }
@@ -363,7 +392,7 @@ fn best_by(c: &Case, reply: &Reply, labels: &[u32], trip: impl Fn(u32) -> bool) 
 }
 
 // of STEADY, which it has
-fn steady_met(c: &Case, reply: &Reply, labels: &[u32]) -> [bool; 17] {
+fn steady_met(c: &Case, reply: &Reply, labels: &[u32]) -> [bool; 18] {
     let transfers = || c.e.trip_transfers.iter().flatten().flatten();
     let last = c.e.stop_departures.iter().flatten().any(|d| d.1 + 1 == c.e.trips[d.0 as usize].stop_time_len);
     let has_row = |t: &u32| delay_row(c, *t).is_some();
@@ -380,5 +409,6 @@ fn steady_met(c: &Case, reply: &Reply, labels: &[u32]) -> [bool; 17] {
         some(|d| d > 0), some(|d| d < 0), some(|d| d == 0), some(|d| d == CAP), some(|d| d == -CAP), event(|c, t, o| !served(c, t, o)),
         event(|c, t, o| departs(c, t, o) == 0), event(|c, t, o| stop_row(c, t, o).is_some_and(|s| s[2] & 1 != 0)),
         event(|c, t, o| stop_row(c, t, o).is_some_and(|s| s[2] & 2 != 0)), best_by(c, reply, labels, |t| given(t, 3)),
+        !schedule_rises(&c.e),
     ]
 }

@@ -320,7 +320,9 @@ SavoikyReply savoiky_run_tbr(SavoikyQuerySizes sizes, const uint32_t *tables, si
     double *label_distances, size_t label_distances_len, uint32_t *work, size_t work_len, uint32_t *queue_a, size_t queue_a_len,
     uint32_t *queue_b, size_t queue_b_len, uint32_t *candidates, size_t candidates_len);
 
-/* What a board asks: run_tbr with arc flags put off where they would skip nothing. On a plain day no journey beats its answer. */
+/* What a board asks: run_tbr with arc flags put off where they would skip nothing. On a plain day no journey beats its answer; on a steady day,
+ * which has delays (docs/PROMISE.md), none does by effective times.
+ */
 SavoikyReply savoiky_query(SavoikyQuerySizes sizes, const uint32_t *tables, size_t tables_len, const uint32_t *built,
     size_t built_len, const uint32_t *transfers, size_t transfers_len, const uint8_t *patterns, size_t patterns_len,
     const double *distances, size_t distances_len, const uint32_t *query, size_t query_len, uint32_t *labels, size_t labels_len,

@@ -200,7 +200,8 @@ impl Workspace {
 }
 
 impl Tables {
-    /// Answers a guest's question. On a plain day no journey beats it. Refused by 1 to 6 and 8.
+    /// Answers a guest's question. On a plain day no journey beats it; on a steady day, which has delays (docs/PROMISE.md), none does by
+    /// effective times. Refused by 1 to 6 and 8.
     pub fn query(&self, query: &Query, workspace: &mut Workspace) -> Result<Answer, Refusal> {
         self.ask(Call::Query, query, workspace)
     }

@@ -29,7 +29,7 @@ use Rattle.line_transfers.specs.Transfers.{Transfer, builtTransfers}
 use Rattle.model.specs.Tables.{never, Tables, Origin, Query, stops, trips, stopCount, stopAt, arrival, departure, noPickup, noWindows, edgesFrom, edgeTo, walkTime}
 use Rattle.model.specs.Search.{flagsInUse}
 use Rattle.model.specs.Door.{Door, InOrder, EgressRising}
-use Rattle.model.specs.Promise.{transferInput, TripTimes, scheduled, effective, NoTimesFall, CalmDay, PlainDay, arrivesFrom, SteadyDay, TripDelays}
+use Rattle.model.specs.Promise.{transferInput, NoTimesFall, CalmDay, PlainDay, Boarding, effective, arrivesFrom, SteadyDay, TripDelays}
 use Rattle.days.specs.K.{built, bare}
 
 -- all tests of a list pass
@@ -280,21 +280,21 @@ second-of : (x y : Bool) → x || y ≡ true → x ≡ false → y ≡ true
 second-of true y e h = absurd (clash refl h)
 second-of false y e h = e
 
--- no trip's times fall
-module _ (T : Tables) (W : TripTimes) where
+-- no trip's scheduled times fall
+module _ (T : Tables) where
   abbrev pub waitTest : Bool
-  waitTest = everyIn (λ t. everyIn (λ o. leb (W .arrives t o) (W .departs t o)) 0 (stopCount T t)) 0 (trips T)
+  waitTest = everyIn (λ t. everyIn (λ o. leb (arrival T t o) (departure T t o)) 0 (stopCount T t)) 0 (trips T)
 
   abbrev pub rideTest : Bool
-  rideTest = everyIn (λ t. everyIn (λ o. leb (W .departs t o) (W .arrives t (suc o))) 0 (stopCount T t - 1)) 0 (trips T)
+  rideTest = everyIn (λ t. everyIn (λ o. leb (departure T t o) (arrival T t (suc o))) 0 (stopCount T t - 1)) 0 (trips T)
 
-  pub no-times-fall : waitTest ≡ true → rideTest ≡ true → NoTimesFall T W
+  pub no-times-fall : waitTest ≡ true → rideTest ≡ true → NoTimesFall T
   no-times-fall e f =
       record {
-        waits = λ t o h l. leb-true _ _ (everyIn-at (λ o. leb (W .arrives t o) (W .departs t o)) (stopCount T t) o
-            (everyIn-at (λ t. everyIn (λ o. leb (W .arrives t o) (W .departs t o)) 0 (stopCount T t)) (trips T) t e h) l);
-        rides = λ t o h l. leb-true _ _ (everyIn-at (λ o. leb (W .departs t o) (W .arrives t (suc o))) (stopCount T t - 1) o
-            (everyIn-at (λ t. everyIn (λ o. leb (W .departs t o) (W .arrives t (suc o))) 0 (stopCount T t - 1)) (trips T) t f h) (omega arith));
+        waits = λ t o h l. leb-true _ _ (everyIn-at (λ o. leb (arrival T t o) (departure T t o)) (stopCount T t) o
+            (everyIn-at (λ t. everyIn (λ o. leb (arrival T t o) (departure T t o)) 0 (stopCount T t)) (trips T) t e h) l);
+        rides = λ t o h l. leb-true _ _ (everyIn-at (λ o. leb (departure T t o) (arrival T t (suc o))) (stopCount T t - 1) o
+            (everyIn-at (λ t. everyIn (λ o. leb (departure T t o) (arrival T t (suc o))) 0 (stopCount T t - 1)) (trips T) t f h) (omega arith));
       }
 
 -- PLAIN DAY, tested
@@ -345,25 +345,43 @@ module _ (T : Tables) (Q : Query) where
 
   abbrev pub plainTests : List Bool
   plainTests =
-      allOf calmTests ∷ eqb (Q .delays .delays) 0 ∷ waitTest T (scheduled T) ∷ rideTest T (scheduled T)
+      allOf calmTests ∷ eqb (Q .delays .delays) 0 ∷ waitTest T ∷ rideTest T
       ∷ everyIn (λ s. allIn (λ d. everyIn (λ u. evenTest s d u) 0 (trips T)) (T .departures s)) 0 (stops T) ∷ []
 
-  -- a departure and the cap; an arrival, wherever boarded
-  abbrev lateTest : ℕ → ℕ → Bool
-  lateTest t o = leb (effective T Q .departs t o) (departure T t o + Q .settings .marginCap)
+  -- at each stop that a trip serves; at each two of them
+  abbrev atStop : (ℕ → ℕ → Bool) → ℕ → ℕ → Bool
+  atStop f t o = not (effective T Q .served t o) || f t o
 
-  abbrev earlyTest : ℕ → ℕ → Bool
-  earlyTest t o = leb (departure T t o) (effective T Q .departs t o + Q .settings .marginCap)
+  abbrev fromStop : (ℕ → ℕ → ℕ → Bool) → ℕ → ℕ → ℕ → Bool
+  fromStop f t p o = not (effective T Q .served t o) || (not (effective T Q .served t p) || f t o p)
 
-  abbrev oneTest : ℕ → ℕ → ℕ → Bool
-  oneTest t p o = eqb (arrivesFrom T Q t o p) (effective T Q .arrives t p)
+  abbrev stopsTest : (ℕ → ℕ → Bool) → Bool
+  stopsTest f = everyIn (λ t. everyIn (atStop f t) 0 (stopCount T t)) 0 (trips T)
+
+  abbrev betweenTest : (ℕ → ℕ → ℕ → Bool) → Bool
+  betweenTest f = everyIn (λ t. everyIn (λ p. everyIn (fromStop f t p) 0 p) 0 (stopCount T t)) 0 (trips T)
+
+  -- a steady day's conditions, of each trip in the table, listed and permitted or not
+  abbrev rises : ℕ → ℕ → ℕ → Bool
+  rises t o p = leb (effective T Q .departs t o) (effective T Q .arrives t p)
+
+  abbrev arrivalsRise : ℕ → ℕ → ℕ → Bool
+  arrivalsRise t o p = eqb o 0 || leb (effective T Q .arrives t o) (effective T Q .arrives t p)
+
+  abbrev departuresRise : ℕ → ℕ → ℕ → Bool
+  departuresRise t o p = leb (effective T Q .departs t o) (effective T Q .departs t p)
+
+  abbrev notLate : ℕ → ℕ → Bool
+  notLate t o = leb (effective T Q .departs t o) (departure T t o + Q .settings .marginCap)
+
+  abbrev notEarly : ℕ → ℕ → Bool
+  notEarly t o = leb (departure T t o) (effective T Q .departs t o + Q .settings .marginCap)
+
+  abbrev oneArrival : ℕ → ℕ → ℕ → Bool
+  oneArrival t o p = eqb (arrivesFrom T Q t o p) (effective T Q .arrives t p)
 
   abbrev pub steadyTests : List Bool
-  steadyTests =
-      allOf calmTests ∷ waitTest T (effective T Q) ∷ rideTest T (effective T Q)
-      ∷ everyIn (λ t. everyIn (λ o. lateTest t o) 0 (stopCount T t)) 0 (trips T)
-      ∷ everyIn (λ t. everyIn (λ o. earlyTest t o) 0 (stopCount T t)) 0 (trips T)
-      ∷ everyIn (λ t. everyIn (λ p. everyIn (λ o. oneTest t p o) 0 p) 0 (stopCount T t)) 0 (trips T) ∷ []
+  steadyTests = allOf calmTests ∷ betweenTest rises ∷ betweenTest arrivalsRise ∷ betweenTest departuresRise ∷ stopsTest notLate ∷ stopsTest notEarly ∷ betweenTest oneArrival ∷ []
 
   -- of a trip in the table: a stop row; a delay row's size, and each departure
   abbrev skipTest : ℕ → Bool
@@ -465,24 +483,40 @@ plain-when T Q calm transfers e =
       calm = calm (passed (plainTests T Q) e 0);
       transfers-built = transfers;
       no-delays = eqb-true _ _ (passed (plainTests T Q) e 1);
-      no-times-fall = no-times-fall T (scheduled T) (passed (plainTests T Q) e 2) (passed (plainTests T Q) e 3);
+      no-times-fall = no-times-fall T (passed (plainTests T Q) e 2) (passed (plainTests T Q) e 3);
       evenly-listed = evenly T Q e;
     }
 
 -- and with its own a steady one
-pub steady-when : (T : Tables) (Q : Query) → (allOf (calmTests T Q) ≡ true → CalmDay T Q) → allOf (steadyTests T Q) ≡ true → SteadyDay T Q
-steady-when T Q calm e =
-    record {
-      calm = calm (passed (steadyTests T Q) e 0);
-      no-times-fall = no-times-fall T (effective T Q) (passed (steadyTests T Q) e 1) (passed (steadyTests T Q) e 2);
-      not-late = λ t o u n. leb-true _ _ (everyIn-at (λ o. lateTest T Q t o) (stopCount T t) o
-          (everyIn-at (λ t. everyIn (λ o. lateTest T Q t o) 0 (stopCount T t)) (trips T) t (passed (steadyTests T Q) e 3) u) n);
-      not-early = λ t o u n. leb-true _ _ (everyIn-at (λ o. earlyTest T Q t o) (stopCount T t) o
-          (everyIn-at (λ t. everyIn (λ o. earlyTest T Q t o) 0 (stopCount T t)) (trips T) t (passed (steadyTests T Q) e 4) u) n);
-      one-arrival = λ t o p u l n. eqb-true _ _ (everyIn-at (λ o. oneTest T Q t p o) p o
-          (everyIn-at (λ p. everyIn (λ o. oneTest T Q t p o) 0 p) (stopCount T t) p
-          (everyIn-at (λ t. everyIn (λ p. everyIn (λ o. oneTest T Q t p o) 0 p) 0 (stopCount T t)) (trips T) t (passed (steadyTests T Q) e 5) u) n) l);
-    }
+module _ (T : Tables) (Q : Query) (D : Door T Q) where
+  at-stop : (f : ℕ → ℕ → Bool) → stopsTest T Q f ≡ true → (x t o : ℕ) → x < stops T → Boarding T Q (effective T Q) x t o → f t o ≡ true
+  at-stop f e x t o h b =
+      first-or (effective T Q .served t o) (f t o)
+      (everyIn-at (atStop T Q f t) (stopCount T t) o (everyIn-at (λ t. everyIn (atStop T Q f t) 0 (stopCount T t)) (trips T) t e (D .listed-trip x _ h (b .listed))) (D .listed-offset x _ h (b .listed)))
+      (b .served)
+
+  between-stops : (f : ℕ → ℕ → ℕ → Bool) → betweenTest T Q f ≡ true → (t o p : ℕ) → t < trips T → o < p → p < stopCount T t
+      → effective T Q .served t o ≡ true → effective T Q .served t p ≡ true → f t o p ≡ true
+  between-stops f e t o p u l n a b =
+      first-or (effective T Q .served t p) (f t o p)
+      (first-or (effective T Q .served t o) _
+      (everyIn-at (fromStop T Q f t p) p o
+      (everyIn-at (λ p. everyIn (fromStop T Q f t p) 0 p) (stopCount T t) p (everyIn-at (λ t. everyIn (λ p. everyIn (fromStop T Q f t p) 0 p) 0 (stopCount T t)) (trips T) t e u) n) l) a)
+      b
+
+  pub steady-when : (allOf (calmTests T Q) ≡ true → CalmDay T Q) → allOf (steadyTests T Q) ≡ true → SteadyDay T Q
+  steady-when calm e =
+      record {
+        calm = calm (passed (steadyTests T Q) e 0);
+        rides = λ x t o p h b a. leb-true _ _ (between-stops (rises T Q) (passed (steadyTests T Q) e 1) t o p (D .listed-trip x _ h (b .listed)) (a .later) (a .inside) (b .served) (a .served));
+        arrivals = λ x t o p q h b a c l. leb-true _ _ (second-of (eqb p 0) _
+            (between-stops (arrivalsRise T Q) (passed (steadyTests T Q) e 2) t p q (D .listed-trip x _ h (b .listed)) l (c .inside) (a .served) (c .served))
+            (ne-eqb p 0 (λ z. omega (arith, z, a .later))));
+        departures = λ x y t o p h i b c l. leb-true _ _ (between-stops (departuresRise T Q) (passed (steadyTests T Q) e 3) t o p (D .listed-trip x _ h (b .listed)) l (D .listed-offset y _ i (c .listed)) (b .served) (c .served));
+        not-late = λ x t o h b. leb-true _ _ (at-stop (notLate T Q) (passed (steadyTests T Q) e 4) x t o h b);
+        not-early = λ x t o h b. leb-true _ _ (at-stop (notEarly T Q) (passed (steadyTests T Q) e 5) x t o h b);
+        one-arrival = λ x t o p h b a. eqb-true _ _ (between-stops (oneArrival T Q) (passed (steadyTests T Q) e 6) t o p (D .listed-trip x _ h (b .listed)) (a .later) (a .inside) (b .served) (a .served));
+      }
 
 pub trip-delays-when : (T : Tables) (Q : Query) → allOf (tripDelayTests T Q) ≡ true → TripDelays T Q
 trip-delays-when T Q e =
@@ -504,5 +538,5 @@ plain-holds X listed patterns Q =
 pub calm-bare : (X : Timetable) (listed : ℕ → List DepartureRow) (Q : Query) → allOf (calmTests (bare X listed) Q) ≡ true → CalmDay (bare X listed) Q
 calm-bare X listed Q = calm-when (bare X listed) Q listed (λ s h. refl) (λ s h. refl) refl (λ t h. refl) (record { count = λ l h. refl; trip = λ l p h i. refl })
 
-pub steady-holds : (X : Timetable) (listed : ℕ → List DepartureRow) (Q : Query) → allOf (steadyTests (bare X listed) Q) ≡ true → SteadyDay (bare X listed) Q
-steady-holds X listed Q = steady-when (bare X listed) Q (calm-bare X listed Q)
+pub steady-holds : (X : Timetable) (listed : ℕ → List DepartureRow) (Q : Query) → Door (bare X listed) Q → allOf (steadyTests (bare X listed) Q) ≡ true → SteadyDay (bare X listed) Q
+steady-holds X listed Q D = steady-when (bare X listed) Q D (calm-bare X listed Q)

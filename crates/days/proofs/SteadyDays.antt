@@ -16,13 +16,13 @@ use Rattle.line_numbers.specs.Lines.{lineOf, same, leadOf, isLead, lineTrips}
 use Rattle.line_layout.specs.Layout.{fifoLine, inOrder, neighbours, lastIn, positionIn}
 use Rattle.departures.specs.Departures.{frequencyListed}
 use Rattle.delay_tables.specs.Delays.{DelayTables}
-use Rattle.model.specs.Tables.{Tables, Query, changeBefore, isEgress, egressWalk, edgesFrom, fifo, modeWanted, usable, permitted}
+use Rattle.model.specs.Tables.{never, Tables, Query, changeBefore, isEgress, egressWalk, edgesFrom, fifo, modeWanted, usable, permitted}
 use Rattle.model.specs.Search.{targetsFrom, targetCells, holdsTarget, useArcFlags, someTransfer, skipsEdge, skipsTransfer, flagsInUse, departuresAt, markAt, lineAt, notBefore, boardAt, bestAfter, improve, relax, alightings, scanTripForward, dominated, pruned, passedOver, boarding, board, scanDepartures, scanStops, walkFrom, walkAll, ridePhase, stamped, walkPhase, idle, rounds, setOut, access, bestTarget, rowTarget, candidatesFrom, final, answer, query}
 use Rattle.model.specs.Door.{Door}
-use Rattle.model.specs.Promise.{scheduled, effective, SteadyDay, TripDelays, Journey, WholeJourney, Demand3}
+use Rattle.model.specs.Promise.{effective, SteadyDay, TripDelays, Journey, WholeJourney, Demand3}
 use Rattle.model.proofs.TripDelays.{trip-delays-steady}
 use Rattle.model.proofs.Demand3.{steady}
-use Rattle.days.specs.K.{timetableK, unevenK, bareK, asks, delaysOf, steadyDelays, givenDelays, onDay, origin, oneTrip, toStop2}
+use Rattle.days.specs.K.{timetableK, unevenK, bareK, asks, delaysOf, steadyDelays, givenDelays, onDay, origin, oneTrip, fourStops, toStop2}
 use Rattle.days.proofs.DayTests.{allOf, passed, allIn, anyIn, sortedTest, risingTest, doorTests, calmTests, waitTest, rideTest, steadyTests, tripDelayTests, door-holds, no-times-fall, calm-bare, steady-holds, trip-delays-when}
 
 -- THE STEADY DAYS: whole trips delayed, a stop skipped; times given as well
@@ -32,9 +32,8 @@ tripDay = onDay 90 120 steadyDelays
 abbrev pub givenDay : Query
 givenDay = onDay 90 120 givenDelays
 
--- WITHOUT ONE CONDITION, a trip that a walk to stop 2 takes one second longer than, or that the search has one second late. (4294945695 and
--- 4294967195 are the bits of -21601 and -101.)
--- The trip is 21,601 late, one second past the cap; from 21,701 the search looks back 21,600 seconds, and the trip is listed at 100
+-- WITHOUT ONE CONDITION, missed by one second, the search answers later than a trip arrives, or finds no way. (4294945695 and 4294967195 are the
+-- bits of -21601 and -101.) Here the trip is 21,601 late; from 21,701 on the search looks back 21,600 seconds, and the trip is listed at 100
 abbrev pub lateDay : Query
 lateDay = toStop2 21691 10 11 (delaysOf ((0, 21601) ∷ []) [])
 
@@ -42,17 +41,23 @@ lateDay = toStop2 21691 10 11 (delaysOf ((0, 21601) ∷ []) [])
 abbrev pub earlyDay : Query
 earlyDay = toStop2 90 10 11 (delaysOf ((0, 4294945695) ∷ []) [])
 
--- the trip arrives at stop 1 one second after it leaves there: the search, with a total of 101, leaves it at stop 1
-abbrev pub waitDay : Query
-waitDay = toStop2 90 10 11 (delaysOf ((0, 0) ∷ []) ((0, 1, 2, 0, 1) ∷ []))
-
--- it leaves stop 0 one second after it arrives at stop 1: too late to be boarded with a total of 101
+-- the trip leaves stop 0 one second after it arrives at stops 1 and 2: too late to be boarded with a total of 101
 abbrev pub rideDay : Query
-rideDay = toStop2 90 10 11 (delaysOf ((0, 0) ∷ []) ((0, 0, 1, 1, 0) ∷ (0, 1, 2, 0, 0) ∷ (0, 2, 2, 0, 0) ∷ []))
+rideDay = toStop2 90 10 11 (delaysOf ((0, 0) ∷ []) ((0, 0, 1, 1, 0) ∷ (0, 1, 3, 1, 0) ∷ (0, 2, 3, 1, 0) ∷ []))
+
+-- it arrives at stop 1 one second after it does at stop 2: the search, with a total of 101, leaves it at stop 1
+abbrev pub arrivalDay : Query
+arrivalDay = toStop2 90 10 11 (delaysOf ((0, 0) ∷ []) ((0, 1, 2, 0, 1) ∷ []))
+
+-- it leaves stop 0 one second after it does stop 2, where it is boarded first: for the ride to stop 1 it is passed over
+abbrev pub departureDay : Query
+departureDay =
+    asks 90 (origin 2 10 ∷ origin 0 10 ∷ []) ((1, 0) ∷ []) false 120
+    (delaysOf ((0, 0) ∷ []) ((0, 0, 1, 1, 0) ∷ (0, 1, 3, 1, 1) ∷ (0, 2, 3, 0, 1) ∷ (0, 3, 3, 1, 1) ∷ [])) false
 
 -- it leaves stop 0 one second late, and is on time at stop 2: one who boarded at stop 0 is taken to arrive one second late
-abbrev pub departureDay : Query
-departureDay = toStop2 90 10 1000 (delaysOf ((0, 0) ∷ []) ((0, 0, 1, 1, 0) ∷ []))
+abbrev pub shiftDay : Query
+shiftDay = toStop2 90 10 1000 (delaysOf ((0, 0) ∷ []) ((0, 0, 1, 1, 0) ∷ []))
 
 -- it is 101 early, but leaves stop 0 at 0, not one second before; one who boarded there is taken to arrive one second late
 abbrev pub zeroDay : Query
@@ -61,10 +66,15 @@ zeroDay = toStop2 0 0 1000 (delaysOf ((0, 4294967195) ∷ []) [])
 -- each passes the door's tests
 abbrev pub doorsPass : List Bool
 doorsPass =
-    allOf (doorTests bareK tripDay) ∷ allOf (doorTests bareK givenDay)
-    ∷ allOf (doorTests (oneTrip 100 100 100) lateDay) ∷ allOf (doorTests (oneTrip 21701 21701 21701) earlyDay)
-    ∷ allOf (doorTests (oneTrip 100 100 100) waitDay) ∷ allOf (doorTests (oneTrip 100 100 100) rideDay)
-    ∷ allOf (doorTests (oneTrip 100 200 300) departureDay) ∷ allOf (doorTests (oneTrip 100 200 300) zeroDay) ∷ []
+    allOf (doorTests bareK tripDay)
+    ∷ allOf (doorTests bareK givenDay)
+    ∷ allOf (doorTests (oneTrip 100 100 100) rideDay)
+    ∷ allOf (doorTests (oneTrip 100 100 100) arrivalDay)
+    ∷ allOf (doorTests fourStops departureDay)
+    ∷ allOf (doorTests (oneTrip 100 100 100) lateDay)
+    ∷ allOf (doorTests (oneTrip 21701 21701 21701) earlyDay)
+    ∷ allOf (doorTests (oneTrip 100 200 300) shiftDay)
+    ∷ allOf (doorTests (oneTrip 100 200 300) zeroDay) ∷ []
 
 pub days-pass : allOf doorsPass ≡ true
 unfolding allOf allIn anyIn sortedTest risingTest effectiveDuration edgesFrom targetsFrom targetCells holdsTarget useArcFlags someTransfer skipsEdge skipsTransfer flagsInUse frequencyListed same leadOf isLead lineOf lineTrips iter every first some count tabFrom insertBy sortBy keep flatten
@@ -72,20 +82,21 @@ days-pass = refl
 
 -- and of a steady day's tests all, or all but one
 pub record Tested : Type 0 where
-  pub trip : steadyTests bareK tripDay ≡ true ∷ true ∷ true ∷ true ∷ true ∷ true ∷ []
-  pub given : steadyTests bareK givenDay ≡ true ∷ true ∷ true ∷ true ∷ true ∷ true ∷ []
-  pub wait : steadyTests (oneTrip 100 100 100) waitDay ≡ true ∷ false ∷ true ∷ true ∷ true ∷ true ∷ []
-  pub ride : steadyTests (oneTrip 100 100 100) rideDay ≡ true ∷ true ∷ false ∷ true ∷ true ∷ true ∷ []
-  pub late : steadyTests (oneTrip 100 100 100) lateDay ≡ true ∷ true ∷ true ∷ false ∷ true ∷ true ∷ []
-  pub early : steadyTests (oneTrip 21701 21701 21701) earlyDay ≡ true ∷ true ∷ true ∷ true ∷ false ∷ true ∷ []
-  pub departure : steadyTests (oneTrip 100 200 300) departureDay ≡ true ∷ true ∷ true ∷ true ∷ true ∷ false ∷ []
-  pub zero : steadyTests (oneTrip 100 200 300) zeroDay ≡ true ∷ true ∷ true ∷ true ∷ true ∷ false ∷ []
+  pub trip : steadyTests bareK tripDay ≡ true ∷ true ∷ true ∷ true ∷ true ∷ true ∷ true ∷ []
+  pub given : steadyTests bareK givenDay ≡ true ∷ true ∷ true ∷ true ∷ true ∷ true ∷ true ∷ []
+  pub rides : steadyTests (oneTrip 100 100 100) rideDay ≡ true ∷ false ∷ true ∷ true ∷ true ∷ true ∷ true ∷ []
+  pub arrivals : steadyTests (oneTrip 100 100 100) arrivalDay ≡ true ∷ true ∷ false ∷ true ∷ true ∷ true ∷ true ∷ []
+  pub departures : steadyTests fourStops departureDay ≡ true ∷ true ∷ true ∷ false ∷ true ∷ true ∷ true ∷ []
+  pub notLate : steadyTests (oneTrip 100 100 100) lateDay ≡ true ∷ true ∷ true ∷ true ∷ false ∷ true ∷ true ∷ []
+  pub notEarly : steadyTests (oneTrip 21701 21701 21701) earlyDay ≡ true ∷ true ∷ true ∷ true ∷ true ∷ false ∷ true ∷ []
+  pub shift : steadyTests (oneTrip 100 200 300) shiftDay ≡ true ∷ true ∷ true ∷ true ∷ true ∷ true ∷ false ∷ []
+  pub zero : steadyTests (oneTrip 100 200 300) zeroDay ≡ true ∷ true ∷ true ∷ true ∷ true ∷ true ∷ false ∷ []
   -- of those for delays of whole trips: all; not all
   pub tripDelays : tripDelayTests bareK tripDay ≡ true ∷ true ∷ true ∷ []
   pub notTripDelays : tripDelayTests bareK givenDay ≡ false ∷ true ∷ true ∷ []
   pub calm : calmTests bareK tripDay ≡ true ∷ true ∷ true ∷ true ∷ []
-  pub waits : waitTest bareK (scheduled bareK) ≡ true
-  pub rides : rideTest bareK (scheduled bareK) ≡ true
+  pub waits : waitTest bareK ≡ true
+  pub rode : rideTest bareK ≡ true
 
 pub tested : Tested
 unfolding allOf allIn anyIn sortedTest risingTest effectiveDuration edgesFrom targetsFrom targetCells holdsTarget useArcFlags someTransfer skipsEdge skipsTransfer flagsInUse frequencyListed same leadOf isLead lineOf lineTrips iter every first some count tabFrom insertBy sortBy keep flatten
@@ -93,28 +104,34 @@ tested =
     record {
       trip = refl;
       given = refl;
-      wait = refl;
-      ride = refl;
-      late = refl;
-      early = refl;
-      departure = refl;
+      rides = refl;
+      arrivals = refl;
+      departures = refl;
+      notLate = refl;
+      notEarly = refl;
+      shift = refl;
       zero = refl;
       tripDelays = refl;
       notTripDelays = refl;
       calm = refl;
       waits = refl;
-      rides = refl;
+      rode = refl;
     }
 
 -- what the query answers on each
 abbrev totals : List ℕ
 totals =
-    query bareK tripDay .total ∷ query bareK givenDay .total
-    ∷ query (oneTrip 100 100 100) lateDay .total ∷ query (oneTrip 21701 21701 21701) earlyDay .total
-    ∷ query (oneTrip 100 100 100) waitDay .total ∷ query (oneTrip 100 100 100) rideDay .total
-    ∷ query (oneTrip 100 200 300) departureDay .total ∷ query (oneTrip 100 200 300) zeroDay .total ∷ []
+    query bareK tripDay .total
+    ∷ query bareK givenDay .total
+    ∷ query (oneTrip 100 100 100) rideDay .total
+    ∷ query (oneTrip 100 100 100) arrivalDay .total
+    ∷ query fourStops departureDay .total
+    ∷ query (oneTrip 100 100 100) lateDay .total
+    ∷ query (oneTrip 21701 21701 21701) earlyDay .total
+    ∷ query (oneTrip 100 200 300) shiftDay .total
+    ∷ query (oneTrip 100 200 300) zeroDay .total ∷ []
 
-pub answered : totals ≡ 435 ∷ 450 ∷ 21702 ∷ 101 ∷ 101 ∷ 101 ∷ 301 ∷ 200 ∷ []
+pub answered : totals ≡ 435 ∷ 450 ∷ 101 ∷ 101 ∷ never ∷ 21702 ∷ 101 ∷ 301 ∷ 200 ∷ []
 unfolding changeBefore isEgress egressWalk edgesFrom fifo modeWanted usable permitted targetsFrom targetCells holdsTarget useArcFlags someTransfer skipsEdge skipsTransfer flagsInUse departuresAt markAt lineAt notBefore boardAt bestAfter improve relax alightings scanTripForward dominated pruned passedOver boarding board scanDepartures scanStops walkFrom walkAll ridePhase stamped walkPhase idle rounds setOut access bestTarget rowTarget candidatesFrom final answer query frequencyListed inOrder neighbours fifoLine lastIn positionIn same leadOf isLead lineOf lineTrips effectiveDuration roundCount iter every first some count tabFrom insertBy sortBy keep flatten
 answered = refl
 
@@ -130,7 +147,7 @@ pub steady-trip : SteadyDay bareK tripDay
 unfolding allOf
 steady-trip =
     trip-delays-steady bareK tripDay door-trip trip-delays-K (calm-bare (timetableK 460 320 0) unevenK tripDay (ap allOf (tested .calm)))
-    (no-times-fall bareK (scheduled bareK) (tested .waits) (tested .rides))
+    (no-times-fall bareK (tested .waits) (tested .rode))
 
 pub promise-trip : Demand3 bareK tripDay (effective bareK tripDay) (query bareK tripDay)
 promise-trip = steady bareK tripDay door-trip steady-trip
@@ -166,7 +183,7 @@ door-given = door-holds bareK givenDay (passed doorsPass days-pass 1)
 
 pub steady-given : SteadyDay bareK givenDay
 unfolding allOf
-steady-given = steady-holds (timetableK 460 320 0) unevenK givenDay (ap allOf (tested .given))
+steady-given = steady-holds (timetableK 460 320 0) unevenK givenDay door-given (ap allOf (tested .given))
 
 pub promise-given : Demand3 bareK givenDay (effective bareK givenDay) (query bareK givenDay)
 promise-given = steady bareK givenDay door-given steady-given
@@ -174,7 +191,7 @@ promise-given = steady bareK givenDay door-given steady-given
 pub total-given : query bareK givenDay .total ≡ 450
 total-given = ap (λ t. getD t 1 0) answered
 
--- WITHOUT ONE CONDITION the trip, by its effective times, arrives at stop 2 before the query's answer
+-- by its effective times the trip arrives at stop 2 before the query's answer
 byTrip : (a b c start walk whole : ℕ) (D : DelayTables) → let T : Tables = oneTrip a b c in let Q : Query = toStop2 start walk whole D in
     effective T Q .served 0 0 ≡ true → effective T Q .served 0 2 ≡ true → start + walk + 0 ≤ effective T Q .departs 0 0 → WholeJourney T Q (effective T Q) (effective T Q .arrives 0 2 + 0)
 unfolding permitted usable modeWanted insertBy sortBy changeBefore roundCount
@@ -202,38 +219,59 @@ Breaks T Q = Door T Q × (Demand3 T Q (effective T Q) (query T Q) → ⊥)
 breaks : (T : Tables) (Q : Query) (total v : ℕ) → allOf (doorTests T Q) ≡ true → query T Q .total ≡ total → v < total → WholeJourney T Q (effective T Q) v → Breaks T Q
 breaks T Q total v e q l j = (door-holds T Q e, λ d. let h = d .lowest v j in omega (arith, h, q, l))
 
+pub needs-rides : Breaks (oneTrip 100 100 100) rideDay
+unfolding first
+needs-rides =
+    breaks (oneTrip 100 100 100) rideDay 101 100 (passed doorsPass days-pass 2) (ap (λ t. getD t 2 0) answered) (leb-true 101 101 refl)
+    (byTrip 100 100 100 90 10 11 (rideDay .delays) refl refl (leb-true 100 101 refl))
+
+pub needs-arrivals : Breaks (oneTrip 100 100 100) arrivalDay
+unfolding first
+needs-arrivals =
+    breaks (oneTrip 100 100 100) arrivalDay 101 100 (passed doorsPass days-pass 3) (ap (λ t. getD t 3 0) answered) (leb-true 101 101 refl)
+    (byTrip 100 100 100 90 10 11 (arrivalDay .delays) refl refl (leb-true 100 100 refl))
+
 pub needs-not-late : Breaks (oneTrip 100 100 100) lateDay
 unfolding first
 needs-not-late =
-    breaks (oneTrip 100 100 100) lateDay 21702 21701 (passed doorsPass days-pass 2) (ap (λ t. getD t 2 0) answered) (leb-true 21702 21702 refl)
+    breaks (oneTrip 100 100 100) lateDay 21702 21701 (passed doorsPass days-pass 5) (ap (λ t. getD t 5 0) answered) (leb-true 21702 21702 refl)
     (byTrip 100 100 100 21691 10 11 (lateDay .delays) refl refl (leb-true 21701 21701 refl))
 
 pub needs-not-early : Breaks (oneTrip 21701 21701 21701) earlyDay
 unfolding first
 needs-not-early =
-    breaks (oneTrip 21701 21701 21701) earlyDay 101 100 (passed doorsPass days-pass 3) (ap (λ t. getD t 3 0) answered) (leb-true 101 101 refl)
+    breaks (oneTrip 21701 21701 21701) earlyDay 101 100 (passed doorsPass days-pass 6) (ap (λ t. getD t 6 0) answered) (leb-true 101 101 refl)
     (byTrip 21701 21701 21701 90 10 11 (earlyDay .delays) refl refl (leb-true 100 100 refl))
 
-pub needs-waits : Breaks (oneTrip 100 100 100) waitDay
-unfolding first
-needs-waits =
-    breaks (oneTrip 100 100 100) waitDay 101 100 (passed doorsPass days-pass 4) (ap (λ t. getD t 4 0) answered) (leb-true 101 101 refl)
-    (byTrip 100 100 100 90 10 11 (waitDay .delays) refl refl (leb-true 100 100 refl))
-
-pub needs-rides : Breaks (oneTrip 100 100 100) rideDay
-unfolding first
-needs-rides =
-    breaks (oneTrip 100 100 100) rideDay 101 100 (passed doorsPass days-pass 5) (ap (λ t. getD t 5 0) answered) (leb-true 101 101 refl)
-    (byTrip 100 100 100 90 10 11 (rideDay .delays) refl refl (leb-true 100 101 refl))
-
-pub needs-one-arrival : Breaks (oneTrip 100 200 300) departureDay
+pub needs-one-arrival : Breaks (oneTrip 100 200 300) shiftDay
 unfolding first
 needs-one-arrival =
-    breaks (oneTrip 100 200 300) departureDay 301 300 (passed doorsPass days-pass 6) (ap (λ t. getD t 6 0) answered) (leb-true 301 301 refl)
-    (byTrip 100 200 300 90 10 1000 (departureDay .delays) refl refl (leb-true 100 101 refl))
+    breaks (oneTrip 100 200 300) shiftDay 301 300 (passed doorsPass days-pass 7) (ap (λ t. getD t 7 0) answered) (leb-true 301 301 refl)
+    (byTrip 100 200 300 90 10 1000 (shiftDay .delays) refl refl (leb-true 100 101 refl))
 
 pub needs-after-zero : Breaks (oneTrip 100 200 300) zeroDay
 unfolding first
 needs-after-zero =
-    breaks (oneTrip 100 200 300) zeroDay 200 199 (passed doorsPass days-pass 7) (ap (λ t. getD t 7 0) answered) (leb-true 200 200 refl)
+    breaks (oneTrip 100 200 300) zeroDay 200 199 (passed doorsPass days-pass 8) (ap (λ t. getD t 8 0) answered) (leb-true 200 200 refl)
     (byTrip 100 200 300 0 0 1000 (zeroDay .delays) refl refl (leb-true 0 0 refl))
+
+-- the ride from stop 0 to stop 1
+toStop1 : WholeJourney fourStops departureDay (effective fourStops departureDay) 101
+unfolding permitted usable modeWanted insertBy sortBy changeBefore roundCount first
+toStop1 =
+    record {
+      justRode = true;
+      rideCount = 1;
+      stop = 1;
+      reached = 101;
+      journey =
+          Journey.ride 0 0 1 (Journey.access (origin 0 10) (List·Memᴰ·tail (List·Memᴰ·head refl))) (record { trip = refl; listed = List·Memᴰ·head refl; pickup = refl; served = refl })
+          (record { later = leb-true 1 1 refl; inside = leb-true 2 4 refl; dropOff = refl; served = refl }) (leb-true 100 101 refl);
+      fits = leb-true 1 4 refl;
+      walk = 0;
+      egress = List·Memᴰ·head refl;
+      sum = refl;
+    }
+
+pub needs-departures : Breaks fourStops departureDay
+needs-departures = breaks fourStops departureDay never 101 (passed doorsPass days-pass 4) (ap (λ t. getD t 4 0) answered) (leb-true 102 never refl) toStop1

@@ -180,12 +180,14 @@ delaysOf rows stops =
 abbrev pub steadyDelays : DelayTables
 steadyDelays = delaysOf ((0, 40) ∷ (1, 4294967286) ∷ (2, 50) ∷ (4294967295, 30000) ∷ []) ((0, 1, 4, 0, 0) ∷ (3, 1, 1, 30, 0) ∷ [])
 
--- and with times given at single stops: T0 is 40 late, but at stop 1 arrives 55 late and leaves 60 late, and at stop 2 is 80 late; T1 is
--- 10 early and skips stop 1; T2 leaves stop 1 60 late, and is 65 late at stop 2
+-- and with times given at single stops: T0 is 40 late, but leaves stop 0 60 late, skips stop 1, and is 80 late at stop 2; T1 is 10 early, at stop
+-- 1 arrives 20 early and leaves 5 early, and is on time at stop 2; T2 is 50 late, but leaves stop 1 45 late, and is 65 late at stop 2
 abbrev pub givenDelays : DelayTables
 givenDelays =
     delaysOf ((0, 40) ∷ (1, 4294967286) ∷ (2, 50) ∷ (4294967295, 30000) ∷ [])
-    ((0, 1, 3, 60, 55) ∷ (0, 2, 3, 80, 80) ∷ (1, 1, 4, 0, 0) ∷ (2, 0, 1, 60, 0) ∷ (2, 1, 3, 65, 65) ∷ (3, 1, 1, 30, 0) ∷ [])
+    ((0, 0, 1, 60, 0) ∷ (0, 1, 4, 0, 0) ∷ (0, 2, 2, 0, 80)
+    ∷ (1, 1, 3, 4294967291, 4294967276) ∷ (1, 2, 2, 0, 0)
+    ∷ (2, 0, 1, 45, 0) ∷ (2, 1, 2, 0, 65) ∷ (3, 1, 1, 30, 0) ∷ [])
 
 -- K's query on a day with these delays: start, change, delays
 abbrev pub onDay : ℕ → ℕ → DelayTables → Query
@@ -210,6 +212,21 @@ listedOne s = getD ((leaves 0 0 ∷ []) ∷ (leaves 0 1 ∷ []) ∷ []) s []
 
 abbrev pub oneTrip : ℕ → ℕ → ℕ → Tables
 oneTrip a b c = bare (timetableOne a b c) listedOne
+
+-- and one that calls at stops 0 to 3, all at 100 seconds, listed at stops 0 and 2
+abbrev pub fourStops : Tables
+fourStops =
+    bare (record {
+      stops = 4;
+      trips = 1;
+      edges = 0;
+      trip = λ t. runs 0 4 1 0;
+      time = λ i. calls i i 100 100;
+      window = λ i. window 0 0 0;
+      edge = λ e. foot 0 0 0 0;
+      cell = λ s. 0;
+    })
+    (λ s. getD ((leaves 0 0 ∷ []) ∷ [] ∷ (leaves 0 2 ∷ []) ∷ []) s [])
 
 -- asked to stop 2, by walks to stop 0 and to stop 2 itself: start, both walks, delays
 abbrev pub toStop2 : ℕ → ℕ → ℕ → DelayTables → Query

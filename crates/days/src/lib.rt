@@ -4,5 +4,6 @@
 // plain days, so that demand 3 has instances (PlainDays); that `run_tbr` itself breaks demand 3 where flags are on and skip nothing
 // (`rust-breaks`, `rust-breaks-short`); that K without transfers is a steady day with late and early trips and a skipped stop, and with times
 // given at single stops (SteadyDays `steady-trip`, `steady-given`); that without any one condition of a steady day, missed by one second, the
-// query breaks demand 3 (`needs-waits`, `needs-rides`, `needs-not-late`, `needs-not-early`, `needs-one-arrival`, `needs-after-zero`).
+// query breaks demand 3 (`needs-rides`, `needs-arrivals`, `needs-departures`, `needs-not-late`, `needs-not-early`, `needs-one-arrival`; of delays of
+// whole trips also `needs-after-zero`).
 // Assumes nothing.

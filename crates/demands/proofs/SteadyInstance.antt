@@ -1,7 +1,7 @@
--- AN INSTANCE of a steady day, in one statement about what is lent: K's stops and trips, without transfers, T0 not listed at stop 1, and a day
--- on which T0 is late by another time at each stop, T1 runs early and skips stop 1, T2 is late, and a trip that is not in the table is later
--- than the cap (`days` specs/K `givenDelays`). The door admits the slices, the day that they say is a steady one, and the call's whole outcome
--- is the answer with the total 450 at stop 2.
+-- AN INSTANCE of a steady day, in one statement about what is lent: K's stops and trips, without transfers, T0 not listed at stop 1, on a day with
+-- delay rows, times given at single stops, a skipped stop, and a trip that is not in the table and later than the cap (`days` specs/K
+-- `givenDelays`). The door admits the slices, the day that they say is a steady one, and the call's whole outcome is the answer with the total 450
+-- at stop 2.
 use Prim.Native.Nat.{ℕ, _<_}
 use mathlib.Core.Path.{_≡_, refl, ap}
 use mathlib.Core.List.{List, [], _∷_, _++_, flatten}
@@ -18,6 +18,7 @@ use Rattle.tables.specs.Door.{countsOk, slicesOk, tripRuns, stopTimeNumbers, ed
 use Rattle.departures.specs.Listed.{runIn, stopRunsOk, rowNumbers, rowsOk, rowAtStop, stopRowsOk, atStopsOk, listedOk}
 use Rattle.line_layout.specs.Listed.{runIn as lineRunIn, lineRunsOk, entriesOk}
 use Rattle.asking.proofs.Examples.{trip}
+use Rattle.asking.proofs.Laws.{door}
 use Rattle.asking.specs.declared.QueryCounts.{QueryCounts}
 use Rattle.tables.specs.Tables.{timeOf, tripOf, windowOf, edgeOf, cellOf}
 use Rattle.line_transfers.specs.Transfers.{eventsBefore}
@@ -57,13 +58,15 @@ builtD =
     ++ (0 ∷ 0 ∷ 0 ∷ [])
     ++ replicate 16 0
 
--- start 90, change 120, origin 0 (10), egress 2 (5); four delay rows, six stop rows. (4294967286 is the bits of -10.)
+-- start 90, change 120, origin 0 (10), egress 2 (5); four delay rows, eight stop rows. (4294967286, 4294967291 and 4294967276 are the bits of
+-- -10, -5 and -20.)
 unfoldable pub qD : List ℕ
 qD =
     (90 ∷ 120 ∷ 0 ∷ 0 ∷ 0 ∷ 0 ∷ 0 ∷ []) ++ (0 ∷ 10 ∷ []) ++ (2 ∷ 5 ∷ [])
     ++ (0 ∷ 40 ∷ 1 ∷ 4294967286 ∷ 2 ∷ 50 ∷ 4294967295 ∷ 30000 ∷ [])
-    ++ (0 ∷ 1 ∷ 3 ∷ 60 ∷ 55 ∷ 0 ∷ 2 ∷ 3 ∷ 80 ∷ 80 ∷ 1 ∷ 1 ∷ 4 ∷ 0 ∷ 0 ∷ [])
-    ++ (2 ∷ 0 ∷ 1 ∷ 60 ∷ 0 ∷ 2 ∷ 1 ∷ 3 ∷ 65 ∷ 65 ∷ 3 ∷ 1 ∷ 1 ∷ 30 ∷ 0 ∷ [])
+    ++ (0 ∷ 0 ∷ 1 ∷ 60 ∷ 0 ∷ 0 ∷ 1 ∷ 4 ∷ 0 ∷ 0 ∷ 0 ∷ 2 ∷ 2 ∷ 0 ∷ 80 ∷ [])
+    ++ (1 ∷ 1 ∷ 3 ∷ 4294967291 ∷ 4294967276 ∷ 1 ∷ 2 ∷ 2 ∷ 0 ∷ 0 ∷ [])
+    ++ (2 ∷ 0 ∷ 1 ∷ 45 ∷ 0 ∷ 2 ∷ 1 ∷ 2 ∷ 0 ∷ 65 ∷ 3 ∷ 1 ∷ 1 ∷ 30 ∷ 0 ∷ [])
 
 unfoldable pub countsD : QueryCounts
 countsD =
@@ -76,7 +79,7 @@ countsD =
       departures = 4;
       transfers = 0;
       delays = 4;
-      «stop_rows» = 6;
+      «stop_rows» = 8;
       origins = 1;
       egress = 1;
     }
@@ -94,11 +97,16 @@ queryD = queryOf lentD
 abbrev X : Timetable
 X = tablesD .timetable
 
+-- THE DOOR ADMITS THE SLICES, with areas as for K; no arc flags are in use, so the halves of the queue may be empty
+pub door-D : verdict lentD (lengthsOf areasK) ≡ 0
+unfolding countsD qD builtD tD stopTime trip every timeOf tripOf windowOf edgeOf countsOk slicesOk tripRuns stopTimeNumbers edgeNumbers stopTimeRanges tripRanges windowRanges edgeRanges edgeRises runsOk numbersOk rangesOk orderOk runIn stopRunsOk rowNumbers rowsOk rowAtStop stopRowsOk atStopsOk listedOk lineRunIn lineRunsOk entriesOk eventsBefore question1 readOk writtenOk question2 transferRunsOk question3 columnBelow lineNumbers queryNumbers question4 markRanges transferRanges settingRanges walkRanges question5 notEarlier partOrder departureOrder columnRises question6 verdict
+door-D = refl
+
 -- THE DAY THAT THE SLICES SAY IS A STEADY ONE: lines, departures and marks as built, from the departures as they are listed
 pub steady-D : SteadyDay tablesD queryD
 unfolding qD builtD tD stopTime trip countsD timeOf tripOf windowOf edgeOf eventsBefore allOf allIn anyIn effectiveDuration edgesFrom targetsFrom targetCells holdsTarget useArcFlags someTransfer skipsEdge skipsTransfer flagsInUse frequencyListed same leadOf isLead lineOf lineTrips iter every first some count tabFrom insertBy sortBy keep flatten cellOf
 steady-D =
-    steady-when tablesD queryD
+    steady-when tablesD queryD (door lentD (lengthsOf areasK) door-D)
     (calm-when tablesD queryD (tablesD .departures)
     (below-three (λ (s : ℕ). tablesD .departures s ≡ sorted X (tablesD .departures s)) refl refl refl)
     (below-three (λ (s : ℕ). tablesD .mark s ≡ markOf X (tablesD .departures s)) refl refl refl)
@@ -112,11 +120,6 @@ steady-D =
           l h p i;
     }))
     refl
-
--- areas as for K; no arc flags are in use, so the halves of the queue may be empty
-pub door-D : verdict lentD (lengthsOf areasK) ≡ 0
-unfolding countsD qD builtD tD stopTime trip every timeOf tripOf windowOf edgeOf countsOk slicesOk tripRuns stopTimeNumbers edgeNumbers stopTimeRanges tripRanges windowRanges edgeRanges edgeRises runsOk numbersOk rangesOk orderOk runIn stopRunsOk rowNumbers rowsOk rowAtStop stopRowsOk atStopsOk listedOk lineRunIn lineRunsOk entriesOk eventsBefore question1 readOk writtenOk question2 transferRunsOk question3 columnBelow lineNumbers queryNumbers question4 markRanges transferRanges settingRanges walkRanges question5 notEarlier partOrder departureOrder columnRises question6 verdict
-door-D = refl
 
 -- THE CALL ANSWERS, and its answer keeps demand 3 by effective times
 pub answered-D : queryOutcome lentD areasK ≡ answered (thePromise tablesD queryD) areasK

@@ -586,7 +586,8 @@ pub extern "C" fn savoiky_run_tbr(
     )
 }
 
-// What a board asks: run_tbr with arc flags put off where they would skip nothing. On a plain day no journey beats its answer.
+// What a board asks: run_tbr with arc flags put off where they would skip nothing. On a plain day no journey beats its answer; on a steady day,
+// which has delays (docs/PROMISE.md), none does by effective times.
 #[no_mangle]
 pub extern "C" fn savoiky_query(
     sizes: QuerySizes,

@@ -111,7 +111,7 @@ module _ (N : Net) where
               (A .changed x);
         };
         pend = λ x. ⊎-elim
-            (λ e. inr (record { ride = λ t o m k p h. ridden-best P (omega (arith, A .low .b, e, getD-replicate (N .nS) x (N .MAX) 0 (P .deps-in x t o m))) }))
+            (λ e. inr (record { ride = λ t o m k p h. ridden-best P (record { at = x; listed = m; ok = k; pick = p }) (omega (arith, A .low .b, e, getD-replicate (N .nS) x (N .MAX) 0 (P .deps-in x t o m))) }))
             (λ m. inl m)
             (A .queued x);
         even = record { to = refl; td = refl };

@@ -15,10 +15,10 @@ use Rattle.realtime.specs.Times.{departureGiven, arrivalGiven, sizeOf, shifted}
 use Rattle.realtime.proofs.Times.{shifted-near}
 use Rattle.delay_tables.specs.Delays.{stopRow, besideTrip}
 use Rattle.delays.proofs.Largest.{Covered, margin-trip, margin-departure}
-use Rattle.model.specs.Tables.{Tables, Query, trips, stopCount, arrival, departure, sequence}
+use Rattle.model.specs.Tables.{Tables, Query, stops, trips, stopCount, arrival, departure, sequence}
 use Rattle.model.specs.Search.{delayOf, undelayed, delayAt, skipped, marginOf}
 use Rattle.model.specs.Door.{Door}
-use Rattle.model.specs.Promise.{SteadyDay, effective}
+use Rattle.model.specs.Promise.{effective, Boarding, SteadyDay}
 use Rattle.model.proofs.Base.{no-both}
 use Rattle.model.proofs.Sizes.{shifted-back}
 
@@ -72,14 +72,14 @@ module _ (T : Tables) (Q : Query) where
         moved-by (λ (x : ℕ). Covered (Q .delays) (Q .settings .marginCap) (sizeOf x)) departureGiven (λ (d : StopDelay). d .«departure_delay») refl (inl (omega arith))
         (margin-trip (Q .delays) (Q .settings .marginCap)) (λ i j h g. margin-departure (Q .delays) (Q .settings .marginCap) j h g) t o
 
-    pub depart-late : (t o : ℕ) → t < trips T → o < stopCount T t → effective T Q .departs t o ≤ departure T t o + marginOf T Q
-    depart-late t o u n =
+    pub depart-late : (x t o : ℕ) → x < stops T → Boarding T Q (effective T Q) x t o → effective T Q .departs t o ≤ departure T t o + marginOf T Q
+    depart-late x t o h b =
         let d = delayAt T Q (delayOf Q t) t o in
         ⊎-elim (λ l. omega (arith, l, shifted-near (departure T t o) (cond (departureGiven (d .flags)) (d .«departure_delay») (d .«trip_delay»))))
-        (λ q. omega (arith, q, S .not-late t o u n)) (covered t o)
+        (λ q. omega (arith, q, S .not-late x t o h b)) (covered t o)
 
-    pub depart-early : (t o : ℕ) → t < trips T → o < stopCount T t → departure T t o ≤ effective T Q .departs t o + marginOf T Q
-    depart-early t o u n =
+    pub depart-early : (x t o : ℕ) → x < stops T → Boarding T Q (effective T Q) x t o → departure T t o ≤ effective T Q .departs t o + marginOf T Q
+    depart-early x t o h b =
         let d = delayAt T Q (delayOf Q t) t o in
         ⊎-elim (λ l. omega (arith, l, shifted-back (departure T t o) (cond (departureGiven (d .flags)) (d .«departure_delay») (d .«trip_delay»))))
-        (λ q. omega (arith, q, S .not-early t o u n)) (covered t o)
+        (λ q. omega (arith, q, S .not-early x t o h b)) (covered t o)

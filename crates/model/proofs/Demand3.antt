@@ -16,18 +16,18 @@ use Rattle.model.specs.Tables.{never, Tables, Query, roundsOf, changeBef
 use Rattle.model.specs.Search.{Answer, delayOf, delayAt, skipped, bestTarget, final, answer, useArcFlags, runTbr, query}
 use Rattle.model.specs.Door.{Door}
 use Rattle.model.specs.Promise.{TripTimes, scheduled, effective, PlainDay, SteadyDay, TripDelays, Journey, Way, Arrives, Demand3, Pareto}
-use Rattle.model.proofs.Base.{no-both, or-false}
+use Rattle.model.proofs.Base.{no-both}
 use Rattle.model.proofs.Net.{Plain}
 use Rattle.model.proofs.PlainSearch
 use Rattle.model.proofs.Rounds.{Reach, j-access, j-ride, j-walk}
 use Rattle.model.proofs.Ways
 use Rattle.model.proofs.PlainTotals
 use Rattle.model.proofs.Pareto
-use Rattle.model.proofs.NetOf.{net, originOf}
+use Rattle.model.proofs.NetOf.{net, pairOf, originOf}
 use Rattle.model.proofs.Simulation.{Calm, small, sim-answer, sim-scans}
 use Rattle.model.proofs.Delayed.{arrives-early}
 use Rattle.model.proofs.TripDelays.{trip-delays-steady}
-use Rattle.model.proofs.PlainNet.{row-of, of-row, count-at, at-count, edge-in, edge-of, of-edge, origin-of, egress-is, calm-mark, calm-trips, plain}
+use Rattle.model.proofs.PlainNet.{boarding-of, alighting-of, of-row, at-count, edge-in, edge-of, of-edge, origin-of, egress-is, calm-mark, calm-trips, plain}
 
 neither : (a b : Bool) → a ≡ false → b ≡ false → not (a || b) ≡ true
 neither true b e f = absurd (no-both refl e)
@@ -83,10 +83,7 @@ module _ (T : Tables) (Q : Query) where
       let a = origin-of Q s d m in
       subst (λ (z : ℕ). Way T Q (effective T Q) L z (Q .start + d) zero) (a .at) (subst (λ (z : ℕ). Way T Q (effective T Q) L (a .walk .stop) (Q .start + z) zero) (a .lasts) (Way.access (a .walk) (a .member)))
   way-of {L} x v q (Ways.w-ride {x = y} {v = w} {q = q′} r t o p j h i m k c l z n a) =
-      let d = row-of T y t o m in
-      let u = or-false _ _ (not-true _ c) in
-      let f = or-false _ _ (not-true _ a) in
-      Way.ride r t o p (way-of y w q′ j) h i (record { trip = k; listed = d .1; pickup = u .0; served = ap not (u .1) }) (record { later = z; inside = count-at T t p n .1; dropOff = f .0; served = ap not (f .1) }) (omega (arith, l, change-same r))
+      Way.ride r t o p (way-of y w q′ j) h i (boarding-of T Q y t o m k c .1) (alighting-of T Q t o p z n a) (omega (arith, l, change-same r))
   way-of {L} x v q (Ways.w-walk {x = y} {v = w} {q = q′} {y = y′} {d = d} j m) =
       let e = edge-of T Q y y′ d m in
       subst (λ (z : ℕ). Way T Q (effective T Q) L z (w + d) q′) (e .to) (subst (λ (z : ℕ). Way T Q (effective T Q) L (edgeTo T (e .edge)) (w + z) q′) (e .walk) (Way.foot (e .edge) (way-of y w q′ j) (e .member)))
@@ -99,7 +96,15 @@ calm : (T : Tables) (Q : Query) → Door T Q → SteadyDay T Q → Calm T Q
 calm T Q D S =
     record {
       marks = calm-mark T Q D S;
-      listed = λ x d m. let e = calm-trips T Q D S x d m in record { known = e .0; unwindowed = e .1; arrives = λ p l n. S .one-arrival (d .trip) (d .offset) p (e .0) (omega (arith, l)) (omega (arith, n)) };
+      listed = λ x d m. let e = calm-trips T Q D S x d m in
+          let c = at-count T (d .trip) (e .0) in
+          record {
+            known = e .0;
+            unwindowed = e .1;
+            arrives = λ i k p l n a. let b = boarding-of T Q x (d .trip) (d .offset) (Memᴰ·map pairOf m) i k in
+                S .one-arrival x (d .trip) (d .offset) p (b .0) (b .1)
+                (alighting-of T Q (d .trip) _ p (omega (arith, l)) (omega (arith, c, n)) a);
+          };
     }
 
 unflagged : (T : Tables) (Q : Query) → Door T Q → SteadyDay T Q → Demand3 T Q (effective T Q) (answer T Q false)

@@ -10,7 +10,7 @@ use lib.ListN.{getD, set, length, length-set}
 use lib.Dec.{ltb, leb, eqb}
 use borrow.Author.Tests.{ltb-true, ltb-false, leb-true, eqb-true, eqb-false, not-true, not-false}
 use Rattle.model.proofs.Base.{split, no-both, or-true, or-false, and-true, and-false, set3}
-use Rattle.model.proofs.Net.{Net, Plain, Sorted, more}
+use Rattle.model.proofs.Net.{Net, Boards, Plain, Sorted, more}
 use Rattle.model.proofs.PlainSearch.{Core, Book, St, ride, board, blocked, passed, skips, departures}
 use Rattle.model.proofs.Coverage.{Le, Le-refl, Le-trans, Cov, cov-le, cov-later, by-best}
 use Rattle.model.proofs.Scan.{scan-graph, scan-le, scan-cov}
@@ -25,16 +25,16 @@ ridden-le l r = record { all = λ p h m a. cov-le l (r .all p h m a) }
 pub ridden-on : {N : Net} {c : Core} {t o o′ : ℕ} → o ≤ o′ → Ridden N c t o → Ridden N c t o′
 ridden-on l r = record { all = λ p h m a. r .all p (omega arith) m a }
 
-pub ridden-best : {N : Net} {c : Core} {t o : ℕ} → Plain N → c .B ≤ N .dep t o → Ridden N c t o
-ridden-best {t = t} {o = o} P h = record { all = λ p l m a. by-best (le-trans h (P .dep-arr t o p l m)) }
+pub ridden-best : {N : Net} {c : Core} {t o : ℕ} → Plain N → Boards N t o → c .B ≤ N .dep t o → Ridden N c t o
+ridden-best {t = t} {o = o} P k h = record { all = λ p l m a. by-best (le-trans h (P .dep-arr t o p l m k a)) }
 
 pub ride-le : (N : Net) (stamp t o : ℕ) (c : Core) → Le (ride N stamp t o c) c
 unfolding ride
 ride-le N stamp t o c = scan-le N stamp t (scan-graph N stamp t _ _ c)
 
-pub ride-ridden : (N : Net) → Plain N → (stamp t o : ℕ) (c : Core) → o < N .len t → Ridden N (ride N stamp t o c) t o
+pub ride-ridden : (N : Net) → Plain N → (stamp t o : ℕ) (c : Core) → o < N .len t → Boards N t o → Ridden N (ride N stamp t o c) t o
 unfolding ride
-ride-ridden N P stamp t o c l = record { all = λ p h m a. scan-cov N stamp t P (scan-graph N stamp t _ _ c) (omega arith) p h m a }
+ride-ridden N P stamp t o c l w = record { all = λ p h m a. scan-cov N stamp t P w (scan-graph N stamp t _ _ c) (omega arith) (omega arith) p h m a }
 
 -- of two trips of a line that prune, the earlier serves for the later
 pub ridden-line : {N : Net} {c : Core} → Plain N → (t u o o′ : ℕ) → N .prunes t ≡ true → N .prunes u ≡ true → N .line u ≡ N .line t → N .pos u < N .pos t → o′ ≤ o → Ridden N c u o′ → Ridden N c t o
@@ -63,15 +63,16 @@ module _ (N : Net) (round stamp : ℕ) where
     pub trip : (t : ℕ) → tS (s .k) t ≡ stamp → Ridden N (s .c) t (tO (s .k) t)
     pub time : (t : ℕ) → tS (s .k) t ≡ stamp → tD (s .k) t ≡ N .dep t (tO (s .k) t)
     pub inside : (t : ℕ) → tS (s .k) t ≡ stamp → tO (s .k) t < N .len t
+    pub boarded : (t : ℕ) → tS (s .k) t ≡ stamp → Boards N t (tO (s .k) t)
 
-  pub kept-board : Plain N → {s : St} → Kept s → (t o : ℕ) → o < N .len t → Kept (record { c = ride N stamp t o (s .c); k = board N round stamp t o (s .k) })
+  pub kept-board : Plain N → {s : St} → Kept s → (t o : ℕ) → o < N .len t → Boards N t o → Kept (record { c = ride N stamp t o (s .c); k = board N round stamp t o (s .k) })
   unfolding board
-  kept-board P {s} K t o l =
+  kept-board P {s} K t o l w =
       record {
         even = record { to = length-set (s .k .TO) t o ∙ K .even .to ∙ sym (length-set (s .k .TS) t stamp); td = length-set (s .k .TD) t (N .dep t o) ∙ K .even .td ∙ sym (length-set (s .k .TS) t stamp) };
         line = line (N .prunes t) refl;
         trip = λ u e. ⊎-elim
-            (λ q. subst (λ (x : ℕ). Ridden N (ride N stamp t o (s .c)) u x) (sym (q .2)) (subst (λ (x : ℕ). Ridden N (ride N stamp t o (s .c)) x o) (sym (q .0)) (ride-ridden N P stamp t o (s .c) l)))
+            (λ q. subst (λ (x : ℕ). Ridden N (ride N stamp t o (s .c)) u x) (sym (q .2)) (subst (λ (x : ℕ). Ridden N (ride N stamp t o (s .c)) x o) (sym (q .0)) (ride-ridden N P stamp t o (s .c) l w)))
             (λ q. subst (λ (x : ℕ). Ridden N (ride N stamp t o (s .c)) u x) (sym (q .1)) (ridden-le (ride-le N stamp t o (s .c)) (K .trip u (sym (q .0) ∙ e))))
             (three u);
         time = λ u e. ⊎-elim
@@ -82,13 +83,17 @@ module _ (N : Net) (round stamp : ℕ) where
             (λ q. subst (λ (x : ℕ). x < N .len u) (sym (q .2)) (subst (λ (x : ℕ). o < N .len x) (sym (q .0)) l))
             (λ q. subst (λ (x : ℕ). x < N .len u) (sym (q .1)) (K .inside u (sym (q .0) ∙ e)))
             (three u);
+        boarded = λ u e. ⊎-elim
+            (λ q. subst (Boards N u) (sym (q .2)) (subst (λ (x : ℕ). Boards N x o) (sym (q .0)) w))
+            (λ q. subst (Boards N u) (sym (q .1)) (K .boarded u (sym (q .0) ∙ e)))
+            (three u);
       }
     where
       old : (u p : ℕ) → List·Memᴰ (u, p) (s .k .LB) → (N .prunes u ≡ true) × Ridden N (ride N stamp t o (s .c)) u p
       old u p m = let k = K .line u p m in (k .0, ridden-le (ride-le N stamp t o (s .c)) (k .1))
 
       line : (b : Bool) → N .prunes t ≡ b → (u p : ℕ) → List·Memᴰ (u, p) (cond b ((t, o) ∷ s .k .LB) (s .k .LB)) → (N .prunes u ≡ true) × Ridden N (ride N stamp t o (s .c)) u p
-      line true f u p m = ⊎-elim (λ e. subst (λ (d : ℕ × ℕ). (N .prunes (d .0) ≡ true) × Ridden N (ride N stamp t o (s .c)) (d .0) (d .1)) (sym e) (f, ride-ridden N P stamp t o (s .c) l)) (old u p) (List·Memᴰ·cases-cons m)
+      line true f u p m = ⊎-elim (λ e. subst (λ (d : ℕ × ℕ). (N .prunes (d .0) ≡ true) × Ridden N (ride N stamp t o (s .c)) (d .0) (d .1)) (sym e) (f, ride-ridden N P stamp t o (s .c) l w)) (old u p) (List·Memᴰ·cases-cons m)
       line false f u p m = old u p m
 
       three : (u : ℕ) → ((u ≡ t) × (getD (set (s .k .TS) t stamp) u 0 ≡ stamp) × (getD (set (s .k .TO) t o) u 0 ≡ o) × (getD (set (s .k .TD) t (N .dep t o)) u 0 ≡ N .dep t o))
@@ -110,6 +115,9 @@ module _ (N : Net) (round stamp after : ℕ) where
     pub pick : N .pick t o ≡ true
     pub late : after ≤ N .dep t o
 
+  boards : {x t o : ℕ} → List·Memᴰ (t, o) (N .deps x) → Take t o → Boards N t o
+  boards {x = x} m w = record { at = x; listed = m; ok = w .ok; pick = w .pick }
+
   pub data Deps : List (ℕ × ℕ) → St → St → Type 0 where
     nil : {s : St} → Deps [] s s
     cut : {d : ℕ × ℕ} {ds : List (ℕ × ℕ)} {s : St} → s .c .B + N .margin ≤ N .sch (d .0) (d .1) → Deps (d ∷ ds) s s
@@ -122,40 +130,40 @@ module _ (N : Net) (round stamp after : ℕ) where
   deps-le (skip w r) = deps-le r
   deps-le (go {d = d} {s = s} w r) = Le-trans (deps-le r) (ride-le N stamp (d .0) (d .1) (s .c))
 
-  skip-ridden : Plain N → {s : St} → Kept N round stamp s → (t o : ℕ) → o < N .len t → Skip s t o → Take t o → Ridden N (s .c) t o
-  skip-ridden P K t o l (s-trip e) w = absurd (no-both (w .ok) e)
-  skip-ridden P K t o l (s-line u o′ f m e p h) w = let k = K .line u o′ m in ridden-line P t u o o′ f (k .0) e p h (k .1)
-  skip-ridden P K t o l (s-pick e) w = absurd (no-both (w .pick) e)
-  skip-ridden P K t o l (s-early h) w = absurd (omega (arith, w .late))
-  skip-ridden P K t o l (s-best h) w = ridden-best P h
-  skip-ridden P {s} K t o l (s-passed e h f) w =
+  skip-ridden : Plain N → {s : St} → Kept N round stamp s → (t o : ℕ) → Skip s t o → Take t o → Boards N t o → Ridden N (s .c) t o
+  skip-ridden P K t o (s-trip e) w b = absurd (no-both (w .ok) e)
+  skip-ridden P K t o (s-line u o′ f m e p h) w b = let k = K .line u o′ m in ridden-line P t u o o′ f (k .0) e p h (k .1)
+  skip-ridden P K t o (s-pick e) w b = absurd (no-both (w .pick) e)
+  skip-ridden P K t o (s-early h) w b = absurd (omega (arith, w .late))
+  skip-ridden P K t o (s-best h) w b = ridden-best P b h
+  skip-ridden P {s} K t o (s-passed e h f) w b =
       ridden-on
       (⊎-elim
-      (λ (q : o < tO (s .k) t). f (omega (arith, P .dep-dep t o (tO (s .k) t) (omega arith) (K .inside t e), K .time t e)))
+      (λ (q : o < tO (s .k) t). f (omega (arith, P .dep-dep t o (tO (s .k) t) (omega arith) b (K .boarded t e), K .time t e)))
       (λ q. q)
       (split o (tO (s .k) t)))
       (K .trip t e)
 
-  pub deps-kept : Plain N → {ds : List (ℕ × ℕ)} {s s′ : St} → ((t o : ℕ) → List·Memᴰ (t, o) ds → o < N .len t) → Kept N round stamp s → Deps ds s s′ → Kept N round stamp s′
+  pub deps-kept : Plain N → {x : ℕ} {ds : List (ℕ × ℕ)} {s s′ : St} → ((t o : ℕ) → List·Memᴰ (t, o) ds → List·Memᴰ (t, o) (N .deps x)) → Kept N round stamp s → Deps ds s s′ → Kept N round stamp s′
   deps-kept P I K nil = K
   deps-kept P I K (cut h) = K
   deps-kept P I K (skip w r) = deps-kept P (λ t o m. I t o (List·Memᴰ·tail m)) K r
-  deps-kept P I K (go {d = d} w r) = deps-kept P (λ t o m. I t o (List·Memᴰ·tail m)) (kept-board N round stamp P K (d .0) (d .1) (I (d .0) (d .1) (List·Memᴰ·head refl))) r
+  deps-kept P {x} I K (go {d = d} w r) = deps-kept P (λ t o m. I t o (List·Memᴰ·tail m)) (kept-board N round stamp P K (d .0) (d .1) (P .listed x (d .0) (d .1) (I (d .0) (d .1) (List·Memᴰ·head refl))) (boards (I (d .0) (d .1) (List·Memᴰ·head refl)) w)) r
 
-  pub deps-ridden : Plain N → {ds : List (ℕ × ℕ)} {s s′ : St} → Sorted N ds → ((t o : ℕ) → List·Memᴰ (t, o) ds → o < N .len t) → Kept N round stamp s → Deps ds s s′ → (t o : ℕ) → List·Memᴰ (t, o) ds → Take t o → Ridden N (s′ .c) t o
+  pub deps-ridden : Plain N → {x : ℕ} {ds : List (ℕ × ℕ)} {s s′ : St} → Sorted N ds → ((t o : ℕ) → List·Memᴰ (t, o) ds → List·Memᴰ (t, o) (N .deps x)) → Kept N round stamp s → Deps ds s s′ → (t o : ℕ) → List·Memᴰ (t, o) ds → Take t o → Ridden N (s′ .c) t o
   deps-ridden P S I K nil t o m w = absurd (List·Memᴰ·not-nil m)
-  deps-ridden P (more S₁ S) I K (cut {d = d} {s = s} h) t o m w =
+  deps-ridden P {x} (more S₁ S) I K (cut {d = d} {s = s} h) t o m w =
       let b : s .c .B + N .margin ≤ N .sch t o = ⊎-elim (λ e. subst (λ (x : ℕ × ℕ). s .c .B + N .margin ≤ N .sch (x .0) (x .1)) (sym e) h) (λ m′. le-trans h (S₁ t o m′)) (List·Memᴰ·cases-cons m) in
-      ridden-best P (omega (arith, b, P .early t o (I t o m)))
+      ridden-best P (boards (I t o m) w) (omega (arith, b, P .early t o (boards (I t o m) w)))
   deps-ridden P (more S₁ S) I K (skip {d = d} {s = s} z r) t o m w =
       ⊎-elim
-      (λ e. ridden-le (deps-le r) (skip-ridden P K t o (I t o m) (subst (λ (x : ℕ × ℕ). Skip s (x .0) (x .1)) (sym e) z) w))
+      (λ e. ridden-le (deps-le r) (skip-ridden P K t o (subst (λ (x : ℕ × ℕ). Skip s (x .0) (x .1)) (sym e) z) w (boards (I t o m) w)))
       (λ m′. deps-ridden P S (λ t o m. I t o (List·Memᴰ·tail m)) K r t o m′ w)
       (List·Memᴰ·cases-cons m)
-  deps-ridden P (more S₁ S) I K (go {d = d} {s = s} {s′ = s′} z r) t o m w =
+  deps-ridden P {x} (more S₁ S) I K (go {d = d} {s = s} {s′ = s′} z r) t o m w =
       ⊎-elim
-      (λ e. subst (λ (x : ℕ × ℕ). Ridden N (s′ .c) (x .0) (x .1)) (sym e) (ridden-le (deps-le r) (ride-ridden N P stamp (d .0) (d .1) (s .c) (I (d .0) (d .1) (List·Memᴰ·head refl)))))
-      (λ m′. deps-ridden P S (λ t o m. I t o (List·Memᴰ·tail m)) (kept-board N round stamp P K (d .0) (d .1) (I (d .0) (d .1) (List·Memᴰ·head refl))) r t o m′ w)
+      (λ e. subst (λ (x : ℕ × ℕ). Ridden N (s′ .c) (x .0) (x .1)) (sym e) (ridden-le (deps-le r) (ride-ridden N P stamp (d .0) (d .1) (s .c) (P .listed x (d .0) (d .1) (I (d .0) (d .1) (List·Memᴰ·head refl))) (boards (I (d .0) (d .1) (List·Memᴰ·head refl)) z))))
+      (λ m′. deps-ridden P S (λ t o m. I t o (List·Memᴰ·tail m)) (kept-board N round stamp P K (d .0) (d .1) (P .listed x (d .0) (d .1) (I (d .0) (d .1) (List·Memᴰ·head refl))) (boards (I (d .0) (d .1) (List·Memᴰ·head refl)) z)) r t o m′ w)
       (List·Memᴰ·cases-cons m)
 
   -- the model goes by these steps
@@ -197,7 +205,7 @@ module _ (N : Net) (round stamp after : ℕ) where
       (λ e₁. ⊎-elim (λ e₂. s-best (leb-true _ _ e₂)) (λ e₂. passed-by t o s e₂) (or-true _ _ e₁))
       (or-true _ _ e)
 
-  takes-by : (t o : ℕ) (s : St) → skips N stamp after t o s ≡ false → Take t o
+  pub takes-by : (t o : ℕ) (s : St) → skips N stamp after t o s ≡ false → Take t o
   unfolding skips
   takes-by t o s e =
       let e₁ = or-false _ _ e in

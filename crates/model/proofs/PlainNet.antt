@@ -1,26 +1,29 @@
 -- A steady day's tables and query make a net with the laws that the optimality proof needs.
-use Prim.Native.Nat.{ℕ, suc, _-_, _≤_, _<_}
+use Prim.Native.Nat.{ℕ, _-_, _≤_, _<_}
 use mathlib.Core.Path.{_≡_, refl, sym, ap, subst, _∙_}
 use mathlib.Core.Logic.{_⊎_, inl, inr, ⊎-elim}
 use mathlib.Core.Bool.{Bool, true, false, _&&_, _||_, not}
 use mathlib.Core.List.{List, [], _∷_, map, List·Memᴰ, List·Memᴰ·head, List·Memᴰ·tail, List·Memᴰ·cases-cons, List·Memᴰ·not-nil, Memᴰ·map, Memᴰ·of-map}
 use native.Mathlib.Omega.{arith}
 use lib.Dec.{ltb, eqb}
-use borrow.Author.Tests.{ltb-true, eqb-true, eqb-false, lt-ltb, le-ltb}
+use native.Mathlib.Nat.{eq-or-lt-of-le}
+use borrow.Author.Tests.{ltb-true, eqb-true, eqb-false, lt-ltb, le-ltb, not-true}
 use Rattle.loops.specs.Count.{one}
 use Rattle.departures.specs.declared.DepartureRow.{DepartureRow}
 use Rattle.departures.specs.Departures.{sorted, frequencyListed, rowDeparture}
-use Rattle.model.specs.Tables.{never, Tables, Origin, Query, isEgress, egressWalk, stops, trips, stopCount, departure, noDropOff, noWindows, edgesFrom, edgeTo, walkTime, fifo}
+use Rattle.model.specs.Tables.{never, Tables, Origin, Query, isEgress, egressWalk, stops, trips, stopCount, departure, noPickup, noDropOff, noWindows, edgesFrom, edgeTo, walkTime, fifo, permitted}
 use Rattle.model.specs.Search.{departuresAt, markAt, lineAt, delayOf, undelayed, skipped, prunable}
 use Rattle.model.specs.Door.{Door, InOrder, EgressRising}
-use Rattle.model.specs.Promise.{CalmDay, SteadyDay, effective}
-use Rattle.model.proofs.Base.{split, no-both, and-true}
-use Rattle.model.proofs.Net.{Plain, Sorted, none, more}
-use Rattle.model.proofs.Times
+use Rattle.model.specs.Promise.{effective, Boarding, Alighting, CalmDay, SteadyDay}
+use Rattle.model.proofs.Base.{split, no-both, or-false, and-true}
+use Rattle.model.proofs.Net.{Boards, Plain, Sorted, none, more}
 use Rattle.model.proofs.NetOf.{net, pairOf, walkOf, originOf, countAt}
 use Rattle.model.proofs.Lists.{sort-has, keep-only, upto-only}
 use Rattle.model.proofs.BuiltLines.{same-count, same-stop, no-later-arrival, same-drop-off}
 use Rattle.model.proofs.Delayed.{on-time, stops-there, depart-late, depart-early}
+
+le-of : {a b : ℕ} → a ≡ b → a ≤ b
+le-of e = omega (arith, e)
 
 -- what the clamped readings give
 module _ (T : Tables) where
@@ -150,6 +153,19 @@ sorted-of T Q InOrder.none = none
 sorted-of T Q (InOrder.more {d = d} {ds = ds} h r) =
     more (λ u p m. let f = Memᴰ·of-map pairOf ds m in subst (λ (z : ℕ × ℕ). departure T (d .trip) (d .offset) ≤ departure T (z .0) (z .1)) (f .2) (h (f .0) (f .1))) (sorted-of T Q r)
 
+module _ (T : Tables) (Q : Query) where
+  -- a departure of the net that may be boarded is a boarding, and an offset where it may be left an alighting
+  pub boarding-of : (x t o : ℕ) → List·Memᴰ (t, o) (net T Q .deps x) → permitted T Q t ≡ true → net T Q .pick t o ≡ true → (x < stops T) × Boarding T Q (effective T Q) x t o
+  boarding-of x t o m ok k =
+      let d = row-of T x t o m in
+      let u = or-false (noPickup T t o) (skipped T Q (delayOf Q t) t o) (not-true _ k) in
+      (d .0, record { trip = ok; listed = d .1; pickup = u .0; served = ap not (u .1) })
+
+  pub alighting-of : (t o p : ℕ) → o < p → p < countAt T t → net T Q .alight t p ≡ true → Alighting T Q (effective T Q) t o p
+  alighting-of t o p l h k =
+      let u = or-false (noDropOff T t p) (skipped T Q (delayOf Q t) t p) (not-true _ k) in
+      record { later = l; inside = count-at T t p h .1; dropOff = u .0; served = ap not (u .1) }
+
 module _ (T : Tables) (Q : Query) (D : Door T Q) (S : SteadyDay T Q) where
   abbrev P : CalmDay T Q
   P = S .calm
@@ -192,11 +208,8 @@ module _ (T : Tables) (Q : Query) (D : Door T Q) (S : SteadyDay T Q) where
   flag : (t : ℕ) → t < trips T → prunable T Q (delayOf Q t) t ≡ true → (undelayed (delayOf Q t) ≡ true) × (fifo T (T .lineOf t) ≡ true)
   flag t h f = let p = and-true _ _ f in (p .0, subst (λ (z : ℕ). fifo T z ≡ true) (at-line T t h) (p .1))
 
-  up : (t o : ℕ) → o < countAt T t → effective T Q .arrives t o ≤ effective T Q .departs t o
-  up t o h = let c = count-at T t o h in omega (arith, S .no-times-fall .waits t o (c .0) (c .1))
-
-  on : (t o : ℕ) → suc o < countAt T t → effective T Q .departs t o ≤ effective T Q .arrives t (suc o)
-  on t o h = let c = count-at T t (suc o) h in omega (arith, S .no-times-fall .rides t o (c .0) (c .1))
+  boarded : (t o : ℕ) (b : Boards (net T Q) t o) → (b .at < stops T) × Boarding T Q (effective T Q) (b .at) t o
+  boarded t o b = boarding-of T Q (b .at) t o (b .listed) (b .ok) (b .pick)
 
   -- a trip that prunes arrives on schedule, and sets down where its schedule says
   sets-down : (t o : ℕ) → undelayed (delayOf Q t) ≡ true → not (noDropOff T t o || skipped T Q (delayOf Q t) t o) ≡ not (noDropOff T t o || false)
@@ -209,11 +222,14 @@ module _ (T : Tables) (Q : Query) (D : Door T Q) (S : SteadyDay T Q) where
             (λ h. subst (λ (l : List DepartureRow). Sorted (net T Q) (map pairOf l)) (sym (at-deps T s h)) (sorted-of T Q (D .departures-sorted s h)))
             (λ h. subst (λ (l : List DepartureRow). Sorted (net T Q) (map pairOf l)) (sym (out-deps T s h)) none)
             (split s (stops T));
-        late = λ t o h. let c = count-at T t o h in depart-late T Q S t o (c .0) (c .1);
-        early = λ t o h. let c = count-at T t o h in depart-early T Q S t o (c .0) (c .1);
-        dep-dep = Times.dep-dep (net T Q) up on;
-        arr-arr = Times.arr-arr (net T Q) up on;
-        dep-arr = Times.dep-arr (net T Q) up on;
+        late = λ t o b. let c = boarded t o b in depart-late T Q S (b .at) t o (c .0) (c .1);
+        early = λ t o b. let c = boarded t o b in depart-early T Q S (b .at) t o (c .0) (c .1);
+        dep-dep = λ t o p l b c. let i = boarded t o b in let j = boarded t p c in
+            ⊎-elim (λ e. le-of (ap (effective T Q .departs t) e)) (λ h. omega (arith, S .departures (b .at) (c .at) t o p (i .0) (j .0) (i .1) (j .1) h)) (eq-or-lt-of-le l);
+        arr-arr = λ t o p q b z l h j k. let i = boarded t o b in
+            ⊎-elim (λ e. le-of (ap (effective T Q .arrives t) e))
+            (λ r. omega (arith, S .arrivals (b .at) t o p q (i .0) (i .1) (alighting-of T Q t o p z (omega (arith, l, h)) j) (alighting-of T Q t o q (omega (arith, z, l)) h k) r)) (eq-or-lt-of-le l);
+        dep-arr = λ t o p l h b k. let i = boarded t o b in omega (arith, S .rides (b .at) t o p (i .0) (i .1) (alighting-of T Q t o p l h k));
         listed = λ s t o m. let d = row-of T s t o m in let h = D .listed-trip s _ (d .0) (d .1) in omega (arith, at-count T t h, D .listed-offset s _ (d .0) (d .1));
         fifo-len = λ t u e. ⊎-elim (λ b. omega (arith, at-count T t (b .0), at-count T u (b .1), same-count T Q P t u (b .0) (b .1) (b .2))) (λ b. out-count T u (b .1) ∙ sym (out-count T t (b .0))) (both t u e);
         fifo-stop = λ t u o e h. let b = both-in t u o e h in same-stop T Q P t u (b .0) (b .1) (b .2) o (b .3);

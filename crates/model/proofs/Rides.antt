@@ -19,7 +19,7 @@ module _ (N : Net) (stamp : ℕ) {J : ℕ → ℕ → Type 0} where
   pub scan-steps : {t k off : ℕ} {c c′ : Core} → ((p : ℕ) → off ≤ p → p < N .len t → N .alight t p ≡ true → J (N .stopAt t p) (N .arr t p)) → k + off ≡ N .len t → Scan N stamp t k off c c′ → Steps N stamp J c c′
   scan-steps j e done = stay
   scan-steps j e (bar f r) = scan-steps (λ p h. j p (omega arith)) (omega arith) r
-  scan-steps j e (cut h) = stay
+  scan-steps j e (cut g h) = stay
   scan-steps {t = t} j e (step {off = off} {c = c} g h r) = steps-trans N stamp (relax-steps N stamp _ _ c (j off (le-refl _) (omega arith) g)) (scan-steps (λ p h. j p (omega arith)) (omega arith) r)
 
   pub ride-steps : (t o : ℕ) (c : Core) → o < N .len t → ((p : ℕ) → o < p → p < N .len t → N .alight t p ≡ true → J (N .stopAt t p) (N .arr t p)) → Steps N stamp J c (ride N stamp t o c)

@@ -60,7 +60,7 @@ module _ (N : Net) where
 
     kept : Kept N r (suc (suc r)) s₀
     unfolding s₀
-    kept = record { even = record { to = I .even .to; td = I .even .td }; line = λ u o m. absurd (List·Memᴰ·not-nil m); trip = λ t e. absurd (omega (arith, I .trips t)); time = λ t e. absurd (omega (arith, I .trips t)); inside = λ t e. absurd (omega (arith, I .trips t)) }
+    kept = record { even = record { to = I .even .to; td = I .even .td }; line = λ u o m. absurd (List·Memᴰ·not-nil m); trip = λ t e. absurd (omega (arith, I .trips t)); time = λ t e. absurd (omega (arith, I .trips t)); inside = λ t e. absurd (omega (arith, I .trips t)); boarded = λ t e. absurd (omega (arith, I .trips t)) }
 
     low : Le (s₁ .c) (s .c)
     unfolding s₀
@@ -132,7 +132,7 @@ module _ (N : Net) where
             let u = closed₁ y in
             let f′ : change N n ≡ change N r = ap (change N) e in
             u .3 .ride t o i k q (omega (arith, u .2)) .all p l z a
-        ride (by-best f) e = cov-le low (by-best (le-trans f (le-trans (omega arith) (P .dep-arr t o p l z))))
+        ride (by-best f) e = cov-le low (by-best (le-trans f (le-trans (omega arith) (P .dep-arr t o p l z (record { at = y; listed = i; ok = k; pick = q }) a))))
     reach₂ b m x v h (j-walk {x = y} {v = w} {y = z} {d = d} g i) = foot (reach₂ true m y w h g)
       where
         foot : Cov c₂ y w → Cov c₂ z (w + d)

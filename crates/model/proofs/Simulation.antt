@@ -22,8 +22,8 @@ use Rattle.model.specs.Promise.{effective}
 use Rattle.model.proofs.Base.{no-both}
 use Rattle.model.proofs.Net.{Net, Plain}
 use Rattle.model.proofs.PlainSearch
-use Rattle.model.proofs.Early.{early}
-use Rattle.model.proofs.Departures.{deps-le, deps-graph}
+use Rattle.model.proofs.Early.{trip-skips, pick-skips, early-skips, early}
+use Rattle.model.proofs.Departures.{takes-by, deps-le, deps-graph}
 use Rattle.model.proofs.Rounds.{Inv, round-inv}
 use Rattle.model.proofs.Access.{begin-inv}
 use Rattle.model.proofs.Stamps.{transit-stamped, round-long, idle-rounds}
@@ -56,37 +56,44 @@ module _ (T : Tables) (Q : Query) where
       go true = sim-improve stamp s v l c e
       go false = refl
 
-  -- of a trip whose arrivals from here on, moved by this shift, are the net's
-  sim-alightings : (stamp t x o z k off : ℕ) → ((p : ℕ) → off ≤ p → p < off + k → arrivalNow T Q (delayOf Q t) z t p ≡ N .arr t p) → (c : Arrivals)
+  -- of a trip whose arrivals from here on, moved by this shift, are the net's wherever it may be left
+  sim-alightings : (stamp t x o z k off : ℕ) → ((p : ℕ) → off ≤ p → p < off + k → N .alight t p ≡ true → arrivalNow T Q (delayOf Q t) z t p ≡ N .arr t p) → (c : Arrivals)
       → coreOf (alightings T Q stamp (delayOf Q t) z t x o k off c) ≡ PlainSearch.scan N stamp t k off (coreOf c)
   unfolding alightings PlainSearch.scan
   sim-alightings stamp t x o z zero off A c = refl
   sim-alightings stamp t x o z (suc k) off A c =
-      subst
-      (λ (a : ℕ). coreOf (elim (noDropOff T t off || skipped T Q (delayOf Q t) t off) [ true ↦ alightings T Q stamp (delayOf Q t) z t x o k (suc off) c | false ↦ elim (ltb a (c .best)) [ false ↦ c | true ↦ alightings T Q stamp (delayOf Q t) z t x o k (suc off) (relax T Q stamp (stopAt T t off) a (Transit a t x o off (stamp - 2) z) c) ] ])
-      ≡ elim (not (noDropOff T t off || skipped T Q (delayOf Q t) t off)) [ false ↦ PlainSearch.scan N stamp t k (suc off) (coreOf c) | true ↦ elim (ltb (effective T Q .arrives t off) (c .best)) [ false ↦ coreOf c | true ↦ PlainSearch.scan N stamp t k (suc off) n′ ] ])
-      (sym (A off (omega arith) (omega arith)))
-      (go (noDropOff T t off || skipped T Q (delayOf Q t) t off) (ltb (effective T Q .arrives t off) (c .best)) (sim-alightings stamp t x o z k (suc off) A′ c)
-      (sim-alightings stamp t x o z k (suc off) A′ n ∙ ap (PlainSearch.scan N stamp t k (suc off)) (sim-relax stamp (stopAt T t off) (effective T Q .arrives t off) _ c refl)))
+      go (noDropOff T t off || skipped T Q (delayOf Q t) t off) refl (sim-alightings stamp t x o z k (suc off) A′ c)
+      (sim-alightings stamp t x o z k (suc off) A′ (n v) ∙ ap (PlainSearch.scan N stamp t k (suc off)) (sim-relax stamp (stopAt T t off) v _ c refl))
     where
-      A′ : (p : ℕ) → suc off ≤ p → p < suc off + k → arrivalNow T Q (delayOf Q t) z t p ≡ N .arr t p
+      A′ : (p : ℕ) → suc off ≤ p → p < suc off + k → N .alight t p ≡ true → arrivalNow T Q (delayOf Q t) z t p ≡ N .arr t p
       A′ p l u = A p (omega arith) (omega arith)
 
-      n : Arrivals
-      n = relax T Q stamp (stopAt T t off) (effective T Q .arrives t off) (Transit (effective T Q .arrives t off) t x o off (stamp - 2) z) c
+      v : ℕ
+      v = effective T Q .arrives t off
+
+      n : ℕ → Arrivals
+      n a = relax T Q stamp (stopAt T t off) a (Transit a t x o off (stamp - 2) z) c
 
       n′ : PlainSearch.Core
-      n′ = PlainSearch.relax N stamp (stopAt T t off) (effective T Q .arrives t off) (coreOf c)
+      n′ = PlainSearch.relax N stamp (stopAt T t off) v (coreOf c)
 
-      go : (b d : Bool) → coreOf (alightings T Q stamp (delayOf Q t) z t x o k (suc off) c) ≡ PlainSearch.scan N stamp t k (suc off) (coreOf c)
-          → coreOf (alightings T Q stamp (delayOf Q t) z t x o k (suc off) n) ≡ PlainSearch.scan N stamp t k (suc off) n′
-          → coreOf (elim b [ true ↦ alightings T Q stamp (delayOf Q t) z t x o k (suc off) c | false ↦ elim d [ false ↦ c | true ↦ alightings T Q stamp (delayOf Q t) z t x o k (suc off) n ] ])
-          ≡ elim (not b) [ false ↦ PlainSearch.scan N stamp t k (suc off) (coreOf c) | true ↦ elim d [ false ↦ coreOf c | true ↦ PlainSearch.scan N stamp t k (suc off) n′ ] ]
-      go true d p q = p
-      go false false p q = refl
-      go false true p q = q
+      -- what is done at an arrival a, where the net's is v
+      left : (d : Bool) → coreOf (alightings T Q stamp (delayOf Q t) z t x o k (suc off) (n v)) ≡ PlainSearch.scan N stamp t k (suc off) n′
+          → coreOf (elim d [ false ↦ c | true ↦ alightings T Q stamp (delayOf Q t) z t x o k (suc off) (n v) ]) ≡ elim d [ false ↦ coreOf c | true ↦ PlainSearch.scan N stamp t k (suc off) n′ ]
+      left false q = refl
+      left true q = q
 
-  sim-scan : (stamp t x o z : ℕ) (c : Arrivals) → t < trips T → ((p : ℕ) → o < p → p < stopCount T t → arrivalNow T Q (delayOf Q t) z t p ≡ N .arr t p) → coreOf (scanTripForward T Q false stamp (delayOf Q t) z t x o c) ≡ PlainSearch.ride N stamp t o (coreOf c)
+      go : (b : Bool) → (noDropOff T t off || skipped T Q (delayOf Q t) t off) ≡ b → coreOf (alightings T Q stamp (delayOf Q t) z t x o k (suc off) c) ≡ PlainSearch.scan N stamp t k (suc off) (coreOf c)
+          → coreOf (alightings T Q stamp (delayOf Q t) z t x o k (suc off) (n v)) ≡ PlainSearch.scan N stamp t k (suc off) n′
+          → let a = arrivalNow T Q (delayOf Q t) z t off in
+          coreOf (elim b [ true ↦ alightings T Q stamp (delayOf Q t) z t x o k (suc off) c | false ↦ elim (ltb a (c .best)) [ false ↦ c | true ↦ alightings T Q stamp (delayOf Q t) z t x o k (suc off) (n a) ] ])
+          ≡ elim (not b) [ false ↦ PlainSearch.scan N stamp t k (suc off) (coreOf c) | true ↦ elim (ltb v (c .best)) [ false ↦ coreOf c | true ↦ PlainSearch.scan N stamp t k (suc off) n′ ] ]
+      go true e p q = p
+      go false e p q =
+          subst (λ (a : ℕ). coreOf (elim (ltb a (c .best)) [ false ↦ c | true ↦ alightings T Q stamp (delayOf Q t) z t x o k (suc off) (n a) ]) ≡ elim (ltb v (c .best)) [ false ↦ coreOf c | true ↦ PlainSearch.scan N stamp t k (suc off) n′ ])
+          (sym (A off (omega arith) (omega arith) (ap not e))) (left (ltb v (c .best)) q)
+
+  sim-scan : (stamp t x o z : ℕ) (c : Arrivals) → t < trips T → ((p : ℕ) → o < p → p < stopCount T t → N .alight t p ≡ true → arrivalNow T Q (delayOf Q t) z t p ≡ N .arr t p) → coreOf (scanTripForward T Q false stamp (delayOf Q t) z t x o c) ≡ PlainSearch.ride N stamp t o (coreOf c)
   unfolding scanTripForward PlainSearch.ride countAt
   sim-scan stamp t x o z c h A =
       sim-alightings stamp t x o z (stopCount T t - suc o) (suc o) (λ p l u. A p (omega arith) (omega arith)) c
@@ -130,11 +137,12 @@ module _ (T : Tables) (Q : Query) where
   unfolding board PlainSearch.board
   sim-board round stamp t o k = refl
 
-  -- what a listed departure must have: its trip in the table and without windows; and, however it is boarded, the net's arrivals
+  -- what a listed departure must have: its trip in the table and without windows; and, if it may be boarded, the net's arrivals
   pub record Ridable (d : DepartureRow) : Type 0 where
     pub known : d .trip < trips T
     pub unwindowed : noWindows T (d .trip) ≡ true
-    pub arrives : (p : ℕ) → d .offset < p → p < stopCount T (d .trip) → arrivalNow T Q (delayOf Q (d .trip)) (shiftAt T Q (d .trip) (d .offset)) (d .trip) p ≡ effective T Q .arrives (d .trip) p
+    pub arrives : N .okTrip (d .trip) ≡ true → N .pick (d .trip) (d .offset) ≡ true → (p : ℕ) → d .offset < p → p < stopCount T (d .trip) → N .alight (d .trip) p ≡ true
+        → arrivalNow T Q (delayOf Q (d .trip)) (shiftAt T Q (d .trip) (d .offset)) (d .trip) p ≡ effective T Q .arrives (d .trip) p
 
   sim-departing : (round stamp x after : ℕ) (ds : List DepartureRow) (s : State) → ((d : DepartureRow) → List·Memᴰ d ds → Ridable d)
       → stateOf (scanDepartures T Q false false round stamp x after ds s) ≡ PlainSearch.departures N round stamp after (map pairOf ds) (stateOf s)
@@ -142,9 +150,11 @@ module _ (T : Tables) (Q : Query) where
   sim-departing round stamp x after [] s I = refl
   sim-departing round stamp x after (d ∷ ds) s I =
       go (leb (s .arrivals .best + marginOf T Q) (departure T (d .trip) (d .offset))) (sim-departing round stamp x after ds s (λ e m. I e (List·Memᴰ·tail m)))
-      (sim-departing round stamp x after ds n (λ e m. I e (List·Memᴰ·tail m))
+      (λ z. sim-departing round stamp x after ds n (λ e m. I e (List·Memᴰ·tail m))
       ∙ ap (λ (z : PlainSearch.St). PlainSearch.departures N round stamp after (map pairOf ds) z)
-      (ap (λ (c : PlainSearch.Core). record { c = c; k = bookOf (n .boardings) }) (sim-scan stamp (d .trip) x (d .offset) (shiftAt T Q (d .trip) (d .offset)) (s .arrivals) (I d (List·Memᴰ·head refl) .known) (I d (List·Memᴰ·head refl) .arrives))
+      (ap (λ (c : PlainSearch.Core). record { c = c; k = bookOf (n .boardings) })
+      (sim-scan stamp (d .trip) x (d .offset) (shiftAt T Q (d .trip) (d .offset)) (s .arrivals) (I d (List·Memᴰ·head refl) .known)
+      (let w = takes-by N round stamp after (d .trip) (d .offset) (stateOf s) z in I d (List·Memᴰ·head refl) .arrives (w .ok) (w .pick)))
       ∙ ap (λ (k : PlainSearch.Book). record { c = PlainSearch.ride N stamp (d .trip) (d .offset) (coreOf (s .arrivals)); k = k }) (sim-board round stamp (d .trip) (d .offset) (s .boardings))))
     where
       n : State
@@ -166,18 +176,21 @@ module _ (T : Tables) (Q : Query) where
       R : Bool → Bool → PlainSearch.St
       R a b = elim a [ true ↦ stateOf s | false ↦ elim b [ true ↦ PlainSearch.departures N round stamp after (map pairOf ds) (stateOf s) | false ↦ PlainSearch.departures N round stamp after (map pairOf ds) n′ ] ]
 
-      pick : (b : Bool) → stateOf (scanDepartures T Q false false round stamp x after ds s) ≡ PlainSearch.departures N round stamp after (map pairOf ds) (stateOf s) → stateOf (scanDepartures T Q false false round stamp x after ds n) ≡ PlainSearch.departures N round stamp after (map pairOf ds) n′
+      pick : (b : Bool) → PlainSearch.skips N stamp after (d .trip) (d .offset) (stateOf s) ≡ b → stateOf (scanDepartures T Q false false round stamp x after ds s) ≡ PlainSearch.departures N round stamp after (map pairOf ds) (stateOf s)
+          → (PlainSearch.skips N stamp after (d .trip) (d .offset) (stateOf s) ≡ false → stateOf (scanDepartures T Q false false round stamp x after ds n) ≡ PlainSearch.departures N round stamp after (map pairOf ds) n′)
           → stateOf (F (elim b [ true ↦ Nothing | false ↦ Board (boardedAt (d .trip) (d .offset)) ])) ≡ elim b [ true ↦ PlainSearch.departures N round stamp after (map pairOf ds) (stateOf s) | false ↦ PlainSearch.departures N round stamp after (map pairOf ds) n′ ]
-      pick true p q = p
-      pick false p q = q
+      pick true e p q = p
+      pick false e p q = q e
 
-      go : (a : Bool) → stateOf (scanDepartures T Q false false round stamp x after ds s) ≡ PlainSearch.departures N round stamp after (map pairOf ds) (stateOf s) → stateOf (scanDepartures T Q false false round stamp x after ds n) ≡ PlainSearch.departures N round stamp after (map pairOf ds) n′
+      go : (a : Bool) → stateOf (scanDepartures T Q false false round stamp x after ds s) ≡ PlainSearch.departures N round stamp after (map pairOf ds) (stateOf s)
+          → (PlainSearch.skips N stamp after (d .trip) (d .offset) (stateOf s) ≡ false → stateOf (scanDepartures T Q false false round stamp x after ds n) ≡ PlainSearch.departures N round stamp after (map pairOf ds) n′)
           → stateOf (elim a [ true ↦ s | false ↦ F (boarding T Q stamp after (delayOf Q (d .trip)) (d .trip) (d .offset) s) ]) ≡ R a (PlainSearch.skips N stamp after (d .trip) (d .offset) (stateOf s))
       go true p q = refl
-      go false p q = ap (λ z. stateOf (F z)) (sim-boarding stamp after (d .trip) (d .offset) s (I d (List·Memᴰ·head refl) .unwindowed)) ∙ pick (PlainSearch.skips N stamp after (d .trip) (d .offset) (stateOf s)) p q
+      go false p q = ap (λ z. stateOf (F z)) (sim-boarding stamp after (d .trip) (d .offset) s (I d (List·Memᴰ·head refl) .unwindowed)) ∙ pick (PlainSearch.skips N stamp after (d .trip) (d .offset) (stateOf s)) refl p q
 
   -- the scan may begin at the first departure that is not too early
-  late-enough : (round stamp after : ℕ) (ds : List DepartureRow) (s : PlainSearch.St) → after ≤ s .c .B → ((d : DepartureRow) → List·Memᴰ d ds → effective T Q .departs (d .trip) (d .offset) ≤ departure T (d .trip) (d .offset) + marginOf T Q)
+  late-enough : (round stamp after : ℕ) (ds : List DepartureRow) (s : PlainSearch.St) → after ≤ s .c .B
+      → ((d : DepartureRow) → List·Memᴰ d ds → N .okTrip (d .trip) ≡ true → N .pick (d .trip) (d .offset) ≡ true → effective T Q .departs (d .trip) (d .offset) ≤ departure T (d .trip) (d .offset) + marginOf T Q)
       → PlainSearch.departures N round stamp after (map pairOf (notBefore T (after - marginOf T Q) ds)) s ≡ PlainSearch.departures N round stamp after (map pairOf ds) s
   unfolding notBefore
   late-enough round stamp after [] s h I = refl
@@ -187,11 +200,18 @@ module _ (T : Tables) (Q : Query) where
           → PlainSearch.departures N round stamp after (map pairOf (elim b as (λ z. List DepartureRow) [ true ↦ notBefore T (after - marginOf T Q) ds | false ↦ d ∷ ds ])) s ≡ PlainSearch.departures N round stamp after (map pairOf (d ∷ ds)) s
       go true e p =
           let l : departure T (d .trip) (d .offset) < after - marginOf T Q = ltb-true _ _ e in
-          let r = I d (List·Memᴰ·head refl) in
-          p ∙ sym (early N round stamp after (pairOf d ∷ []) (map pairOf ds) s h (λ z m. subst (λ (y : ℕ × ℕ). (departure T (y .0) (y .1) < after) × (effective T Q .departs (y .0) (y .1) < after)) (sym (List·Memᴰ·eq-of-singleton m)) (before _ _ _ _ l r)))
+          p ∙ sym (early N round stamp after (pairOf d ∷ []) (map pairOf ds) s h
+          (λ z m. subst (λ (y : ℕ × ℕ). (departure T (y .0) (y .1) < after) × ((s : PlainSearch.St) → PlainSearch.skips N stamp after (y .0) (y .1) s ≡ true))
+          (sym (List·Memᴰ·eq-of-singleton m)) (omega arith, passed-over l (N .okTrip (d .trip)) refl (N .pick (d .trip) (d .offset)) refl)))
         where
-          before : (a m s d : ℕ) → s < a - m → d ≤ s + m → (s < a) × (d < a)
-          before a m s d u v = (omega arith, omega arith)
+          before : (a m s d : ℕ) → s < a - m → d ≤ s + m → d < a
+          before a m s d u v = omega arith
+
+          passed-over : departure T (d .trip) (d .offset) < after - marginOf T Q → (b : Bool) → N .okTrip (d .trip) ≡ b → (c : Bool) → N .pick (d .trip) (d .offset) ≡ c
+              → (s : PlainSearch.St) → PlainSearch.skips N stamp after (d .trip) (d .offset) s ≡ true
+          passed-over l false i c k s = trip-skips N round stamp after (d .trip) (d .offset) s i
+          passed-over l true i false k s = pick-skips N round stamp after (d .trip) (d .offset) s k
+          passed-over l true i true k s = early-skips N round stamp after (d .trip) (d .offset) s (before _ _ _ _ l (I d (List·Memᴰ·head refl) i k))
       go false e p = refl
 
   kept-members : (P : DepartureRow → Type 0) (after : ℕ) (ds : List DepartureRow) → ((d : DepartureRow) → List·Memᴰ d ds → P d) → (d : DepartureRow) → List·Memᴰ d (notBefore T after ds) → P d
@@ -244,7 +264,7 @@ module _ (T : Tables) (Q : Query) where
       go false f true e m g p q = p
       go true f false e m g p q = absurd (omega (arith, top, eqb-true (getD (s .arrivals .earliest) x 0) never f, leb-false (s .arrivals .best) (getD (s .arrivals .earliest) x 0 + changeBefore Q round) e))
       go false f false e true g p q = absurd (no-both refl g)
-      go false f false e false g p q = q ∙ ap (PlainSearch.stops N round stamp xs) (late-enough round stamp a (departuresAt T x) (stateOf s) (let l : a < s .arrivals .best = leb-false _ _ e in omega arith) (λ d m. P .late (d .trip) (d .offset) (P .listed x (d .trip) (d .offset) (Memᴰ·map pairOf m))))
+      go false f false e false g p q = q ∙ ap (PlainSearch.stops N round stamp xs) (late-enough round stamp a (departuresAt T x) (stateOf s) (let l : a < s .arrivals .best = leb-false _ _ e in omega arith) (λ d m i k. P .late (d .trip) (d .offset) (record { at = x; listed = Memᴰ·map pairOf m; ok = i; pick = k })))
 
   sim-walkFrom : (stamp x v : ℕ) (es : List ℕ) (c : Arrivals) → coreOf (walkFrom T Q false stamp x v es c) ≡ PlainSearch.walk N stamp v (map (walkOf T Q) es) (coreOf c)
   unfolding walkFrom PlainSearch.walk

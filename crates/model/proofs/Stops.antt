@@ -47,7 +47,7 @@ module _ (N : Net) (round stamp : ℕ) where
         at-value = at (s .c) x;
         low = stops-le r .e x;
         high = le-refl _;
-        closed = record { ride = λ t o i k p d. ridden-le (stops-le r) (ridden-best P (le-trans (subst (λ (z : ℕ). s .c .B ≤ at (s .c) z + change N round) (sym e) h) d)) };
+        closed = record { ride = λ t o i k p d. ridden-le (stops-le r) (ridden-best P (record { at = x; listed = i; ok = k; pick = p }) (le-trans (subst (λ (z : ℕ). s .c .B ≤ at (s .c) z + change N round) (sym e) h) d)) };
       })
       (λ m′. stops-handled P K r x m′)
       (List·Memᴰ·cases-cons m)
@@ -57,9 +57,9 @@ module _ (N : Net) (round stamp : ℕ) where
         at-value = at (s .c) y;
         low = Le-trans (stops-le r) (deps-le N round stamp _ d) .e y;
         high = le-refl _;
-        closed = record { ride = λ t o i k p q. ridden-le (stops-le r) (deps-ridden N round stamp _ P (P .sorted y) (λ t o i. P .listed y t o i) K d t o i (record { ok = k; pick = p; late = q })) };
+        closed = record { ride = λ t o i k p q. ridden-le (stops-le r) (deps-ridden N round stamp _ P (P .sorted y) (λ t o i. i) K d t o i (record { ok = k; pick = p; late = q })) };
       }))
-      (λ m′. let g = stops-handled P (deps-kept N round stamp _ P (λ t o i. P .listed y t o i) K d) r x m′ in
+      (λ m′. let g = stops-handled P (deps-kept N round stamp _ P {x = y} (λ t o i. i) K d) r x m′ in
       record { at-value = g .at-value; low = g .low; high = le-trans (g .high) (deps-le N round stamp _ d .e x); closed = g .closed })
       (List·Memᴰ·cases-cons m)
 

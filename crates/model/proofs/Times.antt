@@ -1,24 +1,16 @@
--- No trip's times fall: from neighbours to any two offsets.
+-- No scheduled times fall: from neighbours to any two offsets.
 use Prim.Native.Nat.{ℕ, zero, suc, _+_, _-_, _≤_, _<_}
 use mathlib.Core.Path.{_≡_, subst}
-use native.Mathlib.Nat.{le-refl, le-trans, suc-add, zero-add}
+use native.Mathlib.Nat.{suc-add, zero-add}
 use native.Mathlib.Omega.{arith}
-use Rattle.model.proofs.Net.{Net}
+use Rattle.model.specs.Tables.{Tables, trips, stopCount, arrival, departure}
+use Rattle.model.specs.Promise.{NoTimesFall}
 
-module _ (N : Net) (up : (t o : ℕ) → o < N .len t → N .arr t o ≤ N .dep t o) (on : (t o : ℕ) → suc o < N .len t → N .dep t o ≤ N .arr t (suc o)) where
-  dep-by : (t o k : ℕ) → k + o < N .len t → N .dep t o ≤ N .dep t (k + o)
-  dep-by t o zero h = rw zero-add (le-refl _)
-  dep-by t o (suc k) h = rw suc-add (le-trans (dep-by t o k (omega arith)) (le-trans (on t (k + o) (omega arith)) (up t (suc (k + o)) (omega arith))))
+module _ (T : Tables) (F : NoTimesFall T) where
+  further : (t o k : ℕ) → t < trips T → suc (k + o) < stopCount T t → departure T t o ≤ arrival T t (suc (k + o))
+  further t o zero u h = rw zero-add (let r = F .rides t o u (omega arith) in omega (arith, r))
+  further t o (suc k) u h =
+      rw suc-add (let d = further t o k u (omega arith) in let w = F .waits t (suc (k + o)) u (omega arith) in let r = F .rides t (suc (k + o)) u (omega arith) in omega (arith, d, w, r))
 
-  pub dep-dep : (t o p : ℕ) → o ≤ p → p < N .len t → N .dep t o ≤ N .dep t p
-  dep-dep t o p h l = let e : (p - o) + o ≡ p = omega arith in subst (λ (x : ℕ). N .dep t o ≤ N .dep t x) e (dep-by t o (p - o) (omega arith))
-
-  arr-by : (t o k : ℕ) → k + o < N .len t → N .arr t o ≤ N .arr t (k + o)
-  arr-by t o zero h = rw zero-add (le-refl _)
-  arr-by t o (suc k) h = rw suc-add (le-trans (arr-by t o k (omega arith)) (le-trans (up t (k + o) (omega arith)) (on t (k + o) (omega arith))))
-
-  pub arr-arr : (t o p : ℕ) → o ≤ p → p < N .len t → N .arr t o ≤ N .arr t p
-  arr-arr t o p h l = let e : (p - o) + o ≡ p = omega arith in subst (λ (x : ℕ). N .arr t o ≤ N .arr t x) e (arr-by t o (p - o) (omega arith))
-
-  pub dep-arr : (t o p : ℕ) → o < p → p < N .len t → N .dep t o ≤ N .arr t p
-  dep-arr t o p h l = le-trans (on t o (omega arith)) (arr-arr t (suc o) p h l)
+  pub later : (t o p : ℕ) → t < trips T → o < p → p < stopCount T t → departure T t o ≤ arrival T t p
+  later t o p u h l = let e : suc ((p - suc o) + o) ≡ p = omega arith in subst (λ (x : ℕ). departure T t o ≤ arrival T t x) e (further t o (p - suc o) u (omega arith))

@@ -17,12 +17,13 @@ use Rattle.signed.proofs.Laws.{of-low, of-high, of-sub, moved-low, moved-high}
 use Rattle.realtime.specs.Times.{departureGiven, arrivalGiven, sizeOf, shifted}
 use Rattle.realtime.proofs.Times.{arrival-shifted, shifted-near}
 use Rattle.delay_tables.specs.Delays.{stopRow, besideTrip}
-use Rattle.model.specs.Tables.{Tables, Query, trips, stopCount, arrival, departure, sequence}
+use Rattle.model.specs.Tables.{Tables, Query, stops, trips, stopCount, arrival, departure, sequence}
 use Rattle.model.specs.Search.{delayOf, delayAt}
 use Rattle.model.specs.Door.{Door}
-use Rattle.model.specs.Promise.{scheduled, effective, NoTimesFall, CalmDay, arrivesFrom, SteadyDay, TripDelays}
+use Rattle.model.specs.Promise.{effective, Boarding, NoTimesFall, CalmDay, arrivesFrom, SteadyDay, TripDelays}
 use Rattle.model.proofs.Base.{no-both, or-false, and-true}
 use Rattle.model.proofs.Sizes.{shifted-back}
+use Rattle.model.proofs.Times.{later}
 use Rattle.model.proofs.Delayed.{row-below, row-trip}
 
 -- a later time is moved to no earlier one
@@ -147,15 +148,30 @@ module _ (T : Tables) (Q : Query) (D : Door T Q) (S : TripDelays T Q) where
       ∙ back (departure T t o) (lateBy Q (delayOf Q t)) (omega (arith, D .departure-small t o u (omega arith))) (omega (arith, late-small t)) (exact t o u (omega arith)))
       ∙ sym (arrives-late t p u)
 
-  pub trip-delays-steady : CalmDay T Q → NoTimesFall T (scheduled T) → SteadyDay T Q
+  -- a boarding is of a trip of the table
+  known : (x t o : ℕ) → x < stops T → Boarding T Q (effective T Q) x t o → (t < trips T) × (o < stopCount T t)
+  known x t o h b = (D .listed-trip x _ h (b .listed), D .listed-offset x _ h (b .listed))
+
+  module _ (F : NoTimesFall T) where
+    up : (t p : ℕ) → t < trips T → p < stopCount T t → effective T Q .arrives t p ≤ effective T Q .departs t p
+    up t p u n =
+        let l = F .waits t p u n in
+        let m = shifted-mono (arrival T t p) (departure T t p) (lateBy Q (delayOf Q t)) (omega (arith, l)) in
+        omega (arith, m, departs-late t p u, arrives-late t p u)
+
+    on : (t o p : ℕ) → t < trips T → o < p → p < stopCount T t → effective T Q .departs t o ≤ effective T Q .arrives t p
+    on t o p u l n =
+        let m = shifted-mono (departure T t o) (arrival T t p) (lateBy Q (delayOf Q t)) (later T F t o p u l n) in
+        omega (arith, m, departs-late t o u, arrives-late t p u)
+
+  pub trip-delays-steady : CalmDay T Q → NoTimesFall T → SteadyDay T Q
   trip-delays-steady C F =
       record {
         calm = C;
-        no-times-fall = record {
-          waits = λ t o u n. let l = F .waits t o u n in let m = shifted-mono (arrival T t o) (departure T t o) (lateBy Q (delayOf Q t)) (omega (arith, l)) in omega (arith, m, departs-late t o u, arrives-late t o u);
-          rides = λ t o u n. let l = F .rides t o u n in let m = shifted-mono (departure T t o) (arrival T t (suc o)) (lateBy Q (delayOf Q t)) (omega (arith, l)) in omega (arith, m, departs-late t o u, arrives-late t (suc o) u);
-        };
-        not-late = λ t o u n. omega (arith, departs-late t o u, shifted-near (departure T t o) (lateBy Q (delayOf Q t)), within t u);
-        not-early = λ t o u n. omega (arith, departs-late t o u, shifted-back (departure T t o) (lateBy Q (delayOf Q t)), within t u);
-        one-arrival = λ t o p u l n. one t o p u (omega (arith, l)) n;
+        rides = λ x t o p h b a. omega (arith, on F t o p (known x t o h b .0) (a .later) (a .inside));
+        arrivals = λ x t o p q h b a c l. let u = known x t o h b .0 in omega (arith, up F t p u (a .inside), on F t p q u l (c .inside));
+        departures = λ x y t o p h i b c l. let k = known y t p i c in omega (arith, on F t o p (k .0) l (k .1), up F t p (k .0) (k .1));
+        not-late = λ x t o h b. let u = known x t o h b .0 in omega (arith, departs-late t o u, shifted-near (departure T t o) (lateBy Q (delayOf Q t)), within t u);
+        not-early = λ x t o h b. let u = known x t o h b .0 in omega (arith, departs-late t o u, shifted-back (departure T t o) (lateBy Q (delayOf Q t)), within t u);
+        one-arrival = λ x t o p h b a. one t o p (known x t o h b .0) (omega (arith, a .later)) (a .inside);
       }

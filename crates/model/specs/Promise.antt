@@ -1,6 +1,6 @@
--- What a guest relies on (the request's demand 3): plain day, steady day, journey, way, and the demand itself, in the request's and
--- document 01's words. Journeys and ways take the trips' times as a parameter, of which there are two: on a plain day the request speaks of
--- the scheduled ones; on a steady day, which has delays, the promise is of the effective ones. No memory and no search stands here, but
+-- What a guest relies on (the request's demand 3): plain day, journey, way, and the demand itself, in the request's and document 01's
+-- words; then days with delays, to which the promise is carried on. Journeys and ways take the trips' times as a parameter, of which there are
+-- two: on a plain day, as in the request, the scheduled ones; on a steady day the effective ones. No memory and no search stands here, but
 -- how it reads the delay rows, and the log of the query's scans that a way's rounds refer to. Definitions only.
 use Prim.Native.Nat.{ℕ, zero, suc, _+_, _≤_, _<_}
 use mathlib.Core.Path.{_≡_}
@@ -32,20 +32,10 @@ pub record TripTimes : Type 0 where
 abbrev pub scheduled : Tables → TripTimes
 scheduled T = record { departs = departure T; arrives = arrival T; served = λ t o. true }
 
--- effective (01, item 4): departure and arrival are each moved by their own delay where a stop row gives one, else by the trip's, and
--- floored at 0; a skipped stop is not served
-abbrev pub effective : Tables → Query → TripTimes
-effective T Q =
-    record {
-      departs = λ t o. effectiveDeparture (departure T t o) (delayAt T Q (delayOf Q t) t o);
-      arrives = λ t o. let d = delayAt T Q (delayOf Q t) t o in shifted (arrival T t o) (cond (arrivalGiven (d .flags)) (d .«arrival_delay») (d .«trip_delay»));
-      served = λ t o. not (skipped T Q (delayOf Q t) t o);
-    }
-
--- "no trip whose times fall": no departure precedes its arrival, no arrival the departure before it
-pub record NoTimesFall (T : Tables) (W : TripTimes) : Type 0 where
-  pub waits : (t o : ℕ) → t < trips T → o < stopCount T t → W .arrives t o ≤ W .departs t o
-  pub rides : (t o : ℕ) → t < trips T → suc o < stopCount T t → W .departs t o ≤ W .arrives t (suc o)
+-- "no trip whose times fall", on schedule: no departure precedes its arrival, no arrival the departure before it
+pub record NoTimesFall (T : Tables) : Type 0 where
+  pub waits : (t o : ℕ) → t < trips T → o < stopCount T t → arrival T t o ≤ departure T t o
+  pub rides : (t o : ℕ) → t < trips T → suc o < stopCount T t → departure T t o ≤ arrival T t (suc o)
 
 module _ (T : Tables) (Q : Query) where
   -- what both kinds of day have
@@ -75,39 +65,12 @@ module _ (T : Tables) (Q : Query) where
     pub transfers-built : (t o : ℕ) → t < trips T → o < stopCount T t → T .transfers t o ≡ builtTransfers (transferInput T (Q .settings .transferTime)) t o
     -- "no delays": no delay row
     pub no-delays : Q .delays .delays ≡ 0
-    -- "no trip whose times fall": on schedule
-    pub no-times-fall : NoTimesFall T (scheduled T)
+    -- "no trip whose times fall"
+    pub no-times-fall : NoTimesFall T
     -- "lines evenly listed": where one trip's departure is listed at an offset, that of each trip of its line is listed at the same
     -- offset, save where its pickup is 1
     pub evenly-listed : (s t u o : ℕ) → s < stops T → List·Memᴰ (record { trip = t; offset = o }) (T .departures s) → u < trips T → T .lineOf u ≡ T .lineOf t → noPickup T u o ≡ false
         → List·Memᴰ (record { trip = u; offset = o }) (T .departures s)
-
-  -- when one who boarded trip t at offset o arrives at offset p (01, item 4): where the stop row there gives neither time, the arrival is
-  -- moved as far as the departure boarded was
-  abbrev pub arrivesFrom : ℕ → ℕ → ℕ → ℕ
-  arrivesFrom t o p = arrivalNow T Q (delayOf Q t) (bitsOf (subℕ (effective T Q .departs t o) (departure T t o))) t p
-
-  -- STEADY DAY: with delays and skipped stops, whatever the transfers, and lines listed in any way
-  pub record SteadyDay : Type 0 where
-    pub calm : CalmDay
-    -- no trip's effective times fall
-    pub no-times-fall : NoTimesFall T (effective T Q)
-    -- no departure is further from its schedule than the cap of the margin
-    pub not-late : (t o : ℕ) → t < trips T → o < stopCount T t → effective T Q .departs t o ≤ departure T t o + Q .settings .marginCap
-    pub not-early : (t o : ℕ) → t < trips T → o < stopCount T t → departure T t o ≤ effective T Q .departs t o + Q .settings .marginCap
-    -- a trip arrives when it does, wherever one boarded it
-    pub one-arrival : (t o p : ℕ) → t < trips T → o < p → p < stopCount T t → arrivesFrom t o p ≡ effective T Q .arrives t p
-
-  -- DELAYS OF WHOLE TRIPS, which make a day steady whose schedule does not fall: of a trip in the table
-  pub record TripDelays : Type 0 where
-    -- a stop row may say "skipped", and gives no time
-    pub only-skips : (j : ℕ) → j < Q .delays .stopRows → Q .delays .delay (Q .delays .stopRow j .row) .trip < trips T
-        → (departureGiven (Q .delays .stopRow j .flags) || arrivalGiven (Q .delays .stopRow j .flags)) ≡ false
-    -- the delay is no larger than the cap of the margin
-    pub within-cap : (i : ℕ) → i < Q .delays .delays → Q .delays .delay i .trip < trips T → sizeOf (Q .delays .delay i .delay) ≤ Q .settings .marginCap
-    -- and puts no departure before 0
-    pub after-zero : (i o : ℕ) → i < Q .delays .delays → Q .delays .delay i .trip < trips T → o < stopCount T (Q .delays .delay i .trip)
-        → nonNeg (pos (departure T (Q .delays .delay i .trip) o) +ℤ ofBits (Q .delays .delay i .delay)) ≡ true
 
 module _ (T : Tables) (Q : Query) (W : TripTimes) where
   -- BOARDING (01, "Permitted"): at stop x, trip t at offset o. The trip is permitted, the departure is listed, pickup is not 1, the
@@ -182,3 +145,47 @@ module _ (T : Tables) (Q : Query) (W : TripTimes) where
   pub record Pareto (A : Answer) : Type 0 where
     pub covers : (k v : ℕ) → k ≤ roundsOf Q → JourneyOf k v → v ≤ A .total + Q .settings .candidateSlack
         → (c : ℕ × ℕ × ℕ) × (List·Memᴰ c (A .candidates)) × (c .0 ≤ v) × (c .2 ≤ k)
+
+-- DAYS WITH DELAYS. Effective times (01, item 4): departure and arrival are each moved by their own delay where a stop row gives one, else by
+-- the trip's, and floored at 0; a skipped stop is not served.
+abbrev pub effective : Tables → Query → TripTimes
+effective T Q =
+    record {
+      departs = λ t o. effectiveDeparture (departure T t o) (delayAt T Q (delayOf Q t) t o);
+      arrives = λ t o. let d = delayAt T Q (delayOf Q t) t o in shifted (arrival T t o) (cond (arrivalGiven (d .flags)) (d .«arrival_delay») (d .«trip_delay»));
+      served = λ t o. not (skipped T Q (delayOf Q t) t o);
+    }
+
+module _ (T : Tables) (Q : Query) where
+  -- when one who boarded trip t at offset o arrives at offset p (01, item 4): where the stop row there gives neither time, the arrival is
+  -- moved as far as the departure boarded was
+  abbrev pub arrivesFrom : ℕ → ℕ → ℕ → ℕ
+  arrivesFrom t o p = arrivalNow T Q (delayOf Q t) (bitsOf (subℕ (effective T Q .departs t o) (departure T t o))) t p
+
+  abbrev W : TripTimes
+  W = effective T Q
+
+  -- STEADY DAY: with delays and skipped stops, whatever the transfers, and lines listed in any way. Of every ride that tables and query permit,
+  -- by effective times: a trip t boarded at a stop x, at offset o, and left at p
+  pub record SteadyDay : Type 0 where
+    pub calm : CalmDay T Q
+    -- the trip's times do not fall: from departure to arrival, from arrival to arrival, from departure to departure
+    pub rides : (x t o p : ℕ) → x < stops T → Boarding T Q W x t o → Alighting T Q W t o p → W .departs t o ≤ W .arrives t p
+    pub arrivals : (x t o p q : ℕ) → x < stops T → Boarding T Q W x t o → Alighting T Q W t o p → Alighting T Q W t o q → p < q → W .arrives t p ≤ W .arrives t q
+    pub departures : (x y t o p : ℕ) → x < stops T → y < stops T → Boarding T Q W x t o → Boarding T Q W y t p → o < p → W .departs t o ≤ W .departs t p
+    -- the departure is no further from its schedule than the cap of the margin
+    pub not-late : (x t o : ℕ) → x < stops T → Boarding T Q W x t o → W .departs t o ≤ departure T t o + Q .settings .marginCap
+    pub not-early : (x t o : ℕ) → x < stops T → Boarding T Q W x t o → departure T t o ≤ W .departs t o + Q .settings .marginCap
+    -- the trip arrives when it does, wherever it was boarded
+    pub one-arrival : (x t o p : ℕ) → x < stops T → Boarding T Q W x t o → Alighting T Q W t o p → arrivesFrom t o p ≡ W .arrives t p
+
+  -- DELAYS OF WHOLE TRIPS, which make a calm day steady where no scheduled times fall. Of a trip in the table:
+  pub record TripDelays : Type 0 where
+    -- a stop row may say "skipped", and gives no time
+    pub only-skips : (j : ℕ) → j < Q .delays .stopRows → Q .delays .delay (Q .delays .stopRow j .row) .trip < trips T
+        → (departureGiven (Q .delays .stopRow j .flags) || arrivalGiven (Q .delays .stopRow j .flags)) ≡ false
+    -- the delay is no larger than the cap of the margin
+    pub within-cap : (i : ℕ) → i < Q .delays .delays → Q .delays .delay i .trip < trips T → sizeOf (Q .delays .delay i .delay) ≤ Q .settings .marginCap
+    -- and puts no departure before 0
+    pub after-zero : (i o : ℕ) → i < Q .delays .delays → Q .delays .delay i .trip < trips T → o < stopCount T (Q .delays .delay i .trip)
+        → nonNeg (pos (departure T (Q .delays .delay i .trip) o) +ℤ ofBits (Q .delays .delay i .delay)) ≡ true
