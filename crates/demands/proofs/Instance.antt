@@ -2,14 +2,15 @@
 -- them, the day that they say is a plain one, and the call's whole outcome is the answer with the total 385 at stop 2.
 use Prim.Native.Nat.{ℕ, zero, suc, _-_, _<_}
 use mathlib.Core.Path.{_≡_, refl, ap}
+use mathlib.Core.Bool.{true}
 use mathlib.Core.List.{[], _∷_, flatten}
 use native.Mathlib.Omega.{arith}
 use lib.ListN.{length, getD, replicate}
 use Rattle.label.specs.Label.{noDistance}
-use Rattle.model.specs.Tables.{Tables, Query, stopCount, changeBefore, isEgress, egressWalk, edgesFrom, fifo, modeWanted, usable, permitted}
+use Rattle.model.specs.Tables.{Tables, Query, stops, trips, stopCount, changeBefore, isEgress, egressWalk, edgesFrom, fifo, modeWanted, usable, permitted}
 use Rattle.model.specs.Search.{targetsFrom, targetCells, holdsTarget, useArcFlags, someTransfer, skipsEdge, skipsTransfer, flagsInUse, departuresAt, markAt, lineAt, notBefore, boardAt, bestAfter, improve, relax, resolveIn, lineTripsAt, resolve, enqueue, takeTransfers, alightings, transferring, scanTripForward, rideSegments, dominated, pruned, passedOver, boarding, board, scanDepartures, scanStops, walkFrom, walkAll, ridePhase, stamped, walkPhase, idle, rounds, setOut, access, bestTarget, rowTarget, candidatesFrom, final, answer, query as thePromise}
-use Rattle.model.specs.Promise.{transferInput, scheduled, PlainDay, Demand3}
-use Rattle.days.proofs.DayTests.{allOf, allIn, anyIn, sortedTest, risingTest, has, calm-when, plain-when}
+use Rattle.model.specs.Promise.{transferInput, scheduled, CalmDay, PlainDay, Demand3}
+use Rattle.days.proofs.DayTests.{allOf, allIn, anyIn, sortedTest, risingTest, has, calmTests, calm-when, plain-when}
 use Rattle.asking.specs.Lent.{Lent, tablesOf, queryOf}
 use Rattle.asking.specs.Door.{question1, readOk, writtenOk, question2, transferRunsOk, question3, columnBelow, lineNumbers, queryNumbers, question4, markRanges, transferRanges, settingRanges, walkRanges, question5, notEarlier, partOrder, departureOrder, columnRises, question6, verdict}
 use Rattle.tables.specs.Door.{countsOk, slicesOk, tripRuns, stopTimeNumbers, edgeNumbers, stopTimeRanges, tripRanges, windowRanges, edgeRanges, edgeRises, runsOk, numbersOk, rangesOk, orderOk}
@@ -18,7 +19,7 @@ use Rattle.line_layout.specs.Listed.{runIn as lineRunIn, lineRunsOk, entriesOk}
 use Rattle.asking.proofs.Examples.{tK, builtK, transfersK, qK, query, time, trip, counts}
 use Rattle.tables.specs.Tables.{timeOf, tripOf, windowOf, edgeOf, cellOf}
 use Rattle.line_transfers.specs.Transfers.{eventsBefore, departuresOfLine, firstNotBefore, transferTo, transfersOf, builtTransfers}
-use Rattle.line_numbers.specs.Lines.{same, leadOf, isLead, lineOf, lineTrips}
+use Rattle.line_numbers.specs.Lines.{same, leadOf, isLead, lineOf, linesOf, lineTrips}
 use Rattle.departures.specs.Departures.{frequencyListed, sorted, markOf}
 use Rattle.tables.specs.Timetable.{Timetable}
 use Rattle.loops.specs.Iter.{iter, every, first, some}
@@ -40,9 +41,6 @@ tablesK = tablesOf lentK
 abbrev pub queryK : Query
 queryK = queryOf lentK
 
-abbrev X : Timetable
-X = tablesK .timetable
-
 -- the stops, the trips and the lines are 0, 1, 2; 0, 1, 2; 0, 1
 pub below-three : (P : ℕ → Type 0) → P 0 → P 1 → P 2 → (i : ℕ) → i < 3 → P i
 below-three P a b c zero h = a
@@ -55,23 +53,41 @@ below-two P a b zero h = a
 below-two P a b (suc zero) h = b
 below-two P a b (suc (suc i)) h = absurd (omega arith)
 
--- THE DAY THAT THE SLICES SAY IS A PLAIN ONE: tables as built, from the departures as they are listed
+-- three stops, three trips in lines of two and one: tables that are as built, place by place, from the departures as they are listed
+pub calm-three : (T : Tables) (Q : Query) → let X = T .timetable in stops T ≡ 3 → trips T ≡ 3 → T .lines ≡ linesOf X → linesOf X ≡ 2 → T .line 0 .count ≡ 2 → T .line 1 .count ≡ 1
+    → (T .departures 0 ≡ sorted X (T .departures 0)) × (T .departures 1 ≡ sorted X (T .departures 1)) × (T .departures 2 ≡ sorted X (T .departures 2))
+    → (T .mark 0 ≡ markOf X (T .departures 0)) × (T .mark 1 ≡ markOf X (T .departures 1)) × (T .mark 2 ≡ markOf X (T .departures 2))
+    → (T .lineOf 0 ≡ lineOf X 0) × (T .lineOf 1 ≡ lineOf X 1) × (T .lineOf 2 ≡ lineOf X 2)
+    → (T .line 0 .count ≡ length (lineTrips X 0)) × (T .line 1 .count ≡ length (lineTrips X 1))
+    → (T .line 0 .trip 0 ≡ getD (lineTrips X 0) 0 0) × (T .line 0 .trip 1 ≡ getD (lineTrips X 0) 1 0) × (T .line 1 .trip 0 ≡ getD (lineTrips X 1) 0 0)
+    → allOf (calmTests T Q) ≡ true → CalmDay T Q
+calm-three T Q s t l n c e departures marks line counts trips =
+    calm-when T Q (T .departures)
+    (λ x h. below-three (λ (x : ℕ). T .departures x ≡ sorted X (T .departures x)) (departures .0) (departures .1) (departures .2) x (omega (arith, s, h)))
+    (λ x h. below-three (λ (x : ℕ). T .mark x ≡ markOf X (T .departures x)) (marks .0) (marks .1) (marks .2) x (omega (arith, s, h)))
+    l
+    (λ u h. below-three (λ (u : ℕ). T .lineOf u ≡ lineOf X u) (line .0) (line .1) (line .2) u (omega (arith, t, h)))
+    (record {
+      count = λ k h. below-two (λ (k : ℕ). T .line k .count ≡ length (lineTrips X k)) (counts .0) (counts .1) k (omega (arith, n, h));
+      trip = λ k p h i. below-two (λ (k : ℕ). p < T .line k .count → T .line k .trip p ≡ getD (lineTrips X k) p 0)
+          (λ i. below-two (λ (p : ℕ). T .line 0 .trip p ≡ getD (lineTrips X 0) p 0) (trips .0) (trips .1) p (omega (arith, c, i)))
+          (λ i. only p (omega (arith, e, i)))
+          k (omega (arith, n, h)) i;
+    })
+  where
+    X : Timetable
+    X = T .timetable
+
+    only : (p : ℕ) → p < 1 → T .line 1 .trip p ≡ getD (lineTrips X 1) p 0
+    only zero h = trips .2
+    only (suc p) h = absurd (omega arith)
+
+-- THE DAY THAT THE SLICES SAY IS A PLAIN ONE: tables as built
 pub plain-K : PlainDay tablesK queryK
 unfolding qK query transfersK builtK tK time trip counts timeOf tripOf windowOf edgeOf eventsBefore allOf allIn anyIn sortedTest risingTest has effectiveDuration edgesFrom targetsFrom targetCells holdsTarget useArcFlags someTransfer skipsEdge skipsTransfer flagsInUse frequencyListed same leadOf isLead lineOf lineTrips departuresOfLine firstNotBefore transferTo transfersOf iter every first some count tabFrom insertBy sortBy keep flatten cellOf
 plain-K =
     plain-when tablesK queryK
-    (calm-when tablesK queryK (tablesK .departures)
-    (below-three (λ (s : ℕ). tablesK .departures s ≡ sorted X (tablesK .departures s)) refl refl refl)
-    (below-three (λ (s : ℕ). tablesK .mark s ≡ markOf X (tablesK .departures s)) refl refl refl)
-    refl
-    (below-three (λ (t : ℕ). tablesK .lineOf t ≡ lineOf X t) refl refl refl)
-    (record {
-      count = below-two (λ (l : ℕ). tablesK .line l .count ≡ length (lineTrips X l)) refl refl;
-      trip = λ l p h i. below-two (λ (l : ℕ). (p : ℕ) → p < tablesK .line l .count → tablesK .line l .trip p ≡ getD (lineTrips X l) p 0)
-          (below-two (λ (p : ℕ). tablesK .line 0 .trip p ≡ getD (lineTrips X 0) p 0) refl refl)
-          (λ p i. below-two (λ (p : ℕ). p < 1 → tablesK .line 1 .trip p ≡ getD (lineTrips X 1) p 0) (λ h. refl) (λ h. absurd (omega arith)) p (omega arith) i)
-          l h p i;
-    }))
+    (calm-three tablesK queryK refl refl refl refl refl refl (refl, refl, refl) (refl, refl, refl) (refl, refl, refl) (refl, refl) (refl, refl, refl))
     (λ t o h i. below-three (λ (t : ℕ). (o : ℕ) → o < stopCount tablesK t → tablesK .transfers t o ≡ builtTransfers (transferInput tablesK 120) t o)
     (below-three (λ (o : ℕ). tablesK .transfers 0 o ≡ builtTransfers (transferInput tablesK 120) 0 o) refl refl refl)
     (below-three (λ (o : ℕ). tablesK .transfers 1 o ≡ builtTransfers (transferInput tablesK 120) 1 o) refl refl refl)

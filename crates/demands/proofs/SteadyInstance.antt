@@ -2,16 +2,15 @@
 -- delay rows, times given at single stops, a skipped stop, and a trip that is not in the table and later than the cap (`days` specs/K
 -- `givenDelays`). The door admits the slices, the day that they say is a steady one, and the call's whole outcome is the answer with the total 450
 -- at stop 2.
-use Prim.Native.Nat.{ℕ, _<_}
+use Prim.Native.Nat.{ℕ}
 use mathlib.Core.Path.{_≡_, refl, ap}
 use mathlib.Core.List.{List, [], _∷_, _++_, flatten}
-use native.Mathlib.Omega.{arith}
-use lib.ListN.{length, getD, replicate}
+use lib.ListN.{replicate}
 use Rattle.label.specs.Label.{noDistance}
 use Rattle.model.specs.Tables.{Tables, Query, changeBefore, isEgress, egressWalk, edgesFrom, fifo, modeWanted, usable, permitted}
 use Rattle.model.specs.Search.{targetsFrom, targetCells, holdsTarget, useArcFlags, someTransfer, skipsEdge, skipsTransfer, flagsInUse, departuresAt, markAt, lineAt, notBefore, boardAt, bestAfter, improve, relax, resolveIn, lineTripsAt, resolve, enqueue, takeTransfers, alightings, transferring, scanTripForward, rideSegments, dominated, pruned, passedOver, boarding, board, scanDepartures, scanStops, walkFrom, walkAll, ridePhase, stamped, walkPhase, idle, rounds, setOut, access, bestTarget, rowTarget, candidatesFrom, final, answer, query as thePromise}
 use Rattle.model.specs.Promise.{effective, SteadyDay, Demand3}
-use Rattle.days.proofs.DayTests.{allOf, allIn, anyIn, calm-when, steady-when}
+use Rattle.days.proofs.DayTests.{allOf, allIn, anyIn, steady-when}
 use Rattle.asking.specs.Lent.{Lent, tablesOf, queryOf}
 use Rattle.asking.specs.Door.{question1, readOk, writtenOk, question2, transferRunsOk, question3, columnBelow, lineNumbers, queryNumbers, question4, markRanges, transferRanges, settingRanges, walkRanges, question5, notEarlier, partOrder, departureOrder, columnRises, question6, verdict}
 use Rattle.tables.specs.Door.{countsOk, slicesOk, tripRuns, stopTimeNumbers, edgeNumbers, stopTimeRanges, tripRanges, windowRanges, edgeRanges, edgeRises, runsOk, numbersOk, rangesOk, orderOk}
@@ -23,8 +22,7 @@ use Rattle.asking.specs.declared.QueryCounts.{QueryCounts}
 use Rattle.tables.specs.Tables.{timeOf, tripOf, windowOf, edgeOf, cellOf}
 use Rattle.line_transfers.specs.Transfers.{eventsBefore}
 use Rattle.line_numbers.specs.Lines.{same, leadOf, isLead, lineOf, lineTrips}
-use Rattle.departures.specs.Departures.{frequencyListed, sorted, markOf}
-use Rattle.tables.specs.Timetable.{Timetable}
+use Rattle.departures.specs.Departures.{frequencyListed, sorted}
 use Rattle.loops.specs.Iter.{iter, every, first, some}
 use Rattle.loops.specs.Count.{count, tabFrom}
 use Rattle.sorts.specs.Sort.{insertBy, sortBy}
@@ -33,7 +31,7 @@ use Rattle.walk.specs.Walk.{effectiveDuration, roundCount}
 use Rattle.line_layout.specs.Layout.{fifoLine, inOrder, neighbours, lastIn, positionIn}
 use Rattle.replies.specs.Outcome.{areas, lengthsOf, Outcome, reply, answered, queryOutcome}
 use Rattle.demands.proofs.Demands.{steady-answered, steady-call}
-use Rattle.demands.proofs.Instance.{below-two, below-three, areasK}
+use Rattle.demands.proofs.Instance.{areasK, calm-three}
 
 -- a stop time: stop, arrival, departure, sequence
 unfoldable pub stopTime : ℕ → ℕ → ℕ → ℕ → List ℕ
@@ -94,9 +92,6 @@ tablesD = tablesOf lentD
 abbrev pub queryD : Query
 queryD = queryOf lentD
 
-abbrev X : Timetable
-X = tablesD .timetable
-
 -- THE DOOR ADMITS THE SLICES, with areas as for K; no arc flags are in use, so the halves of the queue may be empty
 pub door-D : verdict lentD (lengthsOf areasK) ≡ 0
 unfolding countsD qD builtD tD stopTime trip every timeOf tripOf windowOf edgeOf countsOk slicesOk tripRuns stopTimeNumbers edgeNumbers stopTimeRanges tripRanges windowRanges edgeRanges edgeRises runsOk numbersOk rangesOk orderOk runIn stopRunsOk rowNumbers rowsOk rowAtStop stopRowsOk atStopsOk listedOk lineRunIn lineRunsOk entriesOk eventsBefore question1 readOk writtenOk question2 transferRunsOk question3 columnBelow lineNumbers queryNumbers question4 markRanges transferRanges settingRanges walkRanges question5 notEarlier partOrder departureOrder columnRises question6 verdict
@@ -107,18 +102,7 @@ pub steady-D : SteadyDay tablesD queryD
 unfolding qD builtD tD stopTime trip countsD timeOf tripOf windowOf edgeOf eventsBefore allOf allIn anyIn effectiveDuration edgesFrom targetsFrom targetCells holdsTarget useArcFlags someTransfer skipsEdge skipsTransfer flagsInUse frequencyListed same leadOf isLead lineOf lineTrips iter every first some count tabFrom insertBy sortBy keep flatten cellOf
 steady-D =
     steady-when tablesD queryD (door lentD (lengthsOf areasK) door-D)
-    (calm-when tablesD queryD (tablesD .departures)
-    (below-three (λ (s : ℕ). tablesD .departures s ≡ sorted X (tablesD .departures s)) refl refl refl)
-    (below-three (λ (s : ℕ). tablesD .mark s ≡ markOf X (tablesD .departures s)) refl refl refl)
-    refl
-    (below-three (λ (t : ℕ). tablesD .lineOf t ≡ lineOf X t) refl refl refl)
-    (record {
-      count = below-two (λ (l : ℕ). tablesD .line l .count ≡ length (lineTrips X l)) refl refl;
-      trip = λ l p h i. below-two (λ (l : ℕ). (p : ℕ) → p < tablesD .line l .count → tablesD .line l .trip p ≡ getD (lineTrips X l) p 0)
-          (below-two (λ (p : ℕ). tablesD .line 0 .trip p ≡ getD (lineTrips X 0) p 0) refl refl)
-          (λ p i. below-two (λ (p : ℕ). p < 1 → tablesD .line 1 .trip p ≡ getD (lineTrips X 1) p 0) (λ h. refl) (λ h. absurd (omega arith)) p (omega arith) i)
-          l h p i;
-    }))
+    (calm-three tablesD queryD refl refl refl refl refl refl (refl, refl, refl) (refl, refl, refl) (refl, refl, refl) (refl, refl) (refl, refl, refl))
     refl
 
 -- THE CALL ANSWERS, and its answer keeps demand 3 by effective times
