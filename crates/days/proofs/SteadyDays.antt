@@ -22,12 +22,12 @@ use Rattle.model.specs.Door.{Door}
 use Rattle.model.specs.Promise.{effective, SteadyDay, TripDelays, Journey, WholeJourney, Demand3}
 use Rattle.model.proofs.TripDelays.{trip-delays-steady}
 use Rattle.model.proofs.Demand3.{steady}
-use Rattle.days.specs.K.{timetableK, unevenK, bareK, asks, delaysOf, steadyDelays, givenDelays, onDay, origin, oneTrip, fourStops, toStop2}
+use Rattle.days.specs.K.{timetableK, unevenK, bareK, asks, delaysOf, wholeDelays, givenDelays, onDay, origin, oneTrip, fourStops, toStop2}
 use Rattle.days.proofs.DayTests.{allOf, passed, allIn, anyIn, sortedTest, risingTest, doorTests, calmTests, waitTest, rideTest, steadyTests, tripDelayTests, door-holds, no-times-fall, calm-bare, steady-holds, trip-delays-when}
 
 -- THE STEADY DAYS: whole trips delayed, a stop skipped; times given as well
 abbrev pub tripDay : Query
-tripDay = onDay 90 120 steadyDelays
+tripDay = onDay 90 120 wholeDelays
 
 abbrev pub givenDay : Query
 givenDay = onDay 90 120 givenDelays
@@ -91,9 +91,11 @@ pub record Tested : Type 0 where
   pub notEarly : steadyTests (oneTrip 21701 21701 21701) earlyDay ≡ true ∷ true ∷ true ∷ true ∷ true ∷ false ∷ true ∷ []
   pub shift : steadyTests (oneTrip 100 200 300) shiftDay ≡ true ∷ true ∷ true ∷ true ∷ true ∷ true ∷ false ∷ []
   pub zero : steadyTests (oneTrip 100 200 300) zeroDay ≡ true ∷ true ∷ true ∷ true ∷ true ∷ true ∷ false ∷ []
-  -- of those for delays of whole trips: all; not all
+  -- of those for delays of whole trips: all; all but one
   pub tripDelays : tripDelayTests bareK tripDay ≡ true ∷ true ∷ true ∷ []
-  pub notTripDelays : tripDelayTests bareK givenDay ≡ false ∷ true ∷ true ∷ []
+  pub tripGiven : tripDelayTests (oneTrip 100 200 300) shiftDay ≡ false ∷ true ∷ true ∷ []
+  pub tripLate : tripDelayTests (oneTrip 100 100 100) lateDay ≡ true ∷ false ∷ true ∷ []
+  pub tripZero : tripDelayTests (oneTrip 100 200 300) zeroDay ≡ true ∷ true ∷ false ∷ []
   pub calm : calmTests bareK tripDay ≡ true ∷ true ∷ true ∷ true ∷ []
   pub waits : waitTest bareK ≡ true
   pub rode : rideTest bareK ≡ true
@@ -112,7 +114,9 @@ tested =
       shift = refl;
       zero = refl;
       tripDelays = refl;
-      notTripDelays = refl;
+      tripGiven = refl;
+      tripLate = refl;
+      tripZero = refl;
       calm = refl;
       waits = refl;
       rode = refl;

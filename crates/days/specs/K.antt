@@ -177,8 +177,8 @@ delaysOf rows stops =
 
 -- T0 is 40 seconds late and skips stop 1, T1 10 early, T2 50 late; a trip that is not in the table is 30,000 late, past the cap,
 -- and its departure at sequence 1 is given
-abbrev pub steadyDelays : DelayTables
-steadyDelays = delaysOf ((0, 40) ∷ (1, 4294967286) ∷ (2, 50) ∷ (4294967295, 30000) ∷ []) ((0, 1, 4, 0, 0) ∷ (3, 1, 1, 30, 0) ∷ [])
+abbrev pub wholeDelays : DelayTables
+wholeDelays = delaysOf ((0, 40) ∷ (1, 4294967286) ∷ (2, 50) ∷ (4294967295, 30000) ∷ []) ((0, 1, 4, 0, 0) ∷ (3, 1, 1, 30, 0) ∷ [])
 
 -- and with times given at single stops: T0 is 40 late, but leaves stop 0 60 late, skips stop 1, and is 80 late at stop 2; T1 is 10 early, at stop
 -- 1 arrives 20 early and leaves 5 early, and is on time at stop 2; T2 is 50 late, but leaves stop 1 45 late, and is 65 late at stop 2

@@ -10,10 +10,9 @@ use borrow.Author.Tests.{not-true, ne-eqb}
 use Rattle.door.specs.Door.{timeLimit}
 use Rattle.loops.specs.Iter.{Hit, miss}
 use Rattle.loops.proofs.Search.{first-isnt}
-use Rattle.realtime.specs.Times.{arrivalGiven, shifted, effectiveDeparture}
 use Rattle.walk.specs.Walk.{effectiveDuration, stairsOrEscalator, roundCount}
 use Rattle.model.specs.Tables.{never, Tables, Query, roundsOf, changeBefore, egressWalk, stops, trips, stopAt, arrival, departure, edgeTo, walkTime}
-use Rattle.model.specs.Search.{Answer, delayOf, delayAt, skipped, bestTarget, final, answer, useArcFlags, runTbr, query}
+use Rattle.model.specs.Search.{Answer, delayOf, undelayed, departureNow, bestTarget, final, answer, useArcFlags, runTbr, query}
 use Rattle.model.specs.Door.{Door}
 use Rattle.model.specs.Promise.{TripTimes, scheduled, effective, PlainDay, SteadyDay, TripDelays, Journey, Way, Arrives, Demand3, Pareto}
 use Rattle.model.proofs.Base.{no-both}
@@ -25,7 +24,7 @@ use Rattle.model.proofs.PlainTotals
 use Rattle.model.proofs.Pareto
 use Rattle.model.proofs.NetOf.{net, pairOf, originOf}
 use Rattle.model.proofs.Simulation.{Calm, small, sim-answer, sim-scans}
-use Rattle.model.proofs.Delayed.{arrives-early}
+use Rattle.model.proofs.Delayed.{on-time, stops-there, arrives-early}
 use Rattle.model.proofs.TripDelays.{trip-delays-steady}
 use Rattle.model.proofs.PlainNet.{boarding-of, alighting-of, of-row, at-count, edge-in, edge-of, of-edge, origin-of, egress-is, calm-mark, calm-trips, plain}
 
@@ -181,21 +180,13 @@ no-row T Q P t = first-isnt _ (Q .delays .delays) (λ j h. absurd (omega (arith,
 
 -- so effective times are the scheduled ones, and every stop is served
 pub plain-times : (T : Tables) (Q : Query) → PlainDay T Q → effective T Q ≡ scheduled T
-plain-times T Q P = ap (λ (h : ℕ → Hit). timesBy h) (fun-ext (no-row T Q P)) ∙ times
-  where
-    -- the effective times, where each trip's delay row is this
-    timesBy : (ℕ → Hit) → TripTimes
-    timesBy h =
-        record {
-          departs = λ t o. effectiveDeparture (departure T t o) (delayAt T Q (h t) t o);
-          arrives = λ t o. let d = delayAt T Q (h t) t o in shifted (arrival T t o) (cond (arrivalGiven (d .flags)) (d .«arrival_delay») (d .«trip_delay»));
-          served = λ t o. not (skipped T Q (h t) t o);
-        }
-
-    times : timesBy (λ t. miss) ≡ scheduled T
-    times =
-        ap (λ (d : ℕ → ℕ → ℕ). record { departs = d; arrives = λ t o. shifted (arrival T t o) 0; served = λ t o. true }) (fun-ext (λ t. fun-ext (λ o. add-zero (departure T t o))))
-        ∙ ap (λ (a : ℕ → ℕ → ℕ). record { departs = departure T; arrives = a; served = λ t o. true }) (fun-ext (λ t. fun-ext (λ o. add-zero (arrival T t o))))
+plain-times T Q P =
+    ap (λ (d : ℕ → ℕ → ℕ). record { departs = d; arrives = effective T Q .arrives; served = effective T Q .served })
+    (fun-ext (λ t. fun-ext (λ o. ap (λ (h : Hit). departureNow T Q h t o) (no-row T Q P t) ∙ add-zero (departure T t o))))
+    ∙ ap (λ (a : ℕ → ℕ → ℕ). record { departs = departure T; arrives = a; served = effective T Q .served })
+    (fun-ext (λ t. fun-ext (λ o. on-time T Q (delayOf Q t) t o (ap undelayed (no-row T Q P t)) ∙ add-zero (arrival T t o))))
+    ∙ ap (λ (s : ℕ → ℕ → Bool). record { departs = departure T; arrives = arrival T; served = s })
+    (fun-ext (λ t. fun-ext (λ o. ap not (stops-there T Q (delayOf Q t) t o (ap undelayed (no-row T Q P t))))))
 
 -- and each plain day is a steady one
 pub steady-of : (T : Tables) (Q : Query) → Door T Q → PlainDay T Q → SteadyDay T Q
