@@ -156,7 +156,7 @@ fn main() {
     row("delay margin", &tables, |x| x.0.margin().value as u64, |x| routing::tbr::margin(&x.1, &x.2) as u64);
     let clock: Vec<_> = (0..n).map(|_| (r.below(48), r.below(60), r.below(60))).collect();
     row("clock reading (no Rust)", &clock, |x| unsafe { savoiky_service_second(x.0, x.1, x.2) }.value as u64, |x| (x.0 * 3600 + x.1 * 60 + x.2) as u64);
-    let labels: Vec<_> = (0..n).map(|_| (r.below(3), r.below(13), [r.below(99), 2, 3, 4, 5, 6, 7], r.below(9) as f64)).collect();
+    let labels: Vec<_> = (0..n).map(|_| (r.below(3), r.below(13), [r.below(99), 2, 1, 4, 5, 6, 7], r.below(9) as f64)).collect();
     let (mut words, mut dist) = (vec![0u32; 312], vec![0f64; 39]);
     let mut table = routing::tbr::LabelTable::new(3);
     row(

@@ -1,5 +1,6 @@
 // The building calls beside the Rust: random and hand-made tables, every limit, damaged copies; every word of every slice
-// compared, after refusals too. It prints only how many were compared and how many differed; status 1 where any did.
+// compared, after refusals too. It prints how many were compared, how many differed and how many must be refused for the order of walk edges;
+// status 1 where any differed, or where a code was never met.
 #![allow(dead_code, unused)]
 include!(concat!(env!("BESIDE"), "/parts.rs"));
 include!(concat!(env!("BESIDE"), "/rows.rs"));
@@ -44,10 +45,10 @@ fn main() {
         compare(&mut tallies, &x);
     }
     for t in &tallies {
-        println!("{}: {} tables compared, {} differed", t.name, t.compared, t.differed);
+        println!("{}: {} tables compared, {} differed ({} refused by 6)", t.name, t.compared, t.differed, t.codes[6]);
     }
     // a comparison that never met one of the codes shows too little
-    if tallies.iter().any(|t| t.differed > 0 || t.codes[..6].contains(&0)) || tallies[3].codes[7] == 0 {
+    if tallies.iter().any(|t| t.differed > 0 || t.codes[..7].contains(&0)) || tallies[3].codes[7] == 0 {
         std::process::exit(1);
     }
 }

@@ -141,6 +141,9 @@ fn label_calls(r: &mut Random) -> [(bool, u32); 4] {
         fields.iter_mut().for_each(|x| *x = wild(r));
         // the round is a u16 in the Rust
         fields[if kind == 2 { 5 } else { 4 }] = if kind == 1 { 0 } else { r.below(13) };
+        if r.yes(60) {
+            stop_fields(kind).iter().for_each(|k| fields[*k] = r.stop_number(stops));
+        }
         let c = LabelCase {
             stops, stop: wild_count(r, 4), row: wild_count(r, 15), kind, fields, distance: r.distance(), words, distances: (0..n).map(|_| r.next()).collect(),
         };

@@ -205,27 +205,35 @@ fn journeys(c: &Case) -> Vec<u32> {
     out
 }
 
-// all ways that stand at a stop no later than `end`: (stop, time, round of the last ride)
-fn ways(c: &Case, scans: &[(u32, u32, u32)], end: u32) -> BTreeSet<(u32, u32, u32)> {
-    let mut todo: Vec<(u32, u32, u32)> = c.origins.iter().map(|o| (o.stop_idx, c.start + o.duration_s, 0)).collect();
-    let mut seen = BTreeSet::new();
-    while let Some((x, v, q)) = todo.pop() {
-        if v > end || !seen.insert((x, v, q)) {
+type Ways = BTreeSet<(u32, u32, u32, u32)>;
+
+// all ways of at most so many walk edges in a row that stand at a stop no later than `end`: (stop, time, round of the last ride, walks that may follow)
+fn ways(c: &Case, scans: &[(u32, u32, u32)], end: u32, walks: u32) -> Ways {
+    let mut todo: Vec<(u32, u32, u32, u32)> = c.origins.iter().map(|o| (o.stop_idx, c.start + o.duration_s, 0, walks)).collect();
+    let mut seen = Ways::new();
+    while let Some((x, v, q, left)) = todo.pop() {
+        if v > end || !seen.insert((x, v, q, left)) {
             continue;
         }
-        todo.extend(walked(c, x, v).into_iter().map(|(y, w)| (y, w, q)));
+        if left > 0 {
+            // where any number may follow, it stays any number
+            let left = if left == u32::MAX { left } else { left - 1 };
+            todo.extend(walked(c, x, v).into_iter().map(|(y, w)| (y, w, q, left)));
+        }
         for (r, t, o) in scans.iter().filter(|s| s.0 >= q) {
             if boards(c, x, *t, *o, v, if *r == 0 { 0 } else { c.q.default_transfer_s }) {
-                todo.extend(alights(c, *t, *o).into_iter().map(|(y, w)| (y, w, *r)));
+                todo.extend(alights(c, *t, *o).into_iter().map(|(y, w)| (y, w, *r, walks)));
             }
         }
     }
     seen
 }
 
-// demand 3 of an answer: no journey arrives earlier, "no way" only if there is none, each total is the arrival of a way; and for at most n rides a
-// candidate of row n or lower arrives no later than any journey within 3,600 s of the best
-fn demand_3(c: &Case, total: u32, stop: u32, candidates: &[[u32; 3]]) -> bool {
+// demand 3 of an answer, where the reference has these scans: no journey arrives earlier, "no way" only if there is none, each total is the arrival
+// of a way; and for at most n rides a candidate of row n or lower arrives no later than any journey within 3,600 s of the best
+fn demand_3(c: &Case, scans: &[(u32, u32, u32)], reply: &Reply, candidates: &[u32]) -> bool {
+    let (total, stop) = (reply.total, reply.stop);
+    let candidates: Vec<&[u32]> = candidates.chunks(3).take(reply.candidates as usize).collect();
     let earliest = journeys(c);
     if earliest.iter().any(|v| *v < total) {
         return false;
@@ -233,55 +241,13 @@ fn demand_3(c: &Case, total: u32, stop: u32, candidates: &[[u32; 3]]) -> bool {
     if total == u32::MAX {
         return true;
     }
-    let scans = run(c, switch(Call::Query, c)).1;
     let last = candidates.iter().map(|k| k[0]).max().unwrap_or(0).max(total);
-    let ways = ways(c, &scans, last);
-    let arrives = |v: u32, s: u32| c.egress.contains_key(&s) && ways.iter().any(|w| w.0 == s && w.1 + c.egress[&s].duration_s == v);
-    let covered = |n: usize, v: u32| v > total + 3600 || candidates.iter().any(|k| k[0] <= v && k[2] as usize <= n);
-    arrives(total, stop) && candidates.iter().all(|k| arrives(k[0], k[1])) && earliest.iter().enumerate().all(|(n, v)| *v == u32::MAX || covered(n, *v))
-}
-
-// so many queries on the tables of one day: another start, egress, change time, rounds, modes, excluded trips, delays; the walks stay complete
-const ASKED: u32 = 4;
-
-fn day_searches(r: &mut Random, t: &mut Tallies, day: Day) {
-    let mut c = day_of(r, day);
-    for k in 0..ASKED {
-        if k > 0 || day != Day::Plain {
-            let (origins, wheelchair) = (c.origins.clone(), c.q.wheelchair);
-            ask_anew(r, &mut c);
-            (c.origins, c.q.wheelchair) = (origins, wheelchair);
-        }
-        delay(r, &mut c, day);
-        // at times nothing was there to break, or rides are permitted whose times fall
-        let made = day == Day::Plain || day == Day::Steady && schedule_rises(&c.e);
-        if !made && !is_of(&c, day) {
-            continue;
-        }
-        t.wrong += !(is_of(&c, day) && (k > 0 || calm(&c))) as u64;
-        day_search(r, t, &c, day);
-    }
-}
-
-// is `query`'s answer what demand 3 asks? A refusal is none, and finds nothing on a broken day.
-fn day_search(r: &mut Random, t: &mut Tallies, c: &Case, day: Day) {
-    let x = lend(r, c, false);
-    let mut a = areas(r, &x.sizes, 4096);
-    let reply = ask_ours(Call::Query, &x, &mut a);
-    let candidates: Vec<[u32; 3]> = a.candidates.chunks(3).take(reply.candidates as usize).map(|k| k.try_into().unwrap()).collect();
-    let differs = if reply.code == 0 { !demand_3(c, reply.total, reply.stop, &candidates) } else { !matches!(day, Day::Broken(_)) };
-    t.wrong += (reply.code != 0) as u64;
-    let days = match day {
-        Day::Plain => &mut t.plain,
-        Day::Steady => &mut t.steady,
-        Day::Broken(k) => &mut t.broken[k],
+    let arrives = |all: &Ways, v: u32, s: u32| c.egress.get(&s).is_some_and(|e| all.iter().any(|w| w.0 == s && w.1 + e.duration_s == v));
+    // first among the ways without two walk edges in a row, which are few, then among all
+    let by_ways = |walks: u32| {
+        let all = ways(c, scans, last, walks);
+        arrives(&all, total, stop) && candidates.iter().all(|k| arrives(&all, k[0], k[1]))
     };
-    days.compared += 1;
-    days.no_way += (reply.total == u32::MAX) as u64;
-    days.flagged += flags_on(c) as u64;
-    days.differed += differs as u64;
-    if day == Day::Steady {
-        let met = steady_met(c, &reply, &a.labels);
-        t.steady_met.iter_mut().zip(met).for_each(|(n, yes)| *n += yes as u64);
-    }
+    let covered = |n: usize, v: u32| v > total + 3600 || candidates.iter().any(|k| k[0] <= v && k[2] as usize <= n);
+    (by_ways(1) || by_ways(u32::MAX)) && earliest.iter().enumerate().all(|(n, v)| *v == u32::MAX || covered(n, *v))
 }

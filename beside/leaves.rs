@@ -186,8 +186,30 @@ fn clock(r: &mut Random) -> Tally {
     t
 }
 
+// a label of this kind with this number in one of its fields that name a stop, to be stored at this row of the last stop
+fn label_naming(kind: u32, field: usize, number: u32, stops: u32, row: u32) -> LabelCase {
+    let mut fields = [0; 7];
+    fields[field] = number;
+    let n = 13 * stops as usize;
+    LabelCase { stops, stop: stops - 1, row, kind, fields, distance: 2.5, words: vec![3; 8 * n], distances: vec![5; n] }
+}
+
+// each field of each label that names a stop: below the count, at it and past it; question 4 before 5
+fn label_stops(t: &mut Tally) {
+    for (kind, stops) in (1..4).flat_map(|kind| [1, 2, 3, 4096].map(|stops| (kind, stops))) {
+        for &field in stop_fields(kind) {
+            for (number, code) in [(0, 0), (stops - 1, 0), (stops, 4), (stops + 1, 4), (u32::MAX, 4)] {
+                let (c, late) = (label_naming(kind, field, number, stops, 12), label_naming(kind, field, number, stops, 13));
+                t.same(c.door() == code && c.stores());
+                t.same(late.door() == if code == 0 { 5 } else { 4 } && late.stores());
+            }
+        }
+    }
+}
+
 fn labels(r: &mut Random) -> Tally {
     let mut t = Tally::new("label");
+    label_stops(&mut t);
     for _ in 0..RANDOM {
         t.same(label_agrees(r));
     }

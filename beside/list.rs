@@ -11,17 +11,23 @@
 //      counts, departures, line count, lines, entries; timetable (141), runs (6), rows (20), each trip's line (5), line runs (6),
 //      entries (6); then sorting: code, rows (20), marks (3); lines: code, count, lines (5), runs (10), entries (5); layout: code,
 //      positions (5), FIFO (3); transfers: code, count, area (96), runs (30). What is lent to be written holds 7 in every word.
-//   10 label: kind, seven fields, distance (a whole number), stop, row of three stops; then the record's eight words and its distance
+//   10 label: kind, seven fields, distance (a whole number), stop, row of three stops; then the code, the record's eight words and its distance
 //   12 a search put to run_tbr and query: list_queries.rs says what it holds
+//   13 a timetable put to the building calls, and a query on what they wrote: list_chains.rs says what it holds
 #![allow(dead_code, unused)]
 include!(concat!(env!("BESIDE"), "/query_parts.rs"));
 include!(concat!(env!("BESIDE"), "/timetables.rs"));
 include!(concat!(env!("BESIDE"), "/damage.rs"));
 include!(concat!(env!("BESIDE"), "/drawn.rs"));
+include!(concat!(env!("BESIDE"), "/ours.rs"));
+include!(concat!(env!("BESIDE"), "/journeys.rs"));
+include!(concat!(env!("BESIDE"), "/steady.rs"));
 include!(concat!(env!("BESIDE"), "/list_queries.rs"));
+include!(concat!(env!("BESIDE"), "/list_chains.rs"));
 
 const EACH: u32 = 240;
 const QUERIES: u32 = 66 * 17;
+const CHAINS: u32 = 160;
 
 // The program reads the list in blocks of so many bytes; a line that would go from one into the next begins with that one, after empty lines.
 const BLOCK: usize = 262_144;
@@ -180,8 +186,30 @@ fn building(r: &mut Random) {
     line(11, &w);
 }
 
+// the label's own stops most often below the count; where one is not, nothing is stored
+fn label(r: &mut Random, apart: &mut Random) {
+    let kind = 1 + r.below(3);
+    let mut f = [0u32; 7];
+    for x in f.iter_mut() {
+        *x = r.any();
+    }
+    f[if kind == 2 { 5 } else { 4 }] = if kind == 1 { 0 } else { r.below(13) };
+    stop_fields(kind).iter().for_each(|k| f[*k] = apart.stop_number(3));
+    let d = r.below(100_000);
+    let refused = stop_fields(kind).iter().any(|k| f[*k] > 2);
+    let (words, bits) = if refused { ([0; 8], 0) } else { routing::tbr::label_words(kind, f, d as f64) };
+    let mut all = vec![kind];
+    all.extend(f);
+    all.extend([d, r.below(3), r.below(13), if refused { 4 } else { 0 }]);
+    all.extend(words);
+    all.push(f64::from_bits(bits) as u32);
+    line(10, &all);
+}
+
 fn main() {
     let mut r = Random(2026);
+    // for the labels' stops and the chains
+    let mut apart = Random(13);
     for _ in 0..EACH {
         cells(&mut r);
         let (d, m, w) = (r.time(), r.below(9), r.below(3));
@@ -204,23 +232,11 @@ fn main() {
         let (h, m, s) = (r.below(50), r.below(62), r.below(62));
         let a = if h > 47 || m > 59 || s > 59 { refused(5) } else { given(3600 * h + 60 * m + s) };
         line(9, &[h, m, s, a.code, a.value]);
-        let kind = 1 + r.below(3);
-        let mut f = [0u32; 7];
-        for x in f.iter_mut() {
-            *x = r.any();
-        }
-        f[if kind == 2 { 5 } else { 4 }] = if kind == 1 { 0 } else { r.below(13) };
-        let d = r.below(100_000);
-        let (words, bits) = routing::tbr::label_words(kind, f, d as f64);
-        let mut all = vec![kind];
-        all.extend(f);
-        all.extend([d, r.below(3), r.below(13)]);
-        all.extend(words);
-        all.push(f64::from_bits(bits) as u32);
-        line(10, &all);
+        label(&mut r, &mut apart);
     }
     for _ in 0..160 {
         building(&mut r);
     }
     stored_queries(&mut r, QUERIES);
+    stored_chains(&mut apart, CHAINS);
 }

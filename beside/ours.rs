@@ -85,6 +85,15 @@ fn row_words(r: &LabelRow) -> [u32; 8] {
     [r.kind, r.word1, r.word2, r.word3, r.word4, r.word5, r.word6, r.word7]
 }
 
+// Which fields of a label of this kind name a stop.
+pub fn stop_fields(kind: u32) -> &'static [usize] {
+    match kind {
+        1 => &[0],
+        2 => &[2],
+        _ => &[1, 2],
+    }
+}
+
 // A label to be stored in tables of any content, and the place.
 pub struct LabelCase {
     pub stops: u32,
@@ -99,19 +108,24 @@ pub struct LabelCase {
 }
 
 impl LabelCase {
-    // the number of the first no
-    pub fn door(&self) -> u32 {
+    // the number of the first no of a call that names the place and these fields' stops
+    fn code(&self, fields: &[usize]) -> u32 {
         if self.stops > 4096 {
             1
         } else if self.words.len() as u64 != self.stops as u64 * 104 || self.distances.len() as u64 != self.stops as u64 * 13 {
             2
-        } else if self.stop >= self.stops {
+        } else if self.stop >= self.stops || fields.iter().any(|k| self.fields[*k] >= self.stops) {
             4
         } else if self.row > 12 {
             5
         } else {
             0
         }
+    }
+
+    // of storing
+    pub fn door(&self) -> u32 {
+        self.code(stop_fields(self.kind))
     }
 
     fn at(&self) -> usize {
@@ -141,9 +155,9 @@ impl LabelCase {
         got == 0 && words == want_words && distances == want_distances && back.code == 0 && row_words(&back.row) == label && back.row.distance.to_bits() == bits
     }
 
-    // the code of reading what is there: 5 also for a kind above 3
+    // the code of reading what is there, which asks nothing of the label: 5 also for a kind above 3
     pub fn load_code(&self) -> u32 {
-        match self.door() {
+        match self.code(&[]) {
             0 if self.words[8 * self.at()] > 3 => 5,
             n => n,
         }
@@ -175,6 +189,7 @@ pub fn label_agrees(r: &mut Random) -> bool {
     let kind = 1 + r.below(3);
     // the round is a u16 in the Rust
     fields[if kind == 2 { 5 } else { 4 }] = if kind == 1 { 0 } else { r.below(13) };
+    stop_fields(kind).iter().for_each(|k| fields[*k] = r.stop_number(stops));
     let mut c = LabelCase { stops, stop: r.below(stops), row: r.below(13), kind, fields, distance: r.distance(), words, distances };
     match r.below(20) {
         0 => c.stops = r.any(),

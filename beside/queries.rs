@@ -1,17 +1,20 @@
 // queries [COUNT [SEED [JOBS]]]: `run_tbr` and `query` beside the Rust: COUNT random searches of all kinds, small and large, a third of them damaged;
 // queue halves with just enough room and too little; 0, 1, limit and limit + 1 of every count; for every ten of them a search of hostile words,
-// four plain days and two steady ones, there against all journeys and ways; for every hundred, four days with one condition of a steady day
-// broken, where the same test must find answers that are not what demand 3 asks. JOBS threads share them, each with a seed of its own. Every
-// word of every area is compared, after a refusal too; one instance is one call with all that it could have written. It prints how many were
-// compared, by the code expected, what was met in the answered ones (met.rs) and on steady days (steady.rs), and how many differed; status 1
-// where any did, where a code or a thing was never met, or where a broken condition was never found.
+// four plain days and two steady ones, there against all journeys and ways, and five plain days and one steady on tables that our building calls
+// wrote (chains.rs); for every hundred, four days with one condition of a steady day broken, where the same test must find answers that are not
+// what demand 3 asks. JOBS threads share them, each with a seed of its own. Every word of every area is compared, after a refusal too; one
+// instance is one call with all that it could have written. It prints how many were compared, by the code expected, what was met in the
+// answered ones (met.rs), on steady days (steady.rs) and in chains, and how many differed; status 1 where any did, where a code or a thing was
+// never met, or where a broken condition was never found.
 #![allow(dead_code, unused)]
 include!(concat!(env!("BESIDE"), "/query_parts.rs"));
+include!(concat!(env!("BESIDE"), "/timetables.rs"));
 include!(concat!(env!("BESIDE"), "/damage.rs"));
 include!(concat!(env!("BESIDE"), "/drawn.rs"));
 include!(concat!(env!("BESIDE"), "/met.rs"));
 include!(concat!(env!("BESIDE"), "/journeys.rs"));
 include!(concat!(env!("BESIDE"), "/steady.rs"));
+include!(concat!(env!("BESIDE"), "/chains.rs"));
 include!(concat!(env!("BESIDE"), "/jobs.rs"));
 
 const COUNT: u64 = 400_000;
@@ -68,6 +71,9 @@ struct Tallies {
     steady_met: [u64; STEADY.len()],
     // steady days with one condition broken (BREAKS): those that differed were found
     broken: [Tally; BREAKS.len()],
+    // plain and steady days on tables that our building calls wrote; of what the plain ones must have met (CHAINS), how often
+    chains: [Tally; 2],
+    chains_met: [u64; CHAINS.len()],
     met: Met,
     // cases that are not what their maker says
     wrong: u64,
@@ -80,6 +86,8 @@ impl Tallies {
         self.steady.join(&t.steady);
         self.steady_met.iter_mut().zip(t.steady_met).for_each(|(a, b)| *a += b);
         self.broken.iter_mut().zip(&t.broken).for_each(|(a, b)| a.join(b));
+        self.chains.iter_mut().zip(&t.chains).for_each(|(a, b)| a.join(b));
+        self.chains_met.iter_mut().zip(t.chains_met).for_each(|(a, b)| *a += b);
         self.met.join(&t.met);
         self.sizes += t.sizes;
         self.sizes_differed += t.sizes_differed;
@@ -87,17 +95,18 @@ impl Tallies {
         self.wrong += t.wrong;
     }
     fn differed(&self) -> bool {
-        self.calls.iter().any(|c| c.differed > 0) || self.plain.differed > 0 || self.steady.differed > 0 || self.sizes_differed > 0
+        let days = [&self.plain, &self.steady, &self.chains[0], &self.chains[1]];
+        self.calls.iter().any(|c| c.differed > 0) || days.iter().any(|d| d.differed > 0) || self.sizes_differed > 0
     }
     fn fine(&self) -> bool {
         let calls = self.calls.iter().all(|c| c.met_all());
         !self.differed() && self.wrong == 0 && calls && self.plain.no_way > 0 && self.met.missing().is_empty() && self.days_fine()
     }
-    // have steady days met all they must, and was each broken condition found?
+    // have steady days and chains met all they must, and was each broken condition found?
     fn days_fine(&self) -> bool {
         let s = &self.steady;
         let met = s.no_way > 0 && s.flagged > 0 && s.flagged < s.compared && self.steady_met.iter().all(|n| *n > 0);
-        met && self.broken.iter().all(|b| b.differed > 0)
+        met && self.broken.iter().all(|b| b.differed > 0) && self.chains.iter().all(|c| c.no_way > 0) && self.chains_met.iter().all(|n| *n > 0)
     }
     fn print(&self) {
         self.calls[0].print("run_tbr");
@@ -112,12 +121,15 @@ impl Tallies {
     }
     // the comparison with all journeys and ways
     fn print_days(&self) {
-        for (name, d) in [("plain", &self.plain), ("steady", &self.steady)] {
+        let all = ["plain days", "steady days", "plain days of tables built by our calls", "steady days of tables built by our calls"];
+        for (name, d) in all.iter().zip([&self.plain, &self.steady, &self.chains[0], &self.chains[1]]) {
             let counts = format!("{} compared ({} no way, {} with flags on), {} differed", d.compared, d.no_way, d.flagged, d.differed);
-            println!("query against all journeys and ways, {name} days: {counts}");
+            println!("query against all journeys and ways, {name}: {counts}");
         }
-        let met: Vec<String> = STEADY.iter().zip(self.steady_met).map(|(name, n)| format!("{name} {n}")).collect();
-        println!("  steady days with: {}", met.join(", "));
+        for (name, things, met) in [(all[1], &STEADY[..], &self.steady_met[..]), (all[2], &CHAINS, &self.chains_met)] {
+            let met: Vec<String> = things.iter().zip(met).map(|(thing, n)| format!("{thing} {n}")).collect();
+            println!("  {name} with: {}", met.join(", "));
+        }
         let broken: Vec<String> = BREAKS.iter().zip(&self.broken).map(|((name, _), b)| format!("{name} {} of {}", b.differed, b.compared)).collect();
         println!("  found to differ where one condition is broken: {}", broken.join(", "));
     }
@@ -183,6 +195,55 @@ fn random_search(r: &mut Random, t: &mut Tallies, c: &Case, ran: &Ran) {
     compare(t, &x.clone(), &a, if damaged { None } else { Some(ran) });
 }
 
+// so many queries on the tables of one day: another start, egress, change time, rounds, modes, excluded trips, delays; the walks stay complete
+const ASKED: u32 = 4;
+
+fn ask_again(r: &mut Random, c: &mut Case) {
+    let (origins, wheelchair) = (c.origins.clone(), c.q.wheelchair);
+    ask_anew(r, c);
+    (c.origins, c.q.wheelchair) = (origins, wheelchair);
+}
+
+fn day_searches(r: &mut Random, t: &mut Tallies, day: Day) {
+    let mut c = day_of(r, day);
+    for k in 0..ASKED {
+        if k > 0 || day != Day::Plain {
+            ask_again(r, &mut c);
+        }
+        delay(r, &mut c, day);
+        // at times nothing was there to break, or rides are permitted whose times fall
+        let made = day == Day::Plain || day == Day::Steady && schedule_rises(&c.e);
+        if !made && !is_of(&c, day) {
+            continue;
+        }
+        t.wrong += !(is_of(&c, day) && (k > 0 || calm(&c))) as u64;
+        day_search(r, t, &c, day);
+    }
+}
+
+// is `query`'s answer what demand 3 asks? A refusal is none, and finds nothing on a broken day.
+fn day_search(r: &mut Random, t: &mut Tallies, c: &Case, day: Day) {
+    let x = lend(r, c, false);
+    let mut a = areas(r, &x.sizes, 4096);
+    let reply = ask_ours(Call::Query, &x, &mut a);
+    let scans = run(c, switch(Call::Query, c)).1;
+    let differs = if reply.code == 0 { !demand_3(c, &scans, &reply, &a.candidates) } else { !matches!(day, Day::Broken(_)) };
+    t.wrong += (reply.code != 0) as u64;
+    let days = match day {
+        Day::Plain => &mut t.plain,
+        Day::Steady => &mut t.steady,
+        Day::Broken(k) => &mut t.broken[k],
+    };
+    days.compared += 1;
+    days.no_way += (reply.total == u32::MAX) as u64;
+    days.flagged += flags_on(c) as u64;
+    days.differed += differs as u64;
+    if day == Day::Steady {
+        let met = steady_met(c, &reply, &a.labels);
+        t.steady_met.iter_mut().zip(met).for_each(|(n, yes)| *n += yes as u64);
+    }
+}
+
 fn at_limits(r: &mut Random, t: &mut Tallies) {
     for (x, code) in search_limits() {
         // the areas of a refused search may have any length
@@ -195,6 +256,8 @@ fn at_limits(r: &mut Random, t: &mut Tallies) {
 
 fn job(seed: u64, count: u64) -> Tallies {
     let (mut r, mut t) = (Random(seed), Tallies::default());
+    // chains draw from numbers of their own
+    let mut own = Random(!seed);
     // FIRST=1: no further than a first difference (beside/mutants)
     let first = std::env::var("FIRST").is_ok();
     at_limits(&mut r, &mut t);
@@ -212,8 +275,15 @@ fn job(seed: u64, count: u64) -> Tallies {
         if i % 25 == 3 {
             day_searches(&mut r, &mut t, Day::Broken((i / 25 % 4) as usize));
         }
+        if i % 2 == 0 {
+            chain_searches(&mut own, &mut t, Day::Plain);
+        }
+        if i % 10 == 5 {
+            chain_searches(&mut own, &mut t, Day::Steady);
+        }
         if first && t.differed() {
-            println!("first difference after {} searches, {} plain and {} steady days", t.sizes, t.plain.compared, t.steady.compared);
+            let chains = t.chains[0].compared + t.chains[1].compared;
+            println!("first difference after {} searches, {} plain and {} steady days, {chains} chains", t.sizes, t.plain.compared, t.steady.compared);
             break;
         }
     }

@@ -58,6 +58,16 @@ impl Random {
             _ => self.next(),
         })
     }
+    // a stop's number, most often below the count; now and then the last one, the count itself, one past it, or any
+    pub fn stop_number(&mut self, stops: u32) -> u32 {
+        match self.below(20) {
+            0 => stops.saturating_sub(1),
+            1 => stops,
+            2 => stops.saturating_add(1),
+            3 => self.any(),
+            _ => self.below(stops.max(1)),
+        }
+    }
     // yes in so many of a hundred
     pub fn yes(&mut self, percent: u32) -> bool {
         self.below(100) < percent

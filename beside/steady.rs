@@ -385,10 +385,10 @@ fn uneven(c: &Case) -> bool {
     listed.iter().any(|(t, o)| c.e.line_trips[c.e.line_of_trip[*t as usize] as usize].iter().any(|u| left_out(*u, *o)))
 }
 
-// does a label of the best stop, by a ride of such a trip, arrive as the best total has it?
-fn best_by(c: &Case, reply: &Reply, labels: &[u32], trip: impl Fn(u32) -> bool) -> bool {
+// does a label of this kind at the best stop, of such a trip or from such a stop, arrive as the best total has it?
+fn best_by(c: &Case, reply: &Reply, labels: &[u32], kind: u32, from: impl Fn(u32) -> bool) -> bool {
     let of_stop = || labels.chunks(8).skip(13 * reply.stop as usize).take(13);
-    c.egress.get(&reply.stop).is_some_and(|a| of_stop().any(|w| w[0] == 2 && w[1] + a.duration_s == reply.total && trip(w[2])))
+    c.egress.get(&reply.stop).is_some_and(|a| of_stop().any(|w| w[0] == kind && w[1] + a.duration_s == reply.total && from(w[2])))
 }
 
 // of STEADY, which it has
@@ -403,12 +403,12 @@ fn steady_met(c: &Case, reply: &Reply, labels: &[u32]) -> [bool; 18] {
         c.delays.iter().filter(|d| d.0 != UNKNOWN).any(|d| (0..c.e.trips[d.0 as usize].stop_time_len).any(|o| test(c, d.0, o)))
     };
     let given = |t: u32, flags: u32| (0..c.e.trips[t as usize].stop_time_len).any(|o| stop_row(c, t, o).is_some_and(|s| s[2] & flags != 0));
-    let delayed = best_by(c, reply, labels, |t| delay_row(c, t).map_or(0, |k| c.delays[k].1) != 0);
+    let delayed = best_by(c, reply, labels, 2, |t| delay_row(c, t).map_or(0, |k| c.delays[k].1) != 0);
     [
         transfers().next().is_none(), transfers().any(|x| x.min_transfer_s != 120), uneven(c), last, mixed, stranger, delayed,
         some(|d| d > 0), some(|d| d < 0), some(|d| d == 0), some(|d| d == CAP), some(|d| d == -CAP), event(|c, t, o| !served(c, t, o)),
         event(|c, t, o| departs(c, t, o) == 0), event(|c, t, o| stop_row(c, t, o).is_some_and(|s| s[2] & 1 != 0)),
-        event(|c, t, o| stop_row(c, t, o).is_some_and(|s| s[2] & 2 != 0)), best_by(c, reply, labels, |t| given(t, 3)),
+        event(|c, t, o| stop_row(c, t, o).is_some_and(|s| s[2] & 2 != 0)), best_by(c, reply, labels, 2, |t| given(t, 3)),
         !schedule_rises(&c.e),
     ]
 }

@@ -2,7 +2,7 @@
 use gtfs::pack::{build_departures, build_lines, build_transfers};
 
 // Everything that the building calls are lent, with the counts handed in beside it.
-#[derive(Clone)]
+#[derive(Clone, Default)]
 pub struct Timetable {
     // stops, trips, stop times, windows, walk edges
     pub counts: [u32; 5],
@@ -65,7 +65,7 @@ impl Timetable {
         if !self.known().ranged() {
             return 5;
         }
-        0
+        if self.known().ordered() { 0 } else { 6 }
     }
 
     fn departures_door(&self) -> u32 {
@@ -126,10 +126,21 @@ impl Timetable {
         )
     }
 
+    // the last walk edge first
+    fn turn_edges(&mut self) {
+        let c = self.counts.map(|n| n as usize);
+        let first = 6 * c[2] + 8 * c[1] + 3 * c[3];
+        if let Some(edges) = self.tables.get_mut(first..first + 5 * c[4]) {
+            let turned: Vec<u32> = edges.chunks(5).rev().flatten().copied().collect();
+            edges.copy_from_slice(&turned);
+        }
+    }
+
     pub fn damage(&mut self, r: &mut Random) {
         for _ in 0..1 + r.below(2) {
             let any = r.any();
-            match r.below(20) {
+            match r.below(21) {
+                20 => self.turn_edges(),
                 16 => self.line_count = any,
                 17 => poke(&mut self.lines_of, r, any),
                 18 => self.transfer_runs.push(any),
@@ -167,7 +178,8 @@ fn junk(r: &mut Random, n: usize) -> Vec<u32> {
 
 pub fn random_timetable(r: &mut Random) -> Timetable {
     let stops = r.below(7);
-    let (mut times, mut trips, mut windows, mut edges) = (vec![], vec![], vec![], vec![]);
+    let (mut times, mut trips, mut windows) = (vec![], vec![], vec![]);
+    let mut edges: Vec<[u32; 5]> = vec![];
     let wide = [8, 40, 900, LIMIT][r.below(4) as usize];
     let mut trip_list: Vec<(u32, u32)> = vec![];
     let mut shapes: Vec<Vec<u32>> = vec![];
@@ -201,9 +213,13 @@ pub fn random_timetable(r: &mut Random) -> Timetable {
             trip_list.push((a, n));
             trips.extend([a, n, r.below(7), r.below(3), w, n_windows, r.below(2), r.below(2)]);
         }
-        for _ in 0..r.below(3) {
-            edges.extend([r.below(stops), r.below(stops), r.below(wide), r.below(8), r.next() as u32]);
+        for _ in 0..r.below(4) {
+            edges.push([r.below(stops), r.below(stops), r.below(wide), r.below(8), r.next() as u32]);
         }
+    }
+    // now and then not in order
+    if r.below(20) > 0 {
+        edges.sort_by_key(|e| e[0]);
     }
     // departures: listed, some twice, some in no run
     let n_trips = trips.len() as u32 / 8;
@@ -236,11 +252,11 @@ pub fn random_timetable(r: &mut Random) -> Timetable {
         })
         .collect();
     let d = rows.len() / 2;
-    let counts = [stops, n_trips, times.len() as u32 / 6, windows.len() as u32 / 3, edges.len() as u32 / 5];
+    let counts = [stops, n_trips, times.len() as u32 / 6, windows.len() as u32 / 3, edges.len() as u32];
     let mut tables = times;
     tables.extend(trips);
     tables.extend(windows);
-    tables.extend(edges);
+    tables.extend(edges.concat());
     tables.extend(junk(r, stops as usize));
     let t = n_trips as usize;
     let events: u32 = trip_list.iter().map(|p| p.1).sum();
@@ -327,15 +343,45 @@ fn at_limit(trips: u32, each: u32, line_count: u32) -> Timetable {
     }
 }
 
-pub fn sorting_agrees(x: &Timetable) -> (bool, u32) {
-    let mut y = x.clone();
+// The calls, put to what is lent; for MOCK=1 chains.rs has stand-ins.
+#[cfg(not(mock))]
+pub fn sort_departures(y: &mut Timetable) -> u32 {
     let c = y.counts;
-    let code = unsafe {
+    unsafe {
         savoiky_sort_stop_departures(
             c[0], c[1], c[2], c[3], c[4], y.departures, y.tables.as_ptr(), y.tables.len(), y.runs.as_ptr(), y.runs.len(), y.rows.as_mut_ptr(),
             y.rows.len(), y.marks.as_mut_ptr(), y.marks.len(), y.work.as_mut_ptr(), y.work.len(), y.other.as_mut_ptr(), y.other.len(),
         )
-    };
+    }
+}
+
+#[cfg(not(mock))]
+pub fn group_lines(y: &mut Timetable) -> Answer {
+    let c = y.counts;
+    unsafe {
+        savoiky_compute_line_groups(
+            c[0], c[1], c[2], c[3], c[4], y.tables.as_ptr(), y.tables.len(), y.line_of.as_mut_ptr(), y.line_of.len(), y.made_runs.as_mut_ptr(),
+            y.made_runs.len(), y.made_entries.as_mut_ptr(), y.made_entries.len(), y.line_work.as_mut_ptr(), y.line_work.len(), y.line_other.as_mut_ptr(),
+            y.line_other.len(),
+        )
+    }
+}
+
+#[cfg(not(mock))]
+pub fn make_transfers(y: &mut Timetable) -> Answer {
+    let c = y.counts;
+    unsafe {
+        savoiky_compute_trip_transfers(
+            c[0], c[1], c[2], c[3], c[4], y.line_count, y.departures, y.tables.as_ptr(), y.tables.len(), y.lines_of.as_ptr(), y.lines_of.len(),
+            y.runs.as_ptr(), y.runs.len(), y.rows.as_ptr(), y.rows.len(), y.area.as_mut_ptr(), y.area.len(), y.transfer_runs.as_mut_ptr(),
+            y.transfer_runs.len(),
+        )
+    }
+}
+
+pub fn sorting_agrees(x: &Timetable) -> (bool, u32) {
+    let mut y = x.clone();
+    let code = sort_departures(&mut y);
     let (want, z) = sorting_outcome(x);
     (code == want && y.rows == z.rows && y.marks == z.marks && y.work == z.work && y.other == z.other, want)
 }
@@ -364,14 +410,7 @@ pub fn sorting_outcome(x: &Timetable) -> (u32, Timetable) {
 
 pub fn lines_agree(x: &Timetable) -> (bool, u32) {
     let mut y = x.clone();
-    let c = y.counts;
-    let a = unsafe {
-        savoiky_compute_line_groups(
-            c[0], c[1], c[2], c[3], c[4], y.tables.as_ptr(), y.tables.len(), y.line_of.as_mut_ptr(), y.line_of.len(), y.made_runs.as_mut_ptr(),
-            y.made_runs.len(), y.made_entries.as_mut_ptr(), y.made_entries.len(), y.line_work.as_mut_ptr(), y.line_work.len(), y.line_other.as_mut_ptr(),
-            y.line_other.len(),
-        )
-    };
+    let a = group_lines(&mut y);
     let (want, z) = lines_outcome(x);
     let same = a == want
         && y.line_of == z.line_of
@@ -432,14 +471,7 @@ pub fn layout_outcome(x: &Timetable) -> (u32, Timetable) {
 
 pub fn transfers_agree(x: &Timetable) -> (bool, u32) {
     let mut y = x.clone();
-    let c = y.counts;
-    let a = unsafe {
-        savoiky_compute_trip_transfers(
-            c[0], c[1], c[2], c[3], c[4], y.line_count, y.departures, y.tables.as_ptr(), y.tables.len(), y.lines_of.as_ptr(), y.lines_of.len(),
-            y.runs.as_ptr(), y.runs.len(), y.rows.as_ptr(), y.rows.len(), y.area.as_mut_ptr(), y.area.len(), y.transfer_runs.as_mut_ptr(),
-            y.transfer_runs.len(),
-        )
-    };
+    let a = make_transfers(&mut y);
     let (want, z) = transfers_outcome(x);
     (a == want && y.area == z.area && y.transfer_runs == z.transfer_runs, want.code)
 }

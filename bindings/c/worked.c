@@ -1,4 +1,6 @@
-/* worked.c: Timetable K of document 01, laid out, built, asked and answered in words. An example to copy from; savoiky.h has the layouts. */
+/* worked.c: Timetable K of document 01 and a second one, laid out, built, asked and answered in words. An example to copy from;
+   savoiky.h has the layouts. */
+#include <stdbool.h>
 #include <stdio.h>
 #include <stdlib.h>
 #include <string.h>
@@ -7,38 +9,71 @@
 
 #define LENGTH(array) (sizeof(array) / sizeof((array)[0]))
 
-enum { STOPS = 3, TRIPS = 3, TIMES = 8, DEPARTURES = 5, ORIGINS = 1, EGRESS = 1 };
+/* room for the larger of the timetables */
+enum { STOPS = 4, TRIPS = 4, TIMES = 8, DEPARTURES = 5 };
 enum { EVENTS = TIMES };  /* each stop time belongs to one trip */
 enum { AREA_ROWS = 16 };  /* space for so many transfers */
 enum { SEGMENTS = EVENTS }; /* in a half of the queue: enough without frequency trips */
+enum { MOST_LEGS = 27 };  /* of a card: an access walk and 26 more */
 static const uint32_t NEVER = UINT32_MAX;
 
-static const uint32_t tables[6 * TIMES + 8 * TRIPS + STOPS] = {
-    /* stop times: stop, arrival, departure, sequence, pickup, drop-off */
-    0, 100, 100, 1, 0, 0,
-    1, 200, 210, 2, 0, 0,
-    2, 400, 400, 3, 0, 0,
-    0, 160, 160, 1, 0, 0,
-    1, 260, 270, 2, 0, 0,
-    2, 460, 460, 3, 0, 0,
-    1, 320, 320, 1, 0, 0,
-    2, 380, 380, 2, 0, 0,
-    /* trips: first stop time, count, mode, wheelchair, first window, window count, active, excluded */
-    0, 3, 0, 0, 0, 0, 1, 0,
-    3, 3, 0, 0, 0, 0, 1, 0,
-    6, 2, 0, 0, 0, 0, 1, 0,
-    /* no windows, no walk edges; the stops' cells */
-    0, 0, 0,
+typedef struct {
+    /* the counts; those of lines, entries and transfers are known when it is built */
+    SavoikyQuerySizes sizes;
+    uint32_t tables[6 * TIMES + 8 * TRIPS + STOPS];
+    /* where trips may be boarded: rows of trip and offset, and each stop's run of them; no row for a trip's last stop */
+    uint32_t stop_runs[2 * STOPS];
+    uint32_t departures[2 * DEPARTURES];
+    /* what the building calls write, for the queries: one part after the other */
+    uint32_t built[TRIPS + 2 * TRIPS + TRIPS + 2 * STOPS + 2 * DEPARTURES + STOPS + 2 * EVENTS];
+    size_t built_len;
+    uint32_t area[4 * AREA_ROWS];
+} Timetable;
+
+static Timetable timetable_k = {
+    .sizes = {.stops = 3, .trips = 3, .times = 8, .departures = 5, .origins = 1, .egress = 1},
+    .tables = {
+        /* stop times: stop, arrival, departure, sequence, pickup, drop-off */
+        0, 100, 100, 1, 0, 0,
+        1, 200, 210, 2, 0, 0,
+        2, 400, 400, 3, 0, 0,
+        0, 160, 160, 1, 0, 0,
+        1, 260, 270, 2, 0, 0,
+        2, 460, 460, 3, 0, 0,
+        1, 320, 320, 1, 0, 0,
+        2, 380, 380, 2, 0, 0,
+        /* trips: first stop time, count, mode, wheelchair, first window, window count, active, excluded */
+        0, 3, 0, 0, 0, 0, 1, 0,
+        3, 3, 0, 0, 0, 0, 1, 0,
+        6, 2, 0, 0, 0, 0, 1, 0,
+        /* no windows, no walk edges; the stops' cells */
+        0, 0, 0,
+    },
+    .stop_runs = {0, 2, 2, 3, 5, 0},
+    .departures = {0, 0, 1, 0, 0, 1, 1, 1, 2, 0},
 };
 
-/* where trips may be boarded: rows of trip and offset, and each stop's run of them; no row for a trip's last stop */
-static const uint32_t stop_runs[2 * STOPS] = {0, 2, 2, 3, 5, 0};
-static uint32_t departures[2 * DEPARTURES] = {0, 0, 1, 0, 0, 1, 1, 1, 2, 0};
-
-/* what the building calls write, for the queries: one part after the other */
-static uint32_t built[TRIPS + 2 * TRIPS + TRIPS + 2 * STOPS + 2 * DEPARTURES + STOPS + 2 * EVENTS];
-static size_t built_len;
-static uint32_t area[4 * AREA_ROWS];
+/* In the second round trip 2 brings the guest to stop 2 sooner than trip 1 does in the first, and trip 3 is boarded there in the same round. */
+static Timetable second = {
+    .sizes = {.stops = 4, .trips = 4, .times = 8, .departures = 4, .origins = 1, .egress = 1},
+    .tables = {
+        0, 100, 100, 1, 0, 0,
+        1, 200, 200, 2, 0, 0,
+        0, 1000, 1000, 1, 0, 0,
+        2, 2000, 2000, 2, 0, 0,
+        1, 400, 400, 1, 0, 0,
+        2, 500, 500, 2, 0, 0,
+        2, 700, 700, 1, 0, 0,
+        3, 800, 800, 2, 0, 0,
+        0, 2, 0, 0, 0, 0, 1, 0,
+        2, 2, 0, 0, 0, 0, 1, 0,
+        4, 2, 0, 0, 0, 0, 1, 0,
+        6, 2, 0, 0, 0, 0, 1, 0,
+        0, 0, 0, 0,
+    },
+    .stop_runs = {0, 2, 2, 1, 3, 1, 4, 0},
+    .departures = {0, 0, 1, 0, 2, 0, 3, 0},
+};
 
 static void check(const char *call, uint32_t code) {
     if (code == 0) return;
@@ -46,9 +81,13 @@ static void check(const char *call, uint32_t code) {
     exit(1);
 }
 
-static void append(const uint32_t *words, size_t count) {
-    memcpy(built + built_len, words, count * sizeof *words);
-    built_len += count;
+static size_t tables_len(SavoikyQuerySizes n) {
+    return 6 * n.times + 8 * n.trips + n.stops;
+}
+
+static void append(Timetable *t, const uint32_t *words, size_t count) {
+    memcpy(t->built + t->built_len, words, count * sizeof *words);
+    t->built_len += count;
 }
 
 static void print_lines(uint32_t lines, const uint32_t *runs, const uint32_t *entries, const uint32_t *fifo) {
@@ -59,122 +98,189 @@ static void print_lines(uint32_t lines, const uint32_t *runs, const uint32_t *en
     }
 }
 
-static void print_transfers(const uint32_t *runs) {
-    for (uint32_t e = 0; e < EVENTS; e++)
+static void print_transfers(const Timetable *t, const uint32_t *runs) {
+    for (uint32_t e = 0; e < t->sizes.times; e++)
         for (uint32_t k = 0; k < runs[2 * e + 1]; k++) {
-            const uint32_t *row = area + 4 * (runs[2 * e] + k);
+            const uint32_t *row = t->area + 4 * (runs[2 * e] + k);
             printf("  transfer from stop time %u to trip %u at its offset %u\n", (unsigned)e, (unsigned)row[0], (unsigned)row[1]);
         }
 }
 
-/* the lines, each trip's position and each line's FIFO flag; gives the number of lines */
-static uint32_t build_lines(uint32_t *lines) {
+/* the lines, each trip's position and each line's FIFO flag */
+static void build_lines(Timetable *t, uint32_t *lines) {
+    SavoikyQuerySizes n = t->sizes;
     uint32_t runs[2 * TRIPS], entries[TRIPS], positions[TRIPS], fifo[TRIPS];
     uint64_t work[TRIPS], other[TRIPS];
-    SavoikyAnswer grouped = savoiky_compute_line_groups(STOPS, TRIPS, TIMES, 0, 0, tables, LENGTH(tables), lines, TRIPS, runs, 2 * TRIPS,
-        entries, TRIPS, work, TRIPS, other, TRIPS);
+    SavoikyAnswer grouped = savoiky_compute_line_groups(n.stops, n.trips, n.times, 0, 0, t->tables, tables_len(n), lines, n.trips, runs,
+        2 * n.trips, entries, n.trips, work, n.trips, other, n.trips);
     check("compute_line_groups", grouped.code);
     uint32_t count = grouped.value;
-    check("line_layout", savoiky_line_layout(STOPS, TRIPS, TIMES, 0, 0, count, TRIPS, tables, LENGTH(tables), runs, 2 * count, entries, TRIPS,
-        positions, TRIPS, fifo, count));
+    check("line_layout", savoiky_line_layout(n.stops, n.trips, n.times, 0, 0, count, n.trips, t->tables, tables_len(n), runs, 2 * count,
+        entries, n.trips, positions, n.trips, fifo, count));
     print_lines(count, runs, entries, fifo);
-    append(lines, TRIPS);
-    append(runs, 2 * count);
-    append(entries, TRIPS);
-    return count;
+    append(t, lines, n.trips);
+    append(t, runs, 2 * count);
+    append(t, entries, n.trips);
+    t->sizes.lines = count;
+    t->sizes.entries = n.trips;
 }
 
-static void sort_departures(void) {
+static void sort_departures(Timetable *t) {
+    SavoikyQuerySizes n = t->sizes;
     uint32_t marks[STOPS];
     uint64_t work[DEPARTURES], other[DEPARTURES];
-    check("sort_stop_departures", savoiky_sort_stop_departures(STOPS, TRIPS, TIMES, 0, 0, DEPARTURES, tables, LENGTH(tables), stop_runs,
-        LENGTH(stop_runs), departures, LENGTH(departures), marks, STOPS, work, DEPARTURES, other, DEPARTURES));
-    append(stop_runs, LENGTH(stop_runs));
-    append(departures, LENGTH(departures));
-    append(marks, STOPS);
+    check("sort_stop_departures", savoiky_sort_stop_departures(n.stops, n.trips, n.times, 0, 0, n.departures, t->tables, tables_len(n),
+        t->stop_runs, 2 * n.stops, t->departures, 2 * n.departures, marks, n.stops, work, n.departures, other, n.departures));
+    append(t, t->stop_runs, 2 * n.stops);
+    append(t, t->departures, 2 * n.departures);
+    append(t, marks, n.stops);
 }
 
-static uint32_t build_transfers(uint32_t line_count, const uint32_t *lines) {
+static void build_transfers(Timetable *t, const uint32_t *lines) {
+    SavoikyQuerySizes n = t->sizes;
     uint32_t runs[2 * EVENTS];
-    SavoikyAnswer made = savoiky_compute_trip_transfers(STOPS, TRIPS, TIMES, 0, 0, line_count, DEPARTURES, tables, LENGTH(tables), lines, TRIPS,
-        stop_runs, LENGTH(stop_runs), departures, LENGTH(departures), area, LENGTH(area), runs, LENGTH(runs));
+    SavoikyAnswer made = savoiky_compute_trip_transfers(n.stops, n.trips, n.times, 0, 0, n.lines, n.departures, t->tables, tables_len(n), lines,
+        n.trips, t->stop_runs, 2 * n.stops, t->departures, 2 * n.departures, t->area, LENGTH(t->area), runs, 2 * n.times);
     check("compute_trip_transfers", made.code);
-    print_transfers(runs);
-    append(runs, LENGTH(runs));
-    return made.value;
+    print_transfers(t, runs);
+    append(t, runs, 2 * n.times);
+    t->sizes.transfers = made.value;
 }
 
-static SavoikyQuerySizes build(void) {
+static void build(Timetable *t) {
     uint32_t lines[TRIPS];
-    uint32_t line_count = build_lines(lines);
-    sort_departures();
-    uint32_t transfers = build_transfers(line_count, lines);
-    return (SavoikyQuerySizes){.trips = TRIPS, .times = TIMES, .stops = STOPS, .lines = line_count, .entries = TRIPS, .transfers = transfers,
-        .departures = DEPARTURES, .origins = ORIGINS, .egress = EGRESS};
+    build_lines(t, lines);
+    sort_departures(t);
+    build_transfers(t, lines);
 }
+
+/* a query that was answered: what it was lent to read, and its labels */
+typedef struct {
+    SavoikyQuerySizes sizes;
+    const uint32_t *tables, *query, *labels;
+    const double *distances;
+} Asked;
+
+/* a leg of a card: the label of a stop in a row */
+typedef struct {
+    uint32_t stop, row;
+    SavoikyLabelRow label;
+} Leg;
 
 /* the label of a stop in the highest row not above this one that is not empty */
-static SavoikyLabelRow label_at(uint32_t stop, uint32_t row, const uint32_t *labels, const double *distances) {
+static Leg leg_at(const Asked *q, uint32_t stop, uint32_t row) {
     for (;; row--) {
-        SavoikyLabelAnswer a = savoiky_label_load(STOPS, stop, row, labels, 104 * STOPS, distances, 13 * STOPS);
+        SavoikyLabelAnswer a = savoiky_label_load(q->sizes.stops, stop, row, q->labels, 104 * q->sizes.stops, q->distances, 13 * q->sizes.stops);
         check("label_load", a.code);
-        if (a.row.kind != 0 || row == 0) return a.row;
+        if (a.row.kind != 0 || row == 0) return (Leg){stop, row, a.row};
     }
 }
 
-/* the legs to a stop in a row, at most so many, in travel order; gives the arrival there */
-static uint32_t print_legs(int most, uint32_t stop, uint32_t row, const uint32_t *labels, const double *distances) {
-    SavoikyLabelRow l = label_at(stop, row, labels, distances);
-    if (l.kind == 1) printf("walk %u s to stop %u", (unsigned)l.word3, (unsigned)l.word1);
-    if (l.kind < 2 || most == 0) return l.word2;
-    uint32_t from = l.kind == 2 ? l.word3 : l.word2;
-    print_legs(most - 1, from, l.kind == 2 ? l.word6 : l.word5, labels, distances);
-    if (l.kind == 2) printf("; trip %u from stop %u to stop %u, arriving %u", (unsigned)l.word2, (unsigned)from, (unsigned)stop, (unsigned)l.word1);
-    if (l.kind == 3) printf("; walk %u s to stop %u", (unsigned)l.word4, (unsigned)stop);
-    return l.word1;
+static uint32_t arrival(SavoikyLabelRow l) {
+    return l.kind == 1 ? l.word2 : l.word1;
 }
 
-static void print_answer(SavoikyReply r, const uint32_t *candidates, const uint32_t *labels, const double *distances) {
+/* when a ride leaves: the departure of its stop time under the delays that the query was lent; a frequency trip's moved by its shift */
+static uint32_t departure(const Asked *q, SavoikyLabelRow ride) {
+    SavoikyQuerySizes n = q->sizes;
+    const uint32_t *trip = q->tables + 6 * n.times + 8 * ride.word2, *time = q->tables + 6 * (trip[0] + ride.word4);
+    const uint32_t *delays = q->query + 7 + 2 * n.origins + 2 * n.egress, *stop_rows = delays + 2 * n.delays;
+    SavoikyDelayAt d = savoiky_delay_at(n.trips, n.delays, n.stop_rows, delays, 2 * n.delays, stop_rows, 5 * n.stop_rows, ride.word2, time[3]);
+    check("delay_at", d.code);
+    SavoikyAnswer a = savoiky_effective_departure(time[2], d.trip_delay, d.flags, d.departure_delay);
+    check("effective_departure", a.code);
+    return trip[5] == 0 ? a.value : a.value + ride.word7;
+}
+
+/* Does a leg begin no sooner than the one before it ends? A walk begins its duration before it arrives; a ride when it leaves, in a row above 1 (a
+   round above 0) the change time before. And does a ride not end before it leaves? */
+static bool joins(const Asked *q, Leg before, Leg leg) {
+    SavoikyLabelRow l = leg.label;
+    uint32_t reached = arrival(before.label);
+    if (l.kind == 3) return reached + l.word4 <= l.word1;
+    uint32_t leaves = departure(q, l), change = leg.row > 1 ? q->query[1] : 0;
+    return reached + change <= leaves && leaves <= l.word1;
+}
+
+/* The legs to a stop in a row, the last one first: each label leads back to the stop where its ride was boarded or its walk began, and there to the
+   highest row not above its own. How many; 0 where two do not join, or none of them is an access walk: then there is no card. */
+static int follow(const Asked *q, uint32_t stop, uint32_t row, Leg *legs) {
+    legs[0] = leg_at(q, stop, row);
+    for (int n = 1;; n++) {
+        Leg leg = legs[n - 1];
+        if (leg.label.kind == 1) return n;
+        if (leg.label.kind == 0 || n == MOST_LEGS) return 0;
+        legs[n] = leg_at(q, leg.label.kind == 2 ? leg.label.word3 : leg.label.word2, leg.row);
+        if (!joins(q, legs[n], leg)) return 0;
+    }
+}
+
+static void print_leg(Leg leg) {
+    SavoikyLabelRow l = leg.label;
+    if (l.kind == 1) printf("walk %u s to stop %u", (unsigned)l.word3, (unsigned)leg.stop);
+    if (l.kind == 2)
+        printf("; trip %u from stop %u to stop %u, arriving %u", (unsigned)l.word2, (unsigned)l.word3, (unsigned)leg.stop, (unsigned)l.word1);
+    if (l.kind == 3) printf("; walk %u s to stop %u", (unsigned)l.word4, (unsigned)leg.stop);
+}
+
+/* a candidate's total, and its card where it has one */
+static void print_candidate(const Asked *q, uint32_t total, uint32_t stop, uint32_t row) {
+    Leg legs[MOST_LEGS];
+    int count = follow(q, stop, row, legs);
+    printf("  %u in row %u: ", (unsigned)total, (unsigned)row);
+    if (count == 0) {
+        printf("no card\n");
+        return;
+    }
+    for (int n = count; n > 0; n--) print_leg(legs[n - 1]);
+    printf("; walk %u s\n", (unsigned)(total - arrival(legs[0].label)));
+}
+
+static void print_answer(const Asked *q, SavoikyReply r, const uint32_t *candidates) {
     if (r.total == NEVER) {
         printf("  no way\n");
         return;
     }
     printf("  best %u at stop %u\n", (unsigned)r.total, (unsigned)r.stop);
-    for (uint32_t k = 0; k < r.candidates; k++) {
-        const uint32_t *c = candidates + 3 * k;
-        printf("  %u in row %u: ", (unsigned)c[0], (unsigned)c[2]);
-        uint32_t reached = print_legs(26, c[1], c[2], labels, distances);
-        printf("; walk %u s\n", (unsigned)(c[0] - reached));
-    }
+    for (uint32_t k = 0; k < r.candidates; k++) print_candidate(q, candidates[3 * k], candidates[3 * k + 1], candidates[3 * k + 2]);
 }
 
-/* asks: from stop 0, 10 s away, to 5 s beyond stop 2 */
-static void ask(SavoikyQuerySizes sizes, uint32_t start, uint32_t change) {
-    const uint32_t query[] = {start, change, 0, 0, 0, 0, 0, /* origin */ 0, 10, /* egress */ 2, 5};
-    const double distances[ORIGINS] = {12.5};
+/* asks: from stop 0, 10 s away, to 5 s beyond another stop */
+static void ask(const Timetable *t, uint32_t start, uint32_t change, uint32_t to) {
+    SavoikyQuerySizes n = t->sizes;
+    const uint32_t query[] = {start, change, 0, 0, 0, 0, 0, /* origin */ 0, 10, /* egress */ to, 5};
+    const double distances[] = {12.5}; /* of the origin */
     const uint8_t none = 0; /* no patterns: a pointer all the same */
     uint32_t labels[104 * STOPS], queue_a[4 * SEGMENTS], queue_b[4 * SEGMENTS], candidates[39];
     double label_distances[13 * STOPS];
-    SavoikyAnswer size = savoiky_work_size(sizes);
+    SavoikyAnswer size = savoiky_work_size(n);
     check("work_size", size.code);
     uint32_t *work = malloc(size.value * sizeof *work);
     if (work == NULL) abort();
     printf("start %u, change time %u\n", (unsigned)start, (unsigned)change);
-    SavoikyReply r = savoiky_query(sizes, tables, LENGTH(tables), built, built_len, area, LENGTH(area), &none, 0, distances, ORIGINS, query,
-        LENGTH(query), labels, LENGTH(labels), label_distances, LENGTH(label_distances), work, size.value, queue_a, LENGTH(queue_a), queue_b,
-        LENGTH(queue_b), candidates, LENGTH(candidates));
+    SavoikyReply r = savoiky_query(n, t->tables, tables_len(n), t->built, t->built_len, t->area, LENGTH(t->area), &none, 0, distances,
+        LENGTH(distances), query, LENGTH(query), labels, 104 * n.stops, label_distances, 13 * n.stops, work, size.value, queue_a,
+        LENGTH(queue_a), queue_b, LENGTH(queue_b), candidates, LENGTH(candidates));
     check("query", r.code);
-    print_answer(r, candidates, labels, label_distances);
+    print_answer(&(Asked){n, t->tables, query, labels, label_distances}, r, candidates);
     free(work);
 }
 
 int main(void) {
+    Timetable falling = second;
+    falling.tables[6 * 1 + 1] = 90; /* trip 0 arrives at stop 1 before it leaves stop 0 */
     printf("Timetable K\n");
-    SavoikyQuerySizes sizes = build();
-    ask(sizes, 90, 120);
-    ask(sizes, 90, 121);
-    ask(sizes, 91, 120);
-    ask(sizes, 150, 120);
-    ask(sizes, 151, 120);
+    build(&timetable_k);
+    ask(&timetable_k, 90, 120, 2);
+    ask(&timetable_k, 90, 121, 2);
+    ask(&timetable_k, 91, 120, 2);
+    ask(&timetable_k, 150, 120, 2);
+    ask(&timetable_k, 151, 120, 2);
+    printf("A round that boards where it arrived\n");
+    build(&second);
+    ask(&second, 90, 120, 3);
+    printf("The same, with times that fall\n");
+    build(&falling);
+    ask(&falling, 90, 120, 3);
     return 0;
 }

@@ -78,7 +78,7 @@ pub struct Built {
 }
 
 impl Timetable {
-    /// Lines, sorted departures and transfers of this timetable, ready to ask. Refused by 1 to 5 and 7. Needs about 1 MiB of stack.
+    /// Lines, sorted departures and transfers of this timetable, ready to ask. Refused by 1 to 7. Needs about 1 MiB of stack.
     pub fn build(&self) -> Result<Tables, Refusal> {
         let lines = self.compute_line_groups()?;
         let (departures, marks) = self.sort_stop_departures()?;
@@ -86,7 +86,7 @@ impl Timetable {
         Ok(Tables::new(self, Built { lines, departures, marks, transfers }))
     }
 
-    /// The trips grouped into lines. Refused by 1 to 5.
+    /// The trips grouped into lines. Refused by 1 to 6.
     pub fn compute_line_groups(&self) -> Result<Lines, Refusal> {
         let trips = self.trips.len();
         let (mut of_trip, mut runs, mut entries) = (vec![0; trips], vec![0; 2 * trips], vec![0; trips]);
@@ -97,7 +97,7 @@ impl Timetable {
         Ok(Lines { of_trip, runs: Run::read(&runs), entries })
     }
 
-    /// Each stop's listed departures sorted by scheduled departure, and each stop's mark. Refused by 1 to 5.
+    /// Each stop's listed departures sorted by scheduled departure, and each stop's mark. Refused by 1 to 6.
     pub fn sort_stop_departures(&self) -> Result<(Departures, Vec<bool>), Refusal> {
         let listed = &self.departures;
         let (mut rows, mut marks) = (words(&listed.rows, Departure::words), vec![0; self.stops.len()]);
@@ -109,7 +109,7 @@ impl Timetable {
         Ok((Departures { runs: listed.runs.clone(), rows }, marks.iter().map(|m| *m == 1).collect()))
     }
 
-    /// Each trip's position and each line's FIFO flag, of any lines. Refused by 1 to 5.
+    /// Each trip's position and each line's FIFO flag, of any lines. Refused by 1 to 6.
     pub fn line_layout(&self, lines: &Lines) -> Result<Layout, Refusal> {
         let (mut positions, mut fifo) = (vec![0; self.trips.len()], vec![0; lines.runs.len()]);
         let runs = words(&lines.runs, Run::words);
@@ -120,7 +120,7 @@ impl Timetable {
         Ok(Layout { positions, fifo: fifo.iter().map(|f| *f == 1).collect() })
     }
 
-    /// The transfers of every stop time of every trip, at most so many. Refused by 1 to 5, and by 7: more than 65,536, or
+    /// The transfers of every stop time of every trip, at most so many. Refused by 1 to 6, and by 7: more than 65,536, or
     /// than so many. Needs about 1 MiB of stack.
     pub fn compute_trip_transfers(&self, lines: &Lines, space: usize) -> Result<Transfers, Refusal> {
         if self.events() > EVENT_LIMIT || self.trips.iter().any(|t| t.stop_times.of(&self.stop_times).is_none()) {

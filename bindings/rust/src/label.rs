@@ -11,8 +11,11 @@ const WORDS: usize = 8;
 
 /// When and how a stop was reached in a round.
 ///
-/// A ride leads back to its `board_stop`, a walk to its `from_stop`: there to the highest row not above `prev_round` whose label
-/// is not empty. A round may use its own gains, so some labels lead to one that ends after they begin, or to none.
+/// A ride leads back to its `board_stop`, a walk to its `from_stop`: there to the highest row that is not empty and not above the
+/// label's own (a round sees its own gains). Compare the times all the same: a walk begins its duration before it arrives, a ride
+/// when it departs (its stop time's effective departure, a frequency trip's plus `time_shift_s`), in a row above 1 the change time
+/// before. Where one begins before the label that it leads back to arrives, or a ride ends before it departs (times that fall, times
+/// given for single stops, arc flags), show the total without legs.
 #[derive(Clone, Copy, PartialEq, Debug, Default)]
 pub enum Label {
     /// It was not reached in this round.
@@ -41,9 +44,9 @@ pub enum Label {
         board_off: u32,
         /// At which of its stop times it was left.
         alight_off: u32,
-        /// The row to look in for the way to the boarding stop.
+        /// The round of the ride: the label's row less 1.
         prev_round: u32,
-        /// By how much a frequency trip's run is later than the trip's stop times.
+        /// A frequency trip: by how much its run is later than its stop times; another: its delay where it was boarded.
         time_shift_s: i32,
     },
     /// By a walk edge.
@@ -58,7 +61,7 @@ pub enum Label {
         duration_s: u32,
         /// The walk edge's distance.
         distance_m: f64,
-        /// The row to look in for the way to the from-stop.
+        /// The label's row.
         prev_round: u32,
     },
 }
@@ -152,7 +155,7 @@ impl Labels {
         checked(answer.code).map(|()| Label::of(answer.row))
     }
 
-    /// Puts a label in a stop's row. Refused as `load` is.
+    /// Puts a label in a stop's row. Refused as `load` is, and by 4 where a stop number in the label is not below the count of stops.
     pub fn store(&mut self, stop: u32, row: u32, label: Label) -> Result<(), Refusal> {
         let place = Place { stops: count(self.stops), stop, row, labels: &mut self.words, distances: &mut self.distances };
         checked(match label {

@@ -20,8 +20,8 @@ fn labels() {
     let mut labels = Labels::new(2).unwrap();
     let stored = [
         Label::Access { stop_idx: 1, arrival_s: 2, walk_duration: 3, walk_distance: 4.5 },
-        Label::Transit { arrival_s: 1, trip_idx: 2, board_stop: 3, board_off: 4, alight_off: 5, prev_round: 6, time_shift_s: -7 },
-        Label::Walk { arrival_s: 1, from_stop: 2, to_stop: 3, duration_s: 4, distance_m: f64::INFINITY, prev_round: 5 },
+        Label::Transit { arrival_s: 1, trip_idx: 2, board_stop: 1, board_off: 4, alight_off: 5, prev_round: 6, time_shift_s: -7 },
+        Label::Walk { arrival_s: u32::MAX, from_stop: 0, to_stop: 1, duration_s: 4, distance_m: f64::INFINITY, prev_round: 5 },
     ];
     for (row, label) in stored.into_iter().enumerate() {
         labels.store(1, row as u32, label).unwrap();

@@ -109,6 +109,43 @@ fn question_4() {
     assert_eq!(number(Labels::new(1).unwrap().store(1, 0, Label::Empty)), 4);
 }
 
+/// A label for the row of stop 0 whose stop numbers are these: the codes by row 12, of two stops, and by row 13.
+fn label_codes(label: impl Fn(u32, u32) -> Label, from: u32, to: u32) -> [u32; 2] {
+    let mut labels = Labels::new(2).unwrap();
+    let codes = [12, 13].map(|row| labels.store(0, row, label(from, to)).map_or_else(|r| r.number(), |()| 0));
+    assert_eq!(labels.load(0, 12), Ok(if codes[0] == 0 { label(from, to) } else { Label::Empty }));
+    codes
+}
+
+#[test]
+fn question_4_of_labels() {
+    let access = |stop_idx, _| Label::Access { stop_idx, arrival_s: 1, walk_duration: 1, walk_distance: 1.0 };
+    let ride = |board_stop, trip_idx| Label::Transit {
+        arrival_s: 1,
+        trip_idx,
+        board_stop,
+        board_off: 9,
+        alight_off: 9,
+        prev_round: 9,
+        time_shift_s: -9,
+    };
+    let walk = |from_stop, to_stop| Label::Walk {
+        arrival_s: u32::MAX,
+        from_stop,
+        to_stop,
+        duration_s: u32::MAX,
+        distance_m: 1.0,
+        prev_round: 9,
+    };
+    for stop in [0, 1, 2, 3, u32::MAX] {
+        let expected = if stop < 2 { [0, 5] } else { [4, 4] };
+        assert_eq!(label_codes(access, stop, 9), expected);
+        assert_eq!(label_codes(ride, stop, 9), expected);
+        assert_eq!(label_codes(walk, stop, 1), expected);
+        assert_eq!(label_codes(walk, 1, stop), expected);
+    }
+}
+
 #[test]
 fn question_5() {
     let mut k = timetable_k();
@@ -137,7 +174,18 @@ fn question_6() {
     assert_eq!(by_hand(|b| b.departures.rows.swap(0, 1)), 6);
     let mut k = timetable_k();
     k.walk_edges = [1, 0].map(|from_stop_idx| WalkEdge { from_stop_idx, ..WalkEdge::default() }).to_vec();
-    assert_eq!(number(k.build().unwrap().query(&query_k(90, 120), &mut Workspace::new())), 6);
+    let built = timetable_k().build().unwrap().built().clone();
+    let lines = built.lines.clone();
+    assert_eq!(number(Tables::new(&k, built).query(&query_k(90, 120), &mut Workspace::new())), 6);
+    // the building calls ask it of the walk edges too, the transfers call before 7; none asks it of the departures
+    assert_eq!(number(k.build()), 6);
+    assert_eq!(number(k.compute_line_groups()), 6);
+    assert_eq!(number(k.sort_stop_departures()), 6);
+    assert_eq!(number(k.line_layout(&lines)), 6);
+    assert_eq!(number(k.compute_trip_transfers(&lines, 0)), 6);
+    let mut unsorted = timetable_k();
+    unsorted.departures.rows.swap(0, 1);
+    assert_eq!(unsorted.build().unwrap().built(), timetable_k().build().unwrap().built());
 }
 
 #[test]

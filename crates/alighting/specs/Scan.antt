@@ -1,4 +1,5 @@
 -- What the scan of a trip reads, and which tables and queries agree with it. Definitions only.
+-- Inner: nobody has to believe this.
 use Prim.Native.Nat.{ℕ, _+_, _-_, _*_, _/_, _<_, _≤_}
 use mathlib.Core.Path.{_≡_}
 use mathlib.Core.Bool.{false}
@@ -24,7 +25,7 @@ use Rattle.scratch.specs.declared.Head.{Head}
 use Rattle.scratch.specs.Places.{EgressTable, restAt}
 use Rattle.boarding.specs.Reads.{Known, Ground, Agree, Asks}
 use Rattle.boarding.specs.Resolving.{LinesHeld, LinesOf}
-use Rattle.flags.specs.Flags.{Patterned, PatternsOk}
+use Rattle.flags.specs.Skipping.{Patterned, PatternsOk}
 use Rattle.alighting.specs.declared.Net.{Net}
 
 -- a ride whose trip is in the table, with a small shift; its trip's delay row is adj

@@ -1,5 +1,6 @@
 -- Questions 4 to 6 asked at once, each stop time and each listed departure read once: what the functions of that pass answer, and what their
 -- yes gives. The questions themselves are in Door. Definitions only.
+-- Inner: nobody has to believe this.
 use Prim.Native.Nat.{ℕ, _+_, _≤_, _<_}
 use mathlib.Core.Path.{_≡_}
 use mathlib.Core.Bool.{Bool, true, _&&_}

@@ -12,7 +12,8 @@ use Rattle.tables.specs.Sane.{Sane}
 use Rattle.reset.specs.Fill.{egressOf, egressAt as rowAt}
 use Rattle.boarding.specs.declared.Lined.{Lined}
 use Rattle.boarding.specs.Resolving.{linedOf}
-use Rattle.flags.specs.Flags.{EgressIn, egressRows}
+use Rattle.flags.specs.Flags.{egressRows}
+use Rattle.flags.specs.Skipping.{EgressIn}
 use Rattle.cell_bitset.specs.declared.CellBitSet.{CellBitSet}
 use Rattle.tables.specs.Timetable.{timetable}
 use Rattle.tables.specs.declared.Counts.{Counts}

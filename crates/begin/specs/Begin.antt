@@ -1,4 +1,5 @@
 -- How a query begins: where its sections stand, what is laid out in the working numbers, the state before the first round. Definitions only.
+-- Inner: nobody has to believe this.
 use Prim.Native.Nat.{ℕ, _+_, _*_, _≤_, _<_}
 use mathlib.Core.Path.{_≡_}
 use mathlib.Core.Bool.{false}

@@ -1,4 +1,5 @@
 -- What the beginning of a query needs of the lent slices, what a call that fills a section does, and the origins gone through. Definitions only.
+-- Inner: nobody has to believe this.
 use Prim.Native.Nat.{ℕ, _+_, _*_, _≤_, _<_}
 use mathlib.Core.Path.{_≡_}
 use mathlib.Core.List.{List}

@@ -38,11 +38,11 @@ pair-second f g i (suc n) (suc k) rest h =
 
 -- WHAT THE LINES CALL WRITES lists as built
 module _ (T : Timetable) (old : List ℕ) where
-  run-first : (l : ℕ) → l < linesOf T → getD (runsOf T old) (l * 2) 0 ≡ lineFirst T l
+  pub run-first : (l : ℕ) → l < linesOf T → getD (runsOf T old) (l * 2) 0 ≡ lineFirst T l
   unfolding runsOf
   run-first l h = pair-first (lineFirst T) (lineCount T) 0 (linesOf T) l (drop (linesOf T * 2) old) h ∙ ap (lineFirst T) (zero-add l)
 
-  run-count : (l : ℕ) → l < linesOf T → getD (runsOf T old) (l * 2 + 1) 0 ≡ lineCount T l
+  pub run-count : (l : ℕ) → l < linesOf T → getD (runsOf T old) (l * 2 + 1) 0 ≡ lineCount T l
   unfolding runsOf
   run-count l h = pair-second (lineFirst T) (lineCount T) 0 (linesOf T) l (drop (linesOf T * 2) old) h ∙ ap (lineCount T) (zero-add l)
 

@@ -22,14 +22,12 @@ use Rattle.realtime.specs.Times.{departureGiven, arrivalGiven, sizeOf}
 use Rattle.cell_bitset.specs.declared.CellBitSet.{CellBitSet}
 use Rattle.departures.specs.declared.DepartureRow.{DepartureRow}
 use Rattle.tables.specs.Timetable.{Timetable}
-use Rattle.line_numbers.specs.Lines.{lineOf, linesOf}
-use Rattle.departures.specs.Departures.{sorted, markOf}
-use Rattle.built.specs.Built.{AsBuilt}
-use Rattle.line_transfers.specs.Transfers.{Transfer, builtTransfers}
+use Rattle.line_numbers.specs.Lines.{lineOf}
+use Rattle.line_transfers.specs.Transfers.{Transfer}
 use Rattle.model.specs.Tables.{never, Tables, Origin, Query, stops, trips, stopCount, stopAt, arrival, departure, noPickup, noWindows, edgesFrom, edgeTo, walkTime}
 use Rattle.model.specs.Search.{flagsInUse}
 use Rattle.model.specs.Door.{Door, InOrder, EgressRising}
-use Rattle.model.specs.Promise.{transferInput, NoTimesFall, CalmDay, PlainDay, Boarding, effective, arrivesFrom, SteadyDay, TripDelays}
+use Rattle.model.specs.Promise.{LinesBuilt, TransfersBuilt, NoTimesFall, CalmConditions, CalmDay, PlainConditions, PlainDay, Boarding, effective, arrivesFrom, SteadyConditions, SteadyDay, TripDelays}
 use Rattle.days.specs.K.{built, bare}
 
 -- all tests of a list pass
@@ -452,42 +450,35 @@ module _ (T : Tables) (Q : Query) where
         let r = both (eqb (w .0 .stop) (edgeTo T f)) (leb (w .0 .duration) (a .duration + walkTime T Q f)) (w .2) in
         (w .0, w .1, eqb-true _ _ (r .0), leb-true _ _ (r .1))
 
--- tables that are as built and pass the tests are a calm day
-pub calm-when : (T : Tables) (Q : Query) (listed : ℕ → List DepartureRow)
-    → ((s : ℕ) → s < stops T → T .departures s ≡ sorted (T .timetable) (listed s))
-    → ((s : ℕ) → s < stops T → T .mark s ≡ markOf (T .timetable) (listed s))
-    → T .lines ≡ linesOf (T .timetable)
-    → ((t : ℕ) → t < trips T → T .lineOf t ≡ lineOf (T .timetable) t)
-    → AsBuilt (T .timetable) (T .line)
-    → allOf (calmTests T Q) ≡ true → CalmDay T Q
-calm-when T Q listed departures marks lines line lists e =
+-- THE CONDITIONS of a day, from its tests
+pub calm-conditions : (T : Tables) (Q : Query) → allOf (calmTests T Q) ≡ true → CalmConditions T Q
+calm-conditions T Q e =
     record {
-      listed = listed;
-      departures-built = departures;
-      marks-built = marks;
-      lines-built = lines;
-      line-built = line;
-      lists-built = lists;
       no-windows = λ t h. everyIn-at (λ t. noWindows T t) (trips T) t (passed (calmTests T Q) e 0) h;
       no-flags = not-true _ (passed (calmTests T Q) e 1);
       edges-complete = complete T Q e;
       origins-complete = origins T Q e;
     }
 
--- with its tests a plain day, where the transfers are as built too
-pub plain-when : (T : Tables) (Q : Query) → (allOf (calmTests T Q) ≡ true → CalmDay T Q)
-    → ((t o : ℕ) → t < trips T → o < stopCount T t → T .transfers t o ≡ builtTransfers (transferInput T (Q .settings .transferTime)) t o)
-    → allOf (plainTests T Q) ≡ true → PlainDay T Q
-plain-when T Q calm transfers e =
+pub plain-conditions : (T : Tables) (Q : Query) → allOf (plainTests T Q) ≡ true → PlainConditions T Q
+plain-conditions T Q e =
     record {
-      calm = calm (passed (plainTests T Q) e 0);
-      transfers-built = transfers;
       no-delays = eqb-true _ _ (passed (plainTests T Q) e 1);
       no-times-fall = no-times-fall T (passed (plainTests T Q) e 2) (passed (plainTests T Q) e 3);
       evenly-listed = evenly T Q e;
     }
 
--- and with its own a steady one
+-- tables as built that pass the tests are a plain day
+pub plain-when : (T : Tables) (Q : Query) (listed : ℕ → List DepartureRow) → LinesBuilt T listed → TransfersBuilt T listed (Q .settings .transferTime)
+    → allOf (plainTests T Q) ≡ true → PlainDay T Q
+plain-when T Q listed lines transfers e =
+    record {
+      calm = record { listed = listed; built = lines; conditions = calm-conditions T Q (passed (plainTests T Q) e 0) };
+      transfers = transfers;
+      conditions = plain-conditions T Q e;
+    }
+
+-- with its own a steady one
 module _ (T : Tables) (Q : Query) (D : Door T Q) where
   at-stop : (f : ℕ → ℕ → Bool) → stopsTest T Q f ≡ true → (x t o : ℕ) → x < stops T → Boarding T Q (effective T Q) x t o → f t o ≡ true
   at-stop f e x t o h b =
@@ -504,10 +495,9 @@ module _ (T : Tables) (Q : Query) (D : Door T Q) where
       (everyIn-at (λ p. everyIn (fromStop T Q f t p) 0 p) (stopCount T t) p (everyIn-at (λ t. everyIn (λ p. everyIn (fromStop T Q f t p) 0 p) 0 (stopCount T t)) (trips T) t e u) n) l) a)
       b
 
-  pub steady-when : (allOf (calmTests T Q) ≡ true → CalmDay T Q) → allOf (steadyTests T Q) ≡ true → SteadyDay T Q
-  steady-when calm e =
+  pub steady-conditions : allOf (steadyTests T Q) ≡ true → SteadyConditions T Q
+  steady-conditions e =
       record {
-        calm = calm (passed (steadyTests T Q) e 0);
         rides = λ x t o p h b a. leb-true _ _ (between-stops (rises T Q) (passed (steadyTests T Q) e 1) t o p (D .listed-trip x _ h (b .listed)) (a .later) (a .inside) (b .served) (a .served));
         arrivals = λ x t o p q h b a c l. leb-true _ _ (second-of (eqb p 0) _
             (between-stops (arrivalsRise T Q) (passed (steadyTests T Q) e 2) t p q (D .listed-trip x _ h (b .listed)) l (c .inside) (a .served) (c .served))
@@ -517,6 +507,10 @@ module _ (T : Tables) (Q : Query) (D : Door T Q) where
         not-early = λ x t o h b. leb-true _ _ (at-stop (notEarly T Q) (passed (steadyTests T Q) e 5) x t o h b);
         one-arrival = λ x t o p h b a. eqb-true _ _ (between-stops (oneArrival T Q) (passed (steadyTests T Q) e 6) t o p (D .listed-trip x _ h (b .listed)) (a .later) (a .inside) (b .served) (a .served));
       }
+
+  pub steady-when : (listed : ℕ → List DepartureRow) → LinesBuilt T listed → allOf (steadyTests T Q) ≡ true → SteadyDay T Q
+  steady-when listed lines e =
+      record { calm = record { listed = listed; built = lines; conditions = calm-conditions T Q (passed (steadyTests T Q) e 0) }; conditions = steady-conditions e }
 
 pub trip-delays-when : (T : Tables) (Q : Query) → allOf (tripDelayTests T Q) ≡ true → TripDelays T Q
 trip-delays-when T Q e =
@@ -529,14 +523,34 @@ trip-delays-when T Q e =
     }
 
 -- built tables are as built, also without transfers
+pub built-lines : (X : Timetable) (listed : ℕ → List DepartureRow) (time : ℕ) (patterns : List CellBitSet) → LinesBuilt (built X listed time patterns) listed
+built-lines X listed time patterns =
+    record {
+      departures-built = λ s h. refl;
+      marks-built = λ s h. refl;
+      lines-built = refl;
+      line-built = λ t h. refl;
+      lists-built = record { count = λ l h. refl; trip = λ l p h i. refl };
+    }
+
 pub plain-holds : (X : Timetable) (listed : ℕ → List DepartureRow) (patterns : List CellBitSet) (Q : Query)
     → allOf (plainTests (built X listed (Q .settings .transferTime) patterns) Q) ≡ true → PlainDay (built X listed (Q .settings .transferTime) patterns) Q
 plain-holds X listed patterns Q =
-    let T = built X listed (Q .settings .transferTime) patterns in
-    plain-when T Q (calm-when T Q listed (λ s h. refl) (λ s h. refl) refl (λ t h. refl) (record { count = λ l h. refl; trip = λ l p h i. refl })) (λ t o h l. refl)
+    plain-when (built X listed (Q .settings .transferTime) patterns) Q listed (built-lines X listed (Q .settings .transferTime) patterns)
+    (record { transfers-built = λ t o h l. refl })
+
+pub bare-lines : (X : Timetable) (listed : ℕ → List DepartureRow) → LinesBuilt (bare X listed) listed
+bare-lines X listed =
+    record {
+      departures-built = λ s h. refl;
+      marks-built = λ s h. refl;
+      lines-built = refl;
+      line-built = λ t h. refl;
+      lists-built = record { count = λ l h. refl; trip = λ l p h i. refl };
+    }
 
 pub calm-bare : (X : Timetable) (listed : ℕ → List DepartureRow) (Q : Query) → allOf (calmTests (bare X listed) Q) ≡ true → CalmDay (bare X listed) Q
-calm-bare X listed Q = calm-when (bare X listed) Q listed (λ s h. refl) (λ s h. refl) refl (λ t h. refl) (record { count = λ l h. refl; trip = λ l p h i. refl })
+calm-bare X listed Q e = record { listed = listed; built = bare-lines X listed; conditions = calm-conditions (bare X listed) Q e }
 
 pub steady-holds : (X : Timetable) (listed : ℕ → List DepartureRow) (Q : Query) → Door (bare X listed) Q → allOf (steadyTests (bare X listed) Q) ≡ true → SteadyDay (bare X listed) Q
-steady-holds X listed Q D = steady-when (bare X listed) Q D (calm-bare X listed Q)
+steady-holds X listed Q D = steady-when (bare X listed) Q D listed (bare-lines X listed)

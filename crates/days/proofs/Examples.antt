@@ -22,7 +22,7 @@ use Rattle.line_layout.specs.Layout.{fifoLine, inOrder, neighbours, lastIn, pos
 use Rattle.departures.specs.Departures.{frequencyListed}
 use Rattle.line_transfers.specs.Transfers.{Transfer, departuresOfLine, firstNotBefore, transferTo, transfersOf}
 use Rattle.model.specs.Tables.{never, Tables, Query, changeBefore, isEgress, egressWalk, edgesFrom, fifo, modeWanted, usable, permitted}
-use Rattle.model.specs.Search.{Answer, targetsFrom, targetCells, holdsTarget, useArcFlags, someTransfer, skipsEdge, skipsTransfer, flagsInUse, departuresAt, markAt, lineAt, notBefore, marginOf, boardAt, bestAfter, improve, relax, resolveIn, lineTripsAt, resolve, enqueue, takeTransfers, alightings, transferring, scanTripForward, rideSegments, dominated, pruned, passedOver, boarding, board, scanDepartures, scanStops, walkFrom, walkAll, ridePhase, stamped, walkPhase, idle, rounds, setOut, access, bestTarget, rowTarget, candidatesFrom, final, answer, runTbr, query}
+use Rattle.model.specs.Search.{Answer, targetsFrom, targetCells, holdsTarget, useArcFlags, someTransfer, skipsEdge, skipsTransfer, flagsInUse, departuresAt, markAt, lineAt, notBefore, marginOf, boardAt, bestAfter, improve, relax, resolveIn, lineTripsAt, resolve, enqueue, takeTransfers, alightings, transferring, scanTripForward, rideSegments, dominated, pruned, passedOver, boarding, board, scanDepartures, scanStops, walkFrom, walkAll, ridePhase, stamped, walkPhase, idle, rounds, setOut, access, bestTarget, rowTarget, candidatesFrom, final, answer, putOff, runTbr, query}
 use Rattle.days.specs.K.{built, timetableK, listedK, tablesK, patternK, frequentK, asks, queryK, noDelays, origin, delayedK, tablesW, queryW}
 
 -- a total, its stop, and the candidates (total, stop, row) one after another
@@ -155,7 +155,7 @@ labelRows = (
 abbrev scanRows : List (List (ℕ × ℕ × ℕ) × List (ℕ × ℕ × ℕ))
 scanRows =
     (query tablesK (queryK 90 120) .scans, (1, 2, 0) ∷ (0, 0, 0) ∷ [])
-    ∷ (runTbr patternK (queryK 90 121) .scans, (1, 2, 0) ∷ (0, 0, 0) ∷ [])
+    ∷ (runTbr patternK (putOff (queryK 90 121)) .scans, (0, 0, 0) ∷ [])
     ∷ (query tablesW queryW .scans, (1, 3, 0) ∷ (0, 0, 0) ∷ [])
     ∷ []
 

@@ -2,9 +2,8 @@
 -- does not give what demand 3 asks.
 use Prim.Native.Nat.{ℕ, zero, suc, _+_, _≤_}
 use mathlib.Core.Path.{_≡_, refl, sym, ap, subst, _∙_}
-use mathlib.Core.Logic.{⊎-elim}
 use mathlib.Core.Bool.{Bool, true, false, not, _||_}
-use mathlib.Core.List.{List, [], _∷_, flatten, List·Memᴰ, List·Memᴰ·head, List·Memᴰ·tail, List·Memᴰ·cases-cons, List·Memᴰ·not-nil, List·Memᴰ·eq-of-singleton}
+use mathlib.Core.List.{List, [], _∷_, flatten, List·Memᴰ·head, List·Memᴰ·tail, List·Memᴰ·eq-of-singleton}
 use native.Mathlib.Omega.{arith}
 use lib.ListN.{getD}
 use lib.Dec.{ltb, eqb}
@@ -14,14 +13,13 @@ use Rattle.loops.specs.Count.{count, tabFrom}
 use Rattle.sorts.specs.Sort.{insertBy, sortBy}
 use Rattle.sorts.specs.Orders.{keep}
 use Rattle.walk.specs.Walk.{effectiveDuration, roundCount}
-use Rattle.departures.specs.declared.DepartureRow.{DepartureRow}
 use Rattle.line_numbers.specs.Lines.{lineOf, same, leadOf, isLead, lineTrips}
 use Rattle.departures.specs.Departures.{frequencyListed}
 use Rattle.line_transfers.specs.Transfers.{departuresOfLine, firstNotBefore, transferTo, transfersOf}
 use Rattle.model.specs.Tables.{Origin, Query, stopAt, changeBefore, edgesFrom, modeWanted, usable, permitted}
-use Rattle.model.specs.Search.{Answer, targetsFrom, targetCells, holdsTarget, useArcFlags, someTransfer, skipsEdge, skipsTransfer, flagsInUse, runTbr}
+use Rattle.model.specs.Search.{targetsFrom, targetCells, holdsTarget, useArcFlags, someTransfer, skipsEdge, skipsTransfer, flagsInUse, putOff, runTbr}
 use Rattle.model.specs.Door.{Door}
-use Rattle.model.specs.Promise.{scheduled, PlainDay, Boarding, Alighting, Journey, WholeJourney, Way, Arrives, Demand3}
+use Rattle.model.specs.Promise.{scheduled, PlainDay, Alighting, Journey, WholeJourney, Way, Demand3}
 use Rattle.days.specs.K.{timetableK, listedK, tablesK, patternK, everyCell, queryK, asks, noDelays, origin, tablesW, timetableW, listedW, queryW}
 use Rattle.days.proofs.Examples.{worked}
 use Rattle.days.proofs.DayTests.{allOf, passed, allIn, among, first-or, anyIn, sortedTest, risingTest, has, doorTests, plainTests, door-holds, plain-holds, leaving}
@@ -102,7 +100,7 @@ slow-there = refl
 pub not-plain : PlainDay tablesW onFootW → ⊥
 unfolding keep tabFrom edgesFrom effectiveDuration
 not-plain d =
-    let r = d .calm .origins-complete (origin 1 700) 1 (List·Memᴰ·tail (List·Memᴰ·head refl)) (List·Memᴰ·tail (List·Memᴰ·head refl)) in
+    let r = d .calm .conditions .origins-complete (origin 1 700) 1 (List·Memᴰ·tail (List·Memᴰ·head refl)) (List·Memᴰ·tail (List·Memᴰ·head refl)) in
     let b = r .0 in
     let p = among (λ (b : Origin). not (eqb (b .stop) 4) || ltb 702 (b .duration)) (queryW .origins) b slow-there (r .1) in
     let q = ltb-true 702 (b .duration) (first-or (eqb (b .stop) 4) (ltb 702 (b .duration)) p (eq-eqb (b .stop) 4 (r .2))) in
@@ -116,50 +114,30 @@ rust-total = ap (λ l. getD (getD l 1 []) 0 0) (worked .more)
 rust-stop : runTbr patternK (queryK 90 121) .stop ≡ 2
 rust-stop = ap (λ l. getD (getD l 1 []) 1 0) (worked .more)
 
-rust-scans : runTbr patternK (queryK 90 121) .scans ≡ (1, 2, 0) ∷ (0, 0, 0) ∷ []
-rust-scans = ap (λ l. getD l 1 []) (worked .scans)
+-- the reference with the switch put off: T2 is not scanned, one misses it by a second
+off-scans : runTbr patternK (putOff (queryK 90 121)) .scans ≡ (0, 0, 0) ∷ []
+off-scans = ap (λ l. getD l 1 []) (worked .scans)
 
 rust-short : runTbr patternK (queryK 91 60) .total ≡ 465
 rust-short = ap (λ l. getD (getD l 3 []) 0 0) (worked .more)
 
--- Over its two scans a way is at stop 1 at 200 or later, and at stop 2 at 400 or later
-record Late (x v : ℕ) : Type 0 where
-  pub first : x ≡ 1 → 200 ≤ v
-  pub second : x ≡ 2 → 400 ≤ v
-
--- T2 is missed by one second
-missed : (x v : ℕ) → Late x v → Boarding patternK (queryK 90 121) (scheduled patternK) x 2 0
-    → v + changeBefore (queryK 90 121) 1 ≤ scheduled patternK .departs 2 0 → ⊥
-unfolding insertBy sortBy changeBefore first
-missed zero v l b h =
-    ⊎-elim (λ z. let q : _≡_ {A = ℕ} 2 0 = ap (λ (d : DepartureRow). d .trip) z in omega arith)
-    (λ m. let q : _≡_ {A = ℕ} 2 1 = ap (λ (d : DepartureRow). d .trip) (List·Memᴰ·eq-of-singleton m) in omega arith)
-    (List·Memᴰ·cases-cons (b .listed))
-missed (suc zero) v l b h = let q = l .first refl in omega (arith, q, h)
-missed (suc (suc x)) v l b h = List·Memᴰ·not-nil (b .listed)
+-- Over that one scan a way is at stop 2 at 400 or later
+abbrev Late : ℕ → ℕ → Type 0
+Late x v = x ≡ 2 → 400 ≤ v
 
 -- T0 is left at stop 1 or 2
 left : (p : ℕ) → Alighting patternK (queryK 90 121) (scheduled patternK) 0 0 p → Late (stopAt patternK 0 p) (scheduled patternK .arrives 0 p)
 unfolding first
 left zero a = absurd (omega (arith, a .later))
-left (suc zero) a = record { first = λ z. leb-true 200 200 refl; second = λ z. absurd (omega arith) }
-left (suc (suc zero)) a = record { first = λ z. absurd (omega arith); second = λ z. leb-true 400 400 refl }
+left (suc zero) a = λ z. absurd (omega arith)
+left (suc (suc zero)) a = λ z. leb-true 400 400 refl
 left (suc (suc (suc p))) a = let q = a .inside in absurd (omega (arith, q))
 
--- so every way over its scans
-late : {x v q : ℕ} → Way patternK (queryK 90 121) (scheduled patternK) ((1, 2, 0) ∷ (0, 0, 0) ∷ []) x v q → Late x v
-late (Way.access a m) =
-    subst (λ (z : Origin). Late (z .stop) (90 + z .duration)) (sym (List·Memᴰ·eq-of-singleton m))
-    (record { first = λ z. absurd (omega arith); second = λ z. absurd (omega arith) })
-late (Way.ride {x} {v} r t o p w f m b a h) =
-    ⊎-elim (λ z. absurd (missed x v (late w) (boards z) (inTime z))) (λ i. rode (List·Memᴰ·eq-of-singleton i)) (List·Memᴰ·cases-cons m)
+-- so every way over it
+late : {x v q : ℕ} → Way patternK (queryK 90 121) (scheduled patternK) ((0, 0, 0) ∷ []) x v q → Late x v
+late (Way.access a m) = subst (λ (z : Origin). Late (z .stop) (90 + z .duration)) (sym (List·Memᴰ·eq-of-singleton m)) (λ z. absurd (omega arith))
+late (Way.ride {x} {v} r t o p w f m b a h) = rode (List·Memᴰ·eq-of-singleton m)
   where
-    boards : {c : ℕ × ℕ × ℕ} → (r, t, o) ≡ c → Boarding patternK (queryK 90 121) (scheduled patternK) x (c .1) (c .2)
-    boards z = subst (λ (s : ℕ × ℕ × ℕ). Boarding patternK (queryK 90 121) (scheduled patternK) x (s .1) (s .2)) z b
-
-    inTime : {c : ℕ × ℕ × ℕ} → (r, t, o) ≡ c → v + changeBefore (queryK 90 121) (c .0) ≤ scheduled patternK .departs (c .1) (c .2)
-    inTime z = subst (λ (s : ℕ × ℕ × ℕ). v + changeBefore (queryK 90 121) (s .0) ≤ scheduled patternK .departs (s .1) (s .2)) z h
-
     rode : _≡_ {A = ℕ × ℕ × ℕ} (r, t, o) (0, 0, 0) → Late (stopAt patternK t p) (scheduled patternK .arrives t p)
     rode z =
         subst (λ (s : ℕ × ℕ × ℕ). Late (stopAt patternK (s .1) p) (scheduled patternK .arrives (s .1) p)) (sym z)
@@ -169,10 +147,9 @@ late (Way.foot {x} e w m) = absurd (let q = leaving patternK (queryK 90 121) x e
 -- change time 121: the Rust's 385 at stop 2 is the arrival of no way
 pub rust-breaks : Demand3 patternK (queryK 90 121) (scheduled patternK) (runTbr patternK (queryK 90 121)) → ⊥
 rust-breaks d =
-    let A : Answer = runTbr patternK (queryK 90 121) in
-    let a = d .best (λ z. let q = sym rust-total ∙ z in omega (arith, q)) in
-    let b = subst (λ s. Arrives patternK (queryK 90 121) (scheduled patternK) s (A .total) (A .stop)) rust-scans a in
-    let w = late (subst (λ x. Way patternK (queryK 90 121) (scheduled patternK) ((1, 2, 0) ∷ (0, 0, 0) ∷ []) x (b .reached) (b .lastRound)) rust-stop (b .way)) .second refl in
+    let b = d .best (λ z. let q = sym rust-total ∙ z in omega (arith, q)) in
+    let y = subst (λ s. Way patternK (queryK 90 121) (scheduled patternK) s (runTbr patternK (queryK 90 121) .stop) (b .reached) (b .lastRound)) off-scans (b .way) in
+    let w = late (subst (λ x. Way patternK (queryK 90 121) (scheduled patternK) ((0, 0, 0) ∷ []) x (b .reached) (b .lastRound)) rust-stop y) refl in
     let e = ap (λ (x : ℕ × ℕ). x .1) (List·Memᴰ·eq-of-singleton (b .egress)) in
     let s = b .sum in
     omega (arith, w, e, s, rust-total)

@@ -1,4 +1,5 @@
 -- Timetable K (document 01), a second day with walks, and tables as the building definitions make them. Definitions only.
+-- For a law: no contract rests on this.
 use Prim.Native.Nat.{ℕ}
 use mathlib.Core.Bool.{Bool, true, false}
 use mathlib.Core.List.{List, [], _∷_}
@@ -30,7 +31,7 @@ built X listed time patterns =
       line = λ l. record { count = length (lineTrips X l); trip = λ p. getD (lineTrips X l) p 0 };
       departures = λ s. sorted X (listed s);
       mark = λ s. markOf X (listed s);
-      transfers = builtTransfers (record { timetable = X; lines = linesOf X; lineOf = lineOf X; listed = λ s. sorted X (listed s); time = time });
+      transfers = builtTransfers (record { timetable = X; lines = linesOf X; lineOf = lineOf X; listed = listed; time = time });
       cells = 1;
       patterns = length patterns;
       pattern = λ p. getD patterns p (emptySet 0);

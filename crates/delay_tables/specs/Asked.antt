@@ -1,4 +1,5 @@
 -- Questions 4, 5 and 6 of the rows under one name, as the code asks them, a table at a time. Definitions only.
+-- Inner: nobody has to believe this.
 use Prim.Native.Nat.{ℕ}
 use mathlib.Core.Bool.{Bool, cond, _&&_}
 use lib.Dec.{eqb}

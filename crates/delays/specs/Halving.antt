@@ -1,4 +1,5 @@
 -- What the search by halving goes by. Definitions only.
+-- Inner: nobody has to believe this.
 use Prim.Native.Nat.{ℕ, _+_, _*_, _≤_}
 use mathlib.Core.List.{List}
 use lib.ListN.{length, getD}

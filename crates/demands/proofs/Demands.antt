@@ -9,18 +9,23 @@ use lib.ListN.{length}
 use lib.Dec.{ltb}
 use borrow.Author.Tests.{ltb-true, lt-ltb, le-ltb}
 use Rattle.sorts.specs.Orders.{All, nil, cons}
-use Rattle.model.specs.Search.{Answer, useArcFlags, flagsInUse, answer, runTbr as theRust, query as thePromise}
-use Rattle.model.specs.Promise.{scheduled, effective, PlainDay, SteadyDay, Demand3, Pareto}
-use Rattle.model.proofs.Answers.{Lawful, runTbr-lawful, query-lawful}
+use Rattle.model.specs.Search.{Answer, useArcFlags, flagsInUse, answer, runTbr as theRust, query as thePromise, overflows}
+use Rattle.model.specs.Tables.{Tables, Query}
+use Rattle.model.specs.Door.{Door}
+use Rattle.joined.specs.Joined.{Joined, JoinedByDeparture}
+use Rattle.model.specs.Promise.{TripTimes, scheduled, effective, PlainDay, SteadyDay, Demand3, Pareto}
+use Rattle.model.specs.Lawful.{Lawful}
+use Rattle.model.proofs.Answers.{runTbr-lawful, query-lawful}
 use Rattle.model.proofs.Calls.{unflagged-zeros}
-use Rattle.model.proofs.Queue.{NoFrequency, allStopTimes, queue-never-fills}
-use Rattle.model.proofs.Demand3.{steady, steady-rust, steady-pareto, demand3, demand3-rust, pareto}
+use Rattle.model.proofs.Queue.{queue-never-fills}
+use Rattle.joined.proofs.Joined.{runTbr-joined, query-joined, runTbr-joined-departures, query-joined-departures}
+use Rattle.model.proofs.Demand3.{steady, steady-rust, steady-pareto, steady-pareto-rust, demand3, demand3-rust, pareto, pareto-rust}
 use Rattle.asking.specs.Lent.{Lent, tablesOf, queryOf}
 use Rattle.asking.specs.Door.{verdict}
 use Rattle.asking.proofs.Laws.{door}
-use Rattle.round.specs.Rounds.{overflows}
 use Rattle.replies.specs.Outcome.{Areas, Outcome, lengthsOf, overflown, answered, settled, queueFull, runTbrOutcome, queryOutcome}
-use Rattle.demands.specs.Claims.{DoorMet}
+use Rattle.demands.specs.Claims.{DoorMet, NeverFull, LawsMet, PromiseMet, PromiseKept}
+use Rattle.demands.specs.Demands.{answerOf, rustAnswerOf}
 
 -- question 8, as a fact
 over-at : (room : ℕ) (l : List ℕ) → overflows room l ≡ true → (m : ℕ) × List·Memᴰ m l × (room < m)
@@ -88,98 +93,88 @@ module _ (x : Lent) (o : Areas → Outcome) (a : Answer) (is : (s : Areas) → o
       either s e true f = let k = over-at (length (s .queueA) / 4) (a .queued) f in inr (by-queue s true e f, k .0, k .1, k .2)
 
 module _ (x : Lent) where
+  abbrev T : Tables
+  T = tablesOf x
+
+  abbrev Q : Query
+  Q = queryOf x
+
   -- DEMAND 1
-  pub demand1-query : DoorMet x (queryOutcome x) (thePromise (tablesOf x) (queryOf x))
+  pub demand1-query : DoorMet x (queryOutcome x) (answerOf x)
   unfolding queryOutcome
-  demand1-query = demand1 x (queryOutcome x) (thePromise (tablesOf x) (queryOf x)) (λ s. refl)
+  demand1-query = demand1 x (queryOutcome x) (answerOf x) (λ s. refl)
 
-  pub demand1-rust : DoorMet x (runTbrOutcome x) (theRust (tablesOf x) (queryOf x))
+  pub demand1-rust : DoorMet x (runTbrOutcome x) (rustAnswerOf x)
   unfolding runTbrOutcome
-  demand1-rust = demand1 x (runTbrOutcome x) (theRust (tablesOf x) (queryOf x)) (λ s. refl)
+  demand1-rust = demand1 x (runTbrOutcome x) (rustAnswerOf x) (λ s. refl)
 
-  module _ (s : Areas) where
-    -- without frequency trips a half with as many rows as there are stop times of trips is never full
-    pub query-never-full : verdict x (lengthsOf s) ≡ 0 → NoFrequency (tablesOf x) → allStopTimes (tablesOf x) ≤ length (s .queueA) / 4
-        → queryOutcome x s ≡ answered (thePromise (tablesOf x) (queryOf x)) s
-    unfolding thePromise
-    query-never-full e w h =
-        demand1-query .fits s e
-        (λ m i. omega (arith, queue-never-fills (tablesOf x) (queryOf x) w (door x (lengthsOf s) e) (flagsInUse (tablesOf x) (queryOf x)) m i))
+  -- question 8 of a search in either mode
+  never-full : (o : Areas → Outcome) (flagged : Bool) → DoorMet x o (answer T Q flagged) → NeverFull x o (answer T Q flagged) flagged
+  never-full o flagged m =
+      record {
+        unflagged = λ s e f. m .fits s e (zeros-fit (length (s .queueA) / 4) (subst (λ (b : Bool). All (λ n. n ≡ 0) (answer T Q b .queued)) (sym f) (unflagged-zeros T Q)));
+        no-frequency = λ s e w h. m .fits s e (λ n i. omega (arith, queue-never-fills T Q w (door x (lengthsOf s) e) flagged n i));
+      }
 
-    pub rust-never-full : verdict x (lengthsOf s) ≡ 0 → NoFrequency (tablesOf x) → allStopTimes (tablesOf x) ≤ length (s .queueA) / 4
-        → runTbrOutcome x s ≡ answered (theRust (tablesOf x) (queryOf x)) s
-    unfolding theRust
-    rust-never-full e w h =
-        demand1-rust .fits s e
-        (λ m i. omega (arith, queue-never-fills (tablesOf x) (queryOf x) w (door x (lengthsOf s) e) (useArcFlags (tablesOf x) (queryOf x)) m i))
+  pub query-never-full : NeverFull x (queryOutcome x) (answerOf x) (flagsInUse T Q)
+  unfolding thePromise
+  query-never-full = never-full (queryOutcome x) (flagsInUse T Q) demand1-query
 
-    -- and without arc flags in use no half is ever full
-    pub query-unflagged : verdict x (lengthsOf s) ≡ 0 → flagsInUse (tablesOf x) (queryOf x) ≡ false
-        → queryOutcome x s ≡ answered (thePromise (tablesOf x) (queryOf x)) s
-    unfolding thePromise
-    query-unflagged e f =
-        demand1-query .fits s e
-        (zeros-fit (length (s .queueA) / 4) (subst (λ (b : Bool). All (λ n. n ≡ 0) (answer (tablesOf x) (queryOf x) b .queued)) (sym f) (unflagged-zeros (tablesOf x) (queryOf x))))
+  pub rust-never-full : NeverFull x (runTbrOutcome x) (rustAnswerOf x) (useArcFlags T Q)
+  unfolding theRust
+  rust-never-full = never-full (runTbrOutcome x) (useArcFlags T Q) demand1-rust
 
-    pub rust-unflagged : verdict x (lengthsOf s) ≡ 0 → useArcFlags (tablesOf x) (queryOf x) ≡ false
-        → runTbrOutcome x s ≡ answered (theRust (tablesOf x) (queryOf x)) s
-    unfolding theRust
-    rust-unflagged e f =
-        demand1-rust .fits s e
-        (zeros-fit (length (s .queueA) / 4) (subst (λ (b : Bool). All (λ n. n ≡ 0) (answer (tablesOf x) (queryOf x) b .queued)) (sym f) (unflagged-zeros (tablesOf x) (queryOf x))))
+  -- DEMAND 2
+  module _ (o : Areas → Outcome) (a : Answer) (m : DoorMet x o a) where
+    -- with code 0 the questions were answered yes
+    passed : (s : Areas) → o s .reply .code ≡ 0 → Door T Q
+    passed s z = door x (lengthsOf s) (m .only-answers s z .0)
 
-    -- DEMAND 2: with code 0 the answer is given, and it is lawful
-    pub demand2-query : queryOutcome x s .reply .code ≡ 0
-        → Lawful (tablesOf x) (queryOf x) (thePromise (tablesOf x) (queryOf x)) × (queryOutcome x s ≡ answered (thePromise (tablesOf x) (queryOf x)) s)
-    demand2-query z =
-        let r = demand1-query .only-answers s z in
-        (query-lawful (tablesOf x) (queryOf x) (door x (lengthsOf s) (r .0)), r .1)
+    laws : (inUse : Bool) → (Door T Q → Lawful T Q a) → (Door T Q → JoinedByDeparture T Q (a .labels)) → (Door T Q → inUse ≡ false → Joined T Q (a .labels)) → LawsMet x o a inUse
+    laws inUse l j k =
+        record {
+          lawful = λ s z. (l (passed s z), m .only-answers s z .1);
+          joined = λ s z. j (passed s z);
+          in-time = λ s z f. k (passed s z) f;
+        }
 
-    pub demand2-rust : runTbrOutcome x s .reply .code ≡ 0
-        → Lawful (tablesOf x) (queryOf x) (theRust (tablesOf x) (queryOf x)) × (runTbrOutcome x s ≡ answered (theRust (tablesOf x) (queryOf x)) s)
-    demand2-rust z =
-        let r = demand1-rust .only-answers s z in
-        (runTbr-lawful (tablesOf x) (queryOf x) (door x (lengthsOf s) (r .0)), r .1)
+    -- DEMAND 3, by times W, where nothing fills the queue
+    keeps : (W : TripTimes) → ((s : Areas) → verdict x (lengthsOf s) ≡ 0 → o s ≡ answered a s) → (Door T Q → Demand3 T Q W a) → (Door T Q → Pareto T Q W a) → PromiseMet x o a W
+    keeps W h d p =
+        record { answers = h; demand3 = λ s z. (d (passed s z), m .only-answers s z .1); pareto = λ s z. p (passed s z) }
 
-    -- DEMAND 3: on a plain day, by scheduled times
-    pub demand3-call : queryOutcome x s .reply .code ≡ 0 → PlainDay (tablesOf x) (queryOf x)
-        → Demand3 (tablesOf x) (queryOf x) (scheduled (tablesOf x)) (thePromise (tablesOf x) (queryOf x)) × (queryOutcome x s ≡ answered (thePromise (tablesOf x) (queryOf x)) s)
-    demand3-call z P =
-        let r = demand1-query .only-answers s z in
-        (demand3 (tablesOf x) (queryOf x) (door x (lengthsOf s) (r .0)) P, r .1)
+  pub demand2-query : LawsMet x (queryOutcome x) (answerOf x) (flagsInUse T Q)
+  demand2-query = laws (queryOutcome x) (answerOf x) demand1-query (flagsInUse T Q) (query-lawful T Q) (query-joined-departures T Q) (query-joined T Q)
 
-    -- where all of questions 1 to 6 are answered yes, the code is 0
-    pub plain-answered : verdict x (lengthsOf s) ≡ 0 → PlainDay (tablesOf x) (queryOf x) → queryOutcome x s ≡ answered (thePromise (tablesOf x) (queryOf x)) s
-    plain-answered e P = query-unflagged e (P .calm .no-flags)
+  pub demand2-rust : LawsMet x (runTbrOutcome x) (rustAnswerOf x) (useArcFlags T Q)
+  demand2-rust = laws (runTbrOutcome x) (rustAnswerOf x) demand1-rust (useArcFlags T Q) (runTbr-lawful T Q) (runTbr-joined-departures T Q) (runTbr-joined T Q)
 
-    -- `run_tbr`, wherever the Rust's `use_arc_flags` is false
-    pub demand3-rust-call : runTbrOutcome x s .reply .code ≡ 0 → PlainDay (tablesOf x) (queryOf x) → useArcFlags (tablesOf x) (queryOf x) ≡ false
-        → Demand3 (tablesOf x) (queryOf x) (scheduled (tablesOf x)) (theRust (tablesOf x) (queryOf x)) × (runTbrOutcome x s ≡ answered (theRust (tablesOf x) (queryOf x)) s)
-    demand3-rust-call z P f =
-        let r = demand1-rust .only-answers s z in
-        (demand3-rust (tablesOf x) (queryOf x) (door x (lengthsOf s) (r .0)) P f, r .1)
+  -- DEMAND 3: on a plain day, by scheduled times
+  pub demand3-query : PlainDay T Q → PromiseMet x (queryOutcome x) (answerOf x) (scheduled T)
+  demand3-query P =
+      keeps (queryOutcome x) (answerOf x) demand1-query (scheduled T) (λ s e. query-never-full .unflagged s e (P .calm .conditions .no-flags))
+      (λ D. demand3 T Q D P) (λ D. pareto T Q D P)
 
-    -- beyond the request: the candidates are Pareto-complete
-    pub pareto-call : queryOutcome x s .reply .code ≡ 0 → PlainDay (tablesOf x) (queryOf x)
-        → Pareto (tablesOf x) (queryOf x) (scheduled (tablesOf x)) (thePromise (tablesOf x) (queryOf x))
-    pareto-call z P = pareto (tablesOf x) (queryOf x) (door x (lengthsOf s) (demand1-query .only-answers s z .0)) P
+  -- `run_tbr`, wherever the Rust's `use_arc_flags` is false
+  pub demand3-rust-call : PlainDay T Q → useArcFlags T Q ≡ false → PromiseMet x (runTbrOutcome x) (rustAnswerOf x) (scheduled T)
+  demand3-rust-call P f =
+      keeps (runTbrOutcome x) (rustAnswerOf x) demand1-rust (scheduled T) (λ s e. rust-never-full .unflagged s e f)
+      (λ D. demand3-rust T Q D P f) (λ D. pareto-rust T Q D P f)
 
-    -- DAYS WITH DELAYS: the same on a steady day, by effective times
-    pub steady-call : queryOutcome x s .reply .code ≡ 0 → SteadyDay (tablesOf x) (queryOf x)
-        → Demand3 (tablesOf x) (queryOf x) (effective (tablesOf x) (queryOf x)) (thePromise (tablesOf x) (queryOf x)) × (queryOutcome x s ≡ answered (thePromise (tablesOf x) (queryOf x)) s)
-    steady-call z S =
-        let r = demand1-query .only-answers s z in
-        (steady (tablesOf x) (queryOf x) (door x (lengthsOf s) (r .0)) S, r .1)
+  -- the same on a steady day, by effective times
+  pub steady-query : SteadyDay T Q → PromiseMet x (queryOutcome x) (answerOf x) (effective T Q)
+  steady-query S =
+      keeps (queryOutcome x) (answerOf x) demand1-query (effective T Q) (λ s e. query-never-full .unflagged s e (S .calm .conditions .no-flags))
+      (λ D. steady T Q D S) (λ D. steady-pareto T Q D S)
 
-    pub steady-answered : verdict x (lengthsOf s) ≡ 0 → SteadyDay (tablesOf x) (queryOf x) → queryOutcome x s ≡ answered (thePromise (tablesOf x) (queryOf x)) s
-    steady-answered e S = query-unflagged e (S .calm .no-flags)
+  pub steady-rust-call : SteadyDay T Q → useArcFlags T Q ≡ false → PromiseMet x (runTbrOutcome x) (rustAnswerOf x) (effective T Q)
+  steady-rust-call S f =
+      keeps (runTbrOutcome x) (rustAnswerOf x) demand1-rust (effective T Q) (λ s e. rust-never-full .unflagged s e f)
+      (λ D. steady-rust T Q D S f) (λ D. steady-pareto-rust T Q D S f)
 
-    pub steady-rust-call : runTbrOutcome x s .reply .code ≡ 0 → SteadyDay (tablesOf x) (queryOf x) → useArcFlags (tablesOf x) (queryOf x) ≡ false
-        → Demand3 (tablesOf x) (queryOf x) (effective (tablesOf x) (queryOf x)) (theRust (tablesOf x) (queryOf x)) × (runTbrOutcome x s ≡ answered (theRust (tablesOf x) (queryOf x)) s)
-    steady-rust-call z S f =
-        let r = demand1-rust .only-answers s z in
-        (steady-rust (tablesOf x) (queryOf x) (door x (lengthsOf s) (r .0)) S f, r .1)
-
-    pub steady-pareto-call : queryOutcome x s .reply .code ≡ 0 → SteadyDay (tablesOf x) (queryOf x)
-        → Pareto (tablesOf x) (queryOf x) (effective (tablesOf x) (queryOf x)) (thePromise (tablesOf x) (queryOf x))
-    steady-pareto-call z S = steady-pareto (tablesOf x) (queryOf x) (door x (lengthsOf s) (demand1-query .only-answers s z .0)) S
+  -- where nothing is left to ask, the promise is kept
+  pub kept : (s : Areas) (o : Areas → Outcome) (a : Answer) (W : TripTimes) → PromiseMet x o a W → verdict x (lengthsOf s) ≡ 0 → PromiseKept x s o a W
+  kept s o a W m e =
+      let r = m .answers s e in
+      let z : o s .reply .code ≡ 0 = ap (λ (y : Outcome). y .reply .code) r in
+      record { code = z; answer = r; demand3 = m .demand3 s z .0; pareto = m .pareto s z }

@@ -1,3 +1,12 @@
+pub mod Sections
+pub mod Alike
+pub mod Building
+pub mod Changes
+pub mod Transferred
+pub mod Doors
+pub mod Passing
 pub mod Demands
+pub mod Chain
 pub mod Instance
 pub mod SteadyInstance
+pub mod ChainInstance

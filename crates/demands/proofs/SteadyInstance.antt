@@ -9,7 +9,7 @@ use lib.ListN.{replicate}
 use Rattle.label.specs.Label.{noDistance}
 use Rattle.model.specs.Tables.{Tables, Query, changeBefore, isEgress, egressWalk, edgesFrom, fifo, modeWanted, usable, permitted}
 use Rattle.model.specs.Search.{targetsFrom, targetCells, holdsTarget, useArcFlags, someTransfer, skipsEdge, skipsTransfer, flagsInUse, departuresAt, markAt, lineAt, notBefore, boardAt, bestAfter, improve, relax, resolveIn, lineTripsAt, resolve, enqueue, takeTransfers, alightings, transferring, scanTripForward, rideSegments, dominated, pruned, passedOver, boarding, board, scanDepartures, scanStops, walkFrom, walkAll, ridePhase, stamped, walkPhase, idle, rounds, setOut, access, bestTarget, rowTarget, candidatesFrom, final, answer, query as thePromise}
-use Rattle.model.specs.Promise.{effective, SteadyDay, Demand3}
+use Rattle.model.specs.Promise.{effective, SteadyDay}
 use Rattle.days.proofs.DayTests.{allOf, allIn, anyIn, steady-when}
 use Rattle.asking.specs.Lent.{Lent, tablesOf, queryOf}
 use Rattle.asking.specs.Door.{question1, readOk, writtenOk, question2, transferRunsOk, question3, columnBelow, lineNumbers, queryNumbers, question4, markRanges, transferRanges, settingRanges, walkRanges, question5, notEarlier, partOrder, departureOrder, columnRises, question6, verdict}
@@ -29,9 +29,11 @@ use Rattle.sorts.specs.Sort.{insertBy, sortBy}
 use Rattle.sorts.specs.Orders.{keep}
 use Rattle.walk.specs.Walk.{effectiveDuration, roundCount}
 use Rattle.line_layout.specs.Layout.{fifoLine, inOrder, neighbours, lastIn, positionIn}
-use Rattle.replies.specs.Outcome.{areas, lengthsOf, Outcome, reply, answered, queryOutcome}
-use Rattle.demands.proofs.Demands.{steady-answered, steady-call}
-use Rattle.demands.proofs.Instance.{areasK, calm-three}
+use Rattle.replies.specs.Outcome.{areas, lengthsOf, Outcome, reply, queryOutcome}
+use Rattle.demands.specs.Claims.{PromiseKept}
+use Rattle.demands.specs.Demands.{answerOf}
+use Rattle.demands.proofs.Demands.{steady-query, kept}
+use Rattle.demands.proofs.Instance.{areasK, lines-three}
 
 -- a stop time: stop, arrival, departure, sequence
 unfoldable pub stopTime : ℕ → ℕ → ℕ → ℕ → List ℕ
@@ -101,18 +103,15 @@ door-D = refl
 pub steady-D : SteadyDay tablesD queryD
 unfolding qD builtD tD stopTime trip countsD timeOf tripOf windowOf edgeOf eventsBefore allOf allIn anyIn effectiveDuration edgesFrom targetsFrom targetCells holdsTarget useArcFlags someTransfer skipsEdge skipsTransfer flagsInUse frequencyListed same leadOf isLead lineOf lineTrips iter every first some count tabFrom insertBy sortBy keep flatten cellOf
 steady-D =
-    steady-when tablesD queryD (door lentD (lengthsOf areasK) door-D)
-    (calm-three tablesD queryD refl refl refl refl refl refl (refl, refl, refl) (refl, refl, refl) (refl, refl, refl) (refl, refl) (refl, refl, refl))
+    steady-when tablesD queryD (door lentD (lengthsOf areasK) door-D) (tablesD .departures)
+    (lines-three tablesD refl refl refl refl refl refl (refl, refl, refl) (refl, refl, refl) (refl, refl, refl) (refl, refl) (refl, refl, refl))
     refl
 
 -- THE CALL ANSWERS, and its answer keeps demand 3 by effective times
-pub answered-D : queryOutcome lentD areasK ≡ answered (thePromise tablesD queryD) areasK
-answered-D = steady-answered lentD areasK door-D steady-D
-
-pub steady-call-D : Demand3 tablesD queryD (effective tablesD queryD) (thePromise tablesD queryD)
-steady-call-D = steady-call lentD areasK (ap (λ (o : Outcome). o .reply .code) answered-D) steady-D .0
+pub kept-D : PromiseKept lentD areasK (queryOutcome lentD) (answerOf lentD) (effective tablesD queryD)
+kept-D = kept lentD areasK (queryOutcome lentD) (answerOf lentD) (effective tablesD queryD) (steady-query lentD steady-D) door-D
 
 -- with 450 at stop 2, and two candidates
 pub reply-D : queryOutcome lentD areasK .reply ≡ reply 0 450 2 2
 unfolding countsD qD builtD tD stopTime trip timeOf tripOf windowOf edgeOf cellOf eventsBefore changeBefore isEgress egressWalk edgesFrom fifo modeWanted usable permitted targetsFrom targetCells holdsTarget useArcFlags someTransfer skipsEdge skipsTransfer flagsInUse departuresAt markAt lineAt notBefore boardAt bestAfter improve relax resolveIn lineTripsAt resolve enqueue takeTransfers alightings transferring scanTripForward rideSegments dominated pruned passedOver boarding board scanDepartures scanStops walkFrom walkAll ridePhase stamped walkPhase idle rounds setOut access bestTarget rowTarget candidatesFrom final answer thePromise inOrder neighbours fifoLine lastIn positionIn effectiveDuration roundCount iter every first some count tabFrom insertBy sortBy keep flatten
-reply-D = ap (λ (o : Outcome). o .reply) answered-D
+reply-D = ap (λ (o : Outcome). o .reply) (kept-D .answer)

@@ -1,11 +1,17 @@
--- THE CLAIMS for the two calls, over all that is lent and all areas; `o` is a call's outcome and `a` its answer. Definitions only.
+-- THE CLAIMS for a call, over all that is lent and all areas: `o` is the call's outcome and `a` the answer that the definitions give. Which calls
+-- and which days they are made of, Demands says. Definitions only.
 use Prim.Native.Nat.{ℕ, suc, _/_, _≤_, _<_}
 use mathlib.Core.Path.{_≡_}
 use mathlib.Core.Logic.{_⊎_}
+use mathlib.Core.Bool.{Bool, false}
 use mathlib.Core.List.{List·Memᴰ}
 use lib.ListN.{length}
 use Rattle.model.specs.Search.{Answer}
-use Rattle.asking.specs.Lent.{Lent}
+use Rattle.model.specs.Lawful.{Lawful}
+use Rattle.joined.specs.Joined.{Joined, JoinedByDeparture}
+use Rattle.model.specs.Queue.{NoFrequency, allStopTimes}
+use Rattle.model.specs.Promise.{TripTimes, Demand3, Pareto}
+use Rattle.asking.specs.Lent.{Lent, tablesOf, queryOf}
 use Rattle.asking.specs.Door.{verdict}
 use Rattle.replies.specs.Outcome.{Areas, Outcome, lengthsOf, refused, overflown, answered}
 
@@ -20,3 +26,32 @@ pub record DoorMet (x : Lent) (o : Areas → Outcome) (a : Answer) : Type 0 wher
       → (o s ≡ answered a s) ⊎ ((o s ≡ overflown s) × (m : ℕ) × List·Memᴰ m (a .queued) × (length (s .queueA) / 4 < m))
   -- a code of 0 is given only with the answer
   pub only-answers : (s : Areas) → o s .reply .code ≡ 0 → (verdict x (lengthsOf s) ≡ 0) × (o s ≡ answered a s)
+
+-- when question 8 is never answered no: without arc flags in use; and without frequency trips where a half has a row for each stop time of each trip
+pub record NeverFull (x : Lent) (o : Areas → Outcome) (a : Answer) (inUse : Bool) : Type 0 where
+  pub unflagged : (s : Areas) → verdict x (lengthsOf s) ≡ 0 → inUse ≡ false → o s ≡ answered a s
+  pub no-frequency : (s : Areas) → verdict x (lengthsOf s) ≡ 0 → NoFrequency (tablesOf x) → allStopTimes (tablesOf x) ≤ length (s .queueA) / 4
+      → o s ≡ answered a s
+
+-- DEMAND 2, besides that the answer is the definitions': with code 0 it is given, and it is lawful
+pub record LawsMet (x : Lent) (o : Areas → Outcome) (a : Answer) (inUse : Bool) : Type 0 where
+  pub lawful : (s : Areas) → o s .reply .code ≡ 0 → Lawful (tablesOf x) (queryOf x) a × (o s ≡ answered a s)
+  -- where a ride was boarded, a label is no later than its departure; without arc flags in use by the change time
+  pub joined : (s : Areas) → o s .reply .code ≡ 0 → JoinedByDeparture (tablesOf x) (queryOf x) (a .labels)
+  pub in-time : (s : Areas) → o s .reply .code ≡ 0 → inUse ≡ false → Joined (tablesOf x) (queryOf x) (a .labels)
+
+-- DEMAND 3, by the trips' times W, and what we promise beyond it
+pub record PromiseMet (x : Lent) (o : Areas → Outcome) (a : Answer) (W : TripTimes) : Type 0 where
+  -- whatever passes the door is answered
+  pub answers : (s : Areas) → verdict x (lengthsOf s) ≡ 0 → o s ≡ answered a s
+  -- with code 0 the answer is given, and it keeps the demand
+  pub demand3 : (s : Areas) → o s .reply .code ≡ 0 → Demand3 (tablesOf x) (queryOf x) W a × (o s ≡ answered a s)
+  -- and its candidates are Pareto-complete
+  pub pareto : (s : Areas) → o s .reply .code ≡ 0 → Pareto (tablesOf x) (queryOf x) W a
+
+-- the same of areas s for which nothing is left to ask: the code is 0, the answer is given, and it keeps the demand
+pub record PromiseKept (x : Lent) (s : Areas) (o : Areas → Outcome) (a : Answer) (W : TripTimes) : Type 0 where
+  pub code : o s .reply .code ≡ 0
+  pub answer : o s ≡ answered a s
+  pub demand3 : Demand3 (tablesOf x) (queryOf x) W a
+  pub pareto : Pareto (tablesOf x) (queryOf x) W a

@@ -1,1 +1,3 @@
 pub mod Claims
+pub mod Chain
+pub mod Demands

@@ -1,6 +1,9 @@
-// demands: the three demands, of the two calls `run_tbr` and `query`. There is no code here: the calls' contracts (crate `query`) equate their
-// outcomes with `runTbrOutcome` and `queryOutcome` (`replies` specs/Outcome), and the theorems are about these.
-// Specs: what demand 1 asks of an outcome (Claims).
-// Proves: demands 1, 2 and 3 and Pareto-completeness of the calls, on plain and on steady days (Demands); that the hypotheses of demand 3 have
-// an instance, Timetable K as lent slices (Instance), and those of a steady day one with delays, a skipped stop and no transfers (SteadyInstance).
+// demands: the three demands of the exported calls, from the building calls to the query. There is no code here: the contracts of the calls (crates
+// `query`, `lines`, `departure_sorting`, `transfers`) equate them with the outcomes that the claims are about.
+// Specs, all of them claims: what is claimed of a call (Claims); what ties the building calls' outcomes to what a query is lent (Chain); the
+// demands themselves, one record (Demands).
+// Proves: that record (Chain `the-demands`): demands 1, 2 and 3 and Pareto-completeness of the calls, on plain and on steady days (Demands); that
+// what the building calls left is as a day asks and passes the query's door (Building, Transferred, Doors, Passing), whatever the bytes active and
+// excluded were then (Alike, Changes), so that demand 3 holds at the end of the chain (Chain). Instances: Timetable K as lent slices (Instance), a
+// steady day with delays (SteadyInstance), and both through the calls' outcomes (ChainInstance `whole-K`, `whole-D`).
 // Assumes nothing.

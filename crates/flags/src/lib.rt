@@ -1,19 +1,22 @@
 // flags: arc flags of a query: the cells of its egress stops, patterns against them, and whether the flags skip anything.
-// Specs: patterns, egress rows and transfers as the slices hold them (Flags).
-// Proves: each function equal to the model's definition of the same name, for all tables and queries that agree.
+// Specs: patterns and egress rows as the slices hold them (Flags); inner: which tables and queries agree with them, rows that flags skip (Skipping).
+// Proves: each public function equal to the model's definition of the same name, for all tables and queries that agree.
 // Assumes nothing.
 ghost use mathlib.Core.Path.{_≡_};
-ghost use Prim.Native.Nat.{_+_, _*_, _/_, _≤_, _<_};
-ghost use mathlib.Core.Bool.{not};
+ghost use Prim.Native.Nat.{ℕ, _+_, _*_, _/_, _≤_, _<_, min};
+ghost use mathlib.Core.Bool.{Bool};
 ghost use lib.ListN.{length};
 ghost use Rattle.tables.specs.Timetable.{timetable};
 ghost use Rattle.tables.specs.Sane.{Sane};
 ghost use Rattle.cell_bitset.specs.CellSet.{cellLimit};
 ghost use Rattle.model.specs.Tables.{Tables, Query};
 ghost use Rattle.model.specs.Search.{targetCells, holdsTarget, useArcFlags, skipsEdge, skipsTransfer, flagsInUse};
-ghost use Rattle.flags.specs.Flags.{patternAt, Patterned, PatternsOk, egressRows, EgressIn, RunsIn, eventSkips, Transferring};
+ghost use Rattle.flags.specs.Flags.{patternAt, egressRows};
+ghost use Rattle.flags.specs.Skipping.{Patterned, PatternsOk, EgressIn};
+ghost use Rattle.flags.specs.Skipping.{Aimed, RowsIn, RunsIn, runHas, rowSkipped, firstSkipped, someRun, Transferring};
+ghost use Rattle.flags.specs.Skipping.{within, Counted, SkippedCounted, WindowSkips, RunsSkip};
 ghost use Rattle.loops.specs.Iter.{someIn};
-ghost use Rattle.line_transfers.specs.Transfers.{transferAt, eventsBefore};
+ghost use Rattle.loops.specs.Count.{one, count};
 use cell_bitset::CellBitSet;
 use tables::Counts;
 
@@ -89,80 +92,189 @@ pub fn skips_edge(t: &[u32], c: Counts, patterns: &[u8], count: usize, target: C
     false
 }
 
-// Do the flags skip one of the n transfers from `first` on?
-fn event_skips(
+// Do the flags skip row k of the transfer area?
+fn row_skipped(area: &[u32], patterns: &[u8], count: usize, target: CellBitSet, k: usize) -> bool
+    requires { ⌜ PatternsOk (now patterns) count ⌝ ∗ ⌜ k * 4 + 4 ≤ length (now area) ⌝ }
+    ensures { λ r. ⌜ ((T : Tables) (Q : Query) → Aimed T Q (now (patterns .entry)) count target → r ≡ rowSkipped T Q (now (area .entry)) k) ⌝ }
+{
+    let p = tables::field(area, k * 4 + 3);
+    !holds_target(patterns, count, target, p)
+}
+
+// The first of so many rows that the flags skip; their number where they skip none.
+fn first_skipped(
     area: &[u32],
     patterns: &[u8],
     count: usize,
     target: CellBitSet,
-    first: usize,
-    n: usize,
-) -> bool
-    requires { ⌜ PatternsOk (now patterns) count ⌝ ∗ ⌜ (first + n) * 4 ≤ length (now area) ⌝ }
-    ensures { λ r. ⌜ ((T : Tables) (Q : Query) → Patterned T (now (patterns .entry)) count → target ≡ targetCells T Q → r ≡ someIn (λ k. not (holdsTarget T Q (transferAt (now (area .entry)) (first + k) .pattern))) 0 n) ⌝ }
+    rows: usize,
+) -> usize
+    requires { ⌜ PatternsOk (now patterns) count ⌝ ∗ ⌜ RowsIn (now area) rows ⌝ }
+    ensures { λ r. ⌜ ((T : Tables) (Q : Query) → Aimed T Q (now (patterns .entry)) count target → r ≡ firstSkipped T Q (now (area .entry)) rows) ⌝ }
 {
     let mut k: usize = 0;
-    while k < n {
-        let p = tables::field(area, (first + k) * 4 + 3);
-        if !holds_target(patterns, count, target, p) {
-            return true;
+    while k < rows {
+        if row_skipped(area, patterns, count, target, k) {
+            return k;
         }
         k += 1;
     }
+    rows
+}
+
+// Has the run of some event row k?
+fn some_run_has(runs: &[u32], k: usize) -> bool
+    ensures { λ r. ⌜ r ≡ someIn (runHas (now (runs .entry)) k) 0 (length (now (runs .entry)) / 2) ⌝ }
+{
+    let n = runs.len() / 2;
+    let mut e: usize = 0;
+    while e < n {
+        let first = tables::field(runs, e * 2);
+        let end = first + tables::field(runs, e * 2 + 1);
+        if door::both(first <= k, k < end) {
+            return true;
+        }
+        e += 1;
+    }
     false
 }
 
-// One of the transfers of n events from event e on?
-fn events_skip(
+// One for a yes.
+fn one(b: bool) -> u32
+    ensures { λ r. ⌜ r ≡ one b ⌝ }
+{
+    if b { 1 } else { 0 }
+}
+
+// Of the n rows from `from` on, how many before each of them the flags skip, and how many in all.
+fn count_skipped(
+    area: &[u32],
+    patterns: &[u8],
+    count: usize,
+    target: CellBitSet,
+    from: usize,
+    n: usize,
+    counts: &mut [u32],
+)
+    requires { ⌜ PatternsOk (now patterns) count ⌝ ∗ ⌜ RowsIn (now area) (from + n) ⌝ ∗ ⌜ n < length (now counts) ⌝ }
+    ensures { λ _. ⌜ SkippedCounted (now (area .entry)) (now (patterns .entry)) count target from n (now (counts .exit)) ⌝ }
+{
+    let mut skipped: u32 = 0;
+    let mut k: usize = 0;
+    while k < n {
+        counts[k] = skipped;
+        skipped += one(row_skipped(area, patterns, count, target, from + k));
+        k += 1;
+    }
+    counts[n] = skipped;
+}
+
+// How many rows of the window before row k pass. A row before the window counts as its first, a row after it as its end.
+fn counted_before(counts: &[u32], from: usize, n: usize, k: usize) -> u32
+    requires { ⌜ n < length (now counts) ⌝ }
+    ensures { λ r. ⌜ ((f : ℕ → Bool) → Counted f from n (now (counts .entry)) → r ≡ count (within f from n) k) ⌝ }
+{
+    if k <= from {
+        return tables::word(counts, 0);
+    }
+    if n <= k - from {
+        return tables::word(counts, n);
+    }
+    tables::word(counts, k - from)
+}
+
+// Has some event's run a row of the window that passes? By the counts: more pass before the run's end than before its first row.
+fn some_run_passes(runs: &[u32], from: usize, n: usize, counts: &[u32]) -> bool
+    requires { ⌜ n < length (now counts) ⌝ }
+    ensures { λ r. ⌜ ((f : ℕ → Bool) → Counted f from n (now (counts .entry)) → r ≡ someRun (within f from n) (now (runs .entry))) ⌝ }
+{
+    let events = runs.len() / 2;
+    let mut e: usize = 0;
+    while e < events {
+        let first = tables::field(runs, e * 2);
+        let end = first + tables::field(runs, e * 2 + 1);
+        if counted_before(counts, from, n, first) < counted_before(counts, from, n, end) {
+            return true;
+        }
+        e += 1;
+    }
+    false
+}
+
+// Has some event's run a row of one window that the flags skip? The window has at most 4,096 rows, so that its counts need little stack. Where they skip
+// none of its rows, no run is looked at.
+fn window_skips(
     runs: &[u32],
     area: &[u32],
     patterns: &[u8],
     count: usize,
     target: CellBitSet,
-    e: usize,
+    from: usize,
     n: usize,
 ) -> bool
-    requires { ⌜ PatternsOk (now patterns) count ⌝ ∗ ⌜ RunsIn (now runs) (now area) (e + n) ⌝ }
-    ensures { λ r. ⌜ ((T : Tables) (Q : Query) → Patterned T (now (patterns .entry)) count → target ≡ targetCells T Q → r ≡ someIn (λ o. eventSkips T Q (now (runs .entry)) (now (area .entry)) (e + o)) 0 n) ⌝ }
+    requires { ⌜ PatternsOk (now patterns) count ⌝ ∗ ⌜ RowsIn (now area) (from + n) ⌝ ∗ ⌜ n ≤ 4096 ⌝ }
+    ensures { λ r. ⌜ WindowSkips (now (runs .entry)) (now (area .entry)) (now (patterns .entry)) count target from n r ⌝ }
 {
-    let mut o: usize = 0;
-    while o < n {
-        let at = (e + o) * 2;
-        let first = tables::field(runs, at);
-        let m = tables::field(runs, at + 1);
-        if event_skips(area, patterns, count, target, first, m) {
-            return true;
-        }
-        o += 1;
+    let mut counts = [0u32; 4097];
+    count_skipped(area, patterns, count, target, from, n, &mut counts);
+    if tables::word(&counts, n) == 0 {
+        return false;
     }
-    false
+    some_run_passes(runs, from, n, &counts)
 }
 
-// Do the flags skip some transfer?
-pub fn skips_transfer(
-    t: &[u32],
-    c: Counts,
+// The smaller of two.
+fn smaller(a: usize, b: usize) -> usize
+    ensures { λ r. ⌜ r ≡ min a b ⌝ }
+{
+    if a < b { a } else { b }
+}
+
+// Has some event's run a row that the flags skip? Window by window.
+fn some_window_skips(
     runs: &[u32],
     area: &[u32],
+    rows: usize,
     patterns: &[u8],
     count: usize,
     target: CellBitSet,
 ) -> bool
-    requires { ⌜ Sane (now t) c ⌝ ∗ ⌜ PatternsOk (now patterns) count ⌝ ∗ ⌜ RunsIn (now runs) (now area) (eventsBefore (timetable (now t) c) (c .trips)) ⌝ }
-    ensures { λ r. ⌜ ((T : Tables) (Q : Query) → T .timetable ≡ timetable (now (t .entry)) c → Patterned T (now (patterns .entry)) count → Transferring T c (now (runs .entry)) (now (area .entry)) → target ≡ targetCells T Q → r ≡ skipsTransfer T Q) ⌝ }
+    requires { ⌜ PatternsOk (now patterns) count ⌝ ∗ ⌜ RowsIn (now area) rows ⌝ ∗ ⌜ RunsIn (now runs) rows ⌝ }
+    ensures { λ r. ⌜ RunsSkip (now (runs .entry)) (now (area .entry)) (now (patterns .entry)) count target r ⌝ }
 {
-    let n = c.trips;
-    let mut e: usize = 0;
-    let mut i: usize = 0;
-    while i < n {
-        let m = tables::trip(t, c, i, 1);
-        if events_skip(runs, area, patterns, count, target, e, m) {
+    let mut from: usize = 0;
+    while from < rows {
+        let n = smaller(rows - from, 4096);
+        if window_skips(runs, area, patterns, count, target, from, n) {
             return true;
         }
-        e += m;
-        i += 1;
+        from += n;
     }
     false
+}
+
+// Do the flags skip some transfer? Runs may overlap, so no run is read row by row: that could take events times rows. Most often no row is skipped,
+// or some run has the first that is. Only where neither is so are the skipped rows counted, in windows of 4,096 rows, and in each window a run
+// is two look-ups: at most 16 passes over the events.
+pub fn skips_transfer(
+    runs: &[u32],
+    area: &[u32],
+    rows: usize,
+    patterns: &[u8],
+    count: usize,
+    target: CellBitSet,
+) -> bool
+    requires { ⌜ PatternsOk (now patterns) count ⌝ ∗ ⌜ RowsIn (now area) rows ⌝ ∗ ⌜ RunsIn (now runs) rows ⌝ }
+    ensures { λ r. ⌜ ((T : Tables) (Q : Query) → Patterned T (now (patterns .entry)) count → Transferring T (now (runs .entry)) (now (area .entry)) → target ≡ targetCells T Q → r ≡ skipsTransfer T Q) ⌝ }
+{
+    let k = first_skipped(area, patterns, count, target, rows);
+    if rows <= k {
+        return false;
+    }
+    if some_run_has(runs, k) {
+        return true;
+    }
+    some_window_skips(runs, area, rows, patterns, count, target)
 }
 
 // Are the flags in use: not put off, and do they skip some walk edge or transfer?
@@ -171,13 +283,14 @@ pub fn flags_in_use(
     c: Counts,
     runs: &[u32],
     area: &[u32],
+    rows: usize,
     patterns: &[u8],
     count: usize,
     target: CellBitSet,
     off: bool,
 ) -> bool
-    requires { ⌜ Sane (now t) c ⌝ ∗ ⌜ PatternsOk (now patterns) count ⌝ ∗ ⌜ RunsIn (now runs) (now area) (eventsBefore (timetable (now t) c) (c .trips)) ⌝ }
-    ensures { λ r. ⌜ ((T : Tables) (Q : Query) → T .timetable ≡ timetable (now (t .entry)) c → Patterned T (now (patterns .entry)) count → Transferring T c (now (runs .entry)) (now (area .entry)) → target ≡ targetCells T Q → Q .flagsOff ≡ off → r ≡ flagsInUse T Q) ⌝ }
+    requires { ⌜ Sane (now t) c ⌝ ∗ ⌜ PatternsOk (now patterns) count ⌝ ∗ ⌜ RowsIn (now area) rows ⌝ ∗ ⌜ RunsIn (now runs) rows ⌝ }
+    ensures { λ r. ⌜ ((T : Tables) (Q : Query) → T .timetable ≡ timetable (now (t .entry)) c → Patterned T (now (patterns .entry)) count → Transferring T (now (runs .entry)) (now (area .entry)) → target ≡ targetCells T Q → Q .flagsOff ≡ off → r ≡ flagsInUse T Q) ⌝ }
 {
     if !use_arc_flags(count, target, off) {
         return false;
@@ -185,5 +298,5 @@ pub fn flags_in_use(
     if skips_edge(t, c, patterns, count, target) {
         return true;
     }
-    skips_transfer(t, c, runs, area, patterns, count, target)
+    skips_transfer(runs, area, rows, patterns, count, target)
 }

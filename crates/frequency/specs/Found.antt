@@ -1,4 +1,5 @@
 -- How the code hands on the run that a window's search found: by its start and its number. Definitions only.
+-- Inner: nobody has to believe this.
 use Prim.Native.Nat.{ℕ, _+_, _<_, _≤_}
 use mathlib.Core.Bool.{cond}
 use lib.Dec.{ltb}

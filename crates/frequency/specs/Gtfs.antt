@@ -36,6 +36,10 @@ abbrev pub runStart : Window → ℕ → ℕ
 runStart w k = w .start + k * w .headway
 
 -- run k is one of the window's runs. A headway of 0, or an end that is not after the start, gives none.
+-- The fields of frequencies.txt, in our words: `trip_id` names the trip whose stop times are the template. `start_time` is when the first run of the
+-- window leaves the trip's first stop. `headway_secs` is the time from one run's departure there to the next one's. `end_time` is when this
+-- headway ends: a run leaves before it, none at it or after it. `exact_times` says whether the runs leave just then (1) or only about so often
+-- (0 or empty); it is not read here, every row counts as 1 (docs/DIFFERENCES.md 8). Times may be past 24:00:00, counted on from the service day.
 abbrev pub isRun : Window → ℕ → Bool
 isRun w k = not (eqb (w .headway) 0) && ltb (runStart w k) (w .end)
 

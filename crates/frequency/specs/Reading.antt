@@ -1,5 +1,6 @@
 -- What the earliest boarding is, in plain terms: no search and no order of looking stands here. `proofs/Reading` shows that
 -- `earliestFreqBoard` is it. Definitions only.
+-- For a law: no contract rests on this.
 use Prim.Native.Nat.{ℕ, _+_, _<_, _≤_}
 use mathlib.Core.Path.{_≡_}
 use mathlib.Core.Bool.{true}

@@ -2,6 +2,7 @@
 -- it with `earliestFreqBoard`, and cited nowhere else. Definitions only.
 -- An i64 is an integer here: sums and differences of three u32 numbers are far inside its range. So is the i32 shift: both its
 -- numbers are below 2 ^ 31 in the law. A u32 that saturates stops at 4,294,967,295.
+-- For a law: no contract rests on this.
 use Prim.Native.Nat.{ℕ, zero, suc, _+_, _*_, _-_, _/_, _%_, min}
 use mathlib.Core.Bool.{cond, _&&_, _||_}
 use mathlib.Core.Option.{Option, none, some}

@@ -62,9 +62,9 @@ all (c ∷ cs) = right c && all cs
 
 pub cases : List Case
 cases =
-    record { label = Access 3 400 60 metres; stop = 0; row = 0; at = 0; words = 1 ∷ 3 ∷ 400 ∷ 60 ∷ 0 ∷ 0 ∷ 0 ∷ 0 ∷ []; distance = metres }
-    ∷ record { label = Transit 500 9 3 1 4 0 4294967286; stop = 1; row = 1; at = 112; words = 2 ∷ 500 ∷ 9 ∷ 3 ∷ 1 ∷ 4 ∷ 0 ∷ 4294967286 ∷ []; distance = fin false 0 (pos 0) }
-    ∷ record { label = Walk 560 3 5 60 metres 1; stop = 0; row = 12; at = 96; words = 3 ∷ 560 ∷ 3 ∷ 5 ∷ 60 ∷ 1 ∷ 0 ∷ 0 ∷ []; distance = metres }
+    record { label = Access 1 400 60 metres; stop = 0; row = 0; at = 0; words = 1 ∷ 1 ∷ 400 ∷ 60 ∷ 0 ∷ 0 ∷ 0 ∷ 0 ∷ []; distance = metres }
+    ∷ record { label = Transit 500 9 1 1 4 0 4294967286; stop = 1; row = 1; at = 112; words = 2 ∷ 500 ∷ 9 ∷ 1 ∷ 1 ∷ 4 ∷ 0 ∷ 4294967286 ∷ []; distance = fin false 0 (pos 0) }
+    ∷ record { label = Walk 4294967295 0 1 60 metres 1; stop = 0; row = 12; at = 96; words = 3 ∷ 4294967295 ∷ 0 ∷ 1 ∷ 60 ∷ 1 ∷ 0 ∷ 0 ∷ []; distance = metres }
     ∷ record { label = Empty; stop = 1; row = 0; at = 104; words = 0 ∷ 0 ∷ 0 ∷ 0 ∷ 0 ∷ 0 ∷ 0 ∷ 0 ∷ []; distance = fin false 0 (pos 0) }
     ∷ []
 
@@ -97,3 +97,31 @@ refusals =
 pub refusals-worked : refused refusals ≡ true
 unfolding refused refusals same words distances one loadAnswer placeCode loaded
 refusals-worked = refl
+
+-- stores that are refused, in a table of two stops: the label, the stop's row and the code. A stop number in the label that is the
+-- count, and before the row; the row; both slices as they came.
+pub record StoreRefusal : Type 0 where
+  pub label : Label
+  pub stop : ℕ
+  pub row : ℕ
+  pub code : ℕ
+
+pub kept : List StoreRefusal → Bool
+kept [] = true
+kept (r ∷ rs) =
+    let o = storeOutcome (r .label) 2 (r .stop) (r .row) words distances in
+    eqb (o .code) (r .code) && same (o .labels) words && Ieee.eq (getD (o .distances) (13 * r .stop + r .row) one) one && kept rs
+
+pub storeRefusals : List StoreRefusal
+storeRefusals =
+    record { label = Access 1 400 60 metres; stop = 2; row = 13; code = 4 }
+    ∷ record { label = Access 2 400 60 metres; stop = 0; row = 13; code = 4 }
+    ∷ record { label = Transit 500 9 2 1 4 0 0; stop = 1; row = 1; code = 4 }
+    ∷ record { label = Walk 560 2 1 60 metres 1; stop = 0; row = 12; code = 4 }
+    ∷ record { label = Walk 560 1 2 60 metres 1; stop = 0; row = 12; code = 4 }
+    ∷ record { label = Walk 560 1 0 60 metres 1; stop = 0; row = 13; code = 5 }
+    ∷ []
+
+pub store-refusals-worked : kept storeRefusals ≡ true
+unfolding kept storeRefusals same words distances one metres storeOutcome placeCode putWords putDistance Ieee.eq
+store-refusals-worked = refl

@@ -5,7 +5,7 @@
 // Assumes nothing.
 ghost use mathlib.Core.Path.{_≡_};
 ghost use Rattle.label_table.specs.Table.{lengthsRight};
-ghost use Rattle.label_calls.specs.Calls.{placeCode, outcome, storeOutcome, refusedLabel, loadAnswer};
+ghost use Rattle.label_calls.specs.Calls.{stopsBelow, placeCode, outcome, storeOutcome, refusedLabel, loadAnswer};
 use label::Label;
 use label::LabelRow;
 
@@ -24,9 +24,9 @@ fn lengths_right(stops: u32, words: usize, numbers: usize) -> bool
     door::both(words == records * 8, numbers == records)
 }
 
-// Questions 1, 2, 4 and 5 about the record of a stop's row, in slices of these lengths.
-fn place(stops: u32, stop: u32, row: u32, words: usize, numbers: usize) -> u32
-    ensures { λ r. ⌜ r ≡ placeCode stops stop row words numbers ⌝ }
+// Questions 1, 2, 4 and 5 about a stop's row, in slices of these lengths; `below` says whether the stop numbers are below the count.
+fn place(below: bool, stops: u32, row: u32, words: usize, numbers: usize) -> u32
+    ensures { λ r. ⌜ r ≡ placeCode below stops row words numbers ⌝ }
 {
     if 4096 < stops {
         return 1;
@@ -34,7 +34,7 @@ fn place(stops: u32, stop: u32, row: u32, words: usize, numbers: usize) -> u32
     if !lengths_right(stops, words, numbers) {
         return 2;
     }
-    if stops <= stop {
+    if !below {
         return 4;
     }
     if 12 < row {
@@ -43,18 +43,22 @@ fn place(stops: u32, stop: u32, row: u32, words: usize, numbers: usize) -> u32
     0
 }
 
-// A label is stored at its stop's row, or refused, and then nothing is written.
-pub fn store(
+// A label is stored at its stop's row, or refused, and then nothing is written. `below` says whether the stop numbers in it are below
+// the count.
+fn store(
     label: Label,
+    below: bool,
     stops: u32,
     stop: u32,
     row: u32,
     labels: &mut [u32],
     distances: &mut [f64],
 ) -> u32
+    requires { ⌜ below ≡ stopsBelow label stops ⌝ }
     ensures { λ r. ⌜ outcome r (now (labels .exit)) (now (distances .exit)) ≡ storeOutcome label stops stop row (now (labels .entry)) (now (distances .entry)) ⌝ }
 {
-    let code = place(stops, stop, row, labels.len(), distances.len());
+    let known = door::both(stop < stops, below);
+    let code = place(known, stops, row, labels.len(), distances.len());
     if code != 0 {
         return code;
     }
@@ -62,7 +66,7 @@ pub fn store(
     0
 }
 
-// An access label is stored; the code is the answer.
+// An access label is stored; the code is the answer. Question 4 is also of its stop.
 pub fn store_access(
     stops: u32,
     stop: u32,
@@ -82,10 +86,10 @@ pub fn store_access(
         walk_duration,
         walk_distance,
     };
-    store(label, stops, stop, row, labels, distances)
+    store(label, stop_idx < stops, stops, stop, row, labels, distances)
 }
 
-// A ride's label is stored; the code is the answer.
+// A ride's label is stored; the code is the answer. Question 4 is also of the stop where it was boarded.
 pub fn store_transit(
     stops: u32,
     stop: u32,
@@ -111,10 +115,18 @@ pub fn store_transit(
         prev_round,
         time_shift_s,
     };
-    store(label, stops, stop, row, labels, distances)
+    store(
+        label,
+        board_stop < stops,
+        stops,
+        stop,
+        row,
+        labels,
+        distances,
+    )
 }
 
-// A walk's label is stored; the code is the answer.
+// A walk's label is stored; the code is the answer. Question 4 is also of both its stops.
 pub fn store_walk(
     stops: u32,
     stop: u32,
@@ -138,7 +150,8 @@ pub fn store_walk(
         distance_m,
         prev_round,
     };
-    store(label, stops, stop, row, labels, distances)
+    let below = door::both(from_stop < stops, to_stop < stops);
+    store(label, below, stops, stop, row, labels, distances)
 }
 
 fn refused_label(code: u32) -> LabelAnswer
@@ -152,7 +165,7 @@ fn refused_label(code: u32) -> LabelAnswer
 pub fn load(stops: u32, stop: u32, row: u32, labels: &[u32], distances: &[f64]) -> LabelAnswer
     ensures { λ r. ⌜ r ≡ loadAnswer stops stop row (now (labels .entry)) (now (distances .entry)) ⌝ }
 {
-    let code = place(stops, stop, row, labels.len(), distances.len());
+    let code = place(stop < stops, stops, row, labels.len(), distances.len());
     if code != 0 {
         return refused_label(code);
     }

@@ -8,10 +8,10 @@ use Rattle.loops.specs.Iter.{every}
 use Rattle.loops.specs.Count.{tabFrom}
 use Rattle.tables.specs.declared.Counts.{Counts}
 use Rattle.tables.specs.Tables.{timeOf, tripOf, windowOf, edgeOf}
-use Rattle.tables.specs.Door.{countsOk, slicesOk, tripRuns, stopTimeNumbers, edgeNumbers, stopTimeRanges, tripRanges, windowRanges, edgeRanges, runsOk, numbersOk, rangesOk}
+use Rattle.tables.specs.Door.{countsOk, slicesOk, tripRuns, stopTimeNumbers, edgeNumbers, stopTimeRanges, tripRanges, windowRanges, edgeRanges, edgeRises, runsOk, numbersOk, rangesOk, orderOk}
 use Rattle.line_layout.specs.Layout.{inOrder, neighbours, fifoLine, lastIn, positionIn, unlisted}
 use Rattle.line_layout.specs.Listed.{runIn, lineRunsOk, entriesOk}
-use Rattle.layout_call.specs.Call.{areas, sizesOk, verdict, outcome}
+use Rattle.layout_call.specs.Call.{areas, sizesOk, verdict, outcome, outcomeOf}
 
 -- two lists of numbers are the same
 unfoldable pub same : List ℕ → List ℕ → Bool
@@ -39,6 +39,15 @@ table first last windows =
 
 unfoldable pub counts : Counts
 counts = record { stops = 3; trips = 3; times = 8; windows = 1; edges = 0 }
+
+-- one trip from stop 0 to stop 1, and two walk edges, from stop 1 to 0, then from stop 0 to 1
+unfoldable pub walked : List ℕ
+walked =
+    time 0 100 100 0 0 ++ time 1 200 200 0 0 ++ trip 0 2 0
+    ++ (1 ∷ 0 ∷ 60 ∷ 0 ∷ 0 ∷ 0 ∷ 1 ∷ 70 ∷ 0 ∷ 0 ∷ 0 ∷ 0 ∷ [])
+
+unfoldable pub walkedCounts : Counts
+walkedCounts = record { stops = 2; trips = 1; times = 2; windows = 0; edges = 2 }
 
 unfoldable pub timetableK : List ℕ
 timetableK = table (time 0 160 160 0 0) (time 2 460 460 0 0) 0
@@ -132,7 +141,12 @@ cases =
     ∷ refusal (table (time 0 160 160 0 0) (time 2 1048576 460 0 0) 0) 2 runsK 3 entriesK nines sevens 5
     ∷ []
 
+-- walk edges out of order are refused by 6, and both slices are as they came
+pub walk-edges-unordered : outcome walked walkedCounts 1 1 (0 ∷ 1 ∷ []) (0 ∷ []) (areas (9 ∷ []) (7 ∷ [])) ≡ outcomeOf 6 (areas (9 ∷ []) (7 ∷ []))
+unfolding walked walkedCounts time trip every timeOf tripOf windowOf edgeOf countsOk slicesOk tripRuns stopTimeNumbers edgeNumbers stopTimeRanges tripRanges windowRanges edgeRanges edgeRises runsOk numbersOk rangesOk orderOk runIn lineRunsOk entriesOk sizesOk verdict
+walk-edges-unordered = refl
+
 -- every case is right
 pub worked : all cases ≡ true
-unfolding all cases right laid refusal timetableK table time trip counts runsK entriesK nines sevens same every tabFrom timeOf tripOf windowOf edgeOf countsOk slicesOk tripRuns stopTimeNumbers edgeNumbers stopTimeRanges tripRanges windowRanges edgeRanges runsOk numbersOk rangesOk inOrder neighbours fifoLine lastIn positionIn runIn lineRunsOk entriesOk sizesOk verdict
+unfolding all cases right laid refusal timetableK table time trip counts runsK entriesK nines sevens same every tabFrom timeOf tripOf windowOf edgeOf countsOk slicesOk tripRuns stopTimeNumbers edgeNumbers stopTimeRanges tripRanges windowRanges edgeRanges edgeRises runsOk numbersOk rangesOk orderOk inOrder neighbours fifoLine lastIn positionIn runIn lineRunsOk entriesOk sizesOk verdict
 worked = refl

@@ -10,7 +10,7 @@ use Rattle.loops.proofs.Iter.{and-left}
 use Rattle.door.specs.Door.{ask}
 use Rattle.door.proofs.Laws.{ask-yes, ask-later}
 use Rattle.tables.specs.declared.Counts.{Counts}
-use Rattle.tables.specs.Door.{countsOk, slicesOk, runsOk, numbersOk, rangesOk}
+use Rattle.tables.specs.Door.{countsOk, slicesOk, runsOk, numbersOk, rangesOk, orderOk}
 use Rattle.tables.specs.Sane.{CountsOk, SlicesOk}
 use Rattle.tables.proofs.Yes.{two, counts-yes, slices-yes, sane}
 use Rattle.line_layout.specs.Listed.{lineRunsOk, entriesOk}
@@ -59,7 +59,8 @@ pub admitted : (t : List ℕ) (c : Counts) (lines n : ℕ) (runs entries : List 
 unfolding verdict
 admitted t c lines n runs entries s h =
     let sizes = areasOk c lines n runs entries s in
-    let r5 = ask 5 (rangesOk t c) 0 in
+    let r6 = ask 6 (orderOk t c) 0 in
+    let r5 = ask 5 (rangesOk t c) r6 in
     let r4 = ask 4 (numbersOk t c && entriesOk c entries n) r5 in
     let r3 = ask 3 (runsOk t c && lineRunsOk runs lines n) r4 in
     let r2 = ask 2 (slicesOk t c && sizes) r3 in
@@ -71,7 +72,7 @@ admitted t c lines n runs entries s h =
     let e2 = ask-yes 1 (slicesOk t c && sizes) r3 h2 in
     let q3 = two (runsOk t c) (lineRunsOk runs lines n) (ask-yes 2 (runsOk t c && lineRunsOk runs lines n) r4 h3) in
     let q4 = two (numbersOk t c) (entriesOk c entries n) (ask-yes 3 (numbersOk t c && entriesOk c entries n) r5 h4) in
-    let e5 = ask-yes 4 (rangesOk t c) 0 h5 in
+    let e5 = ask-yes 4 (rangesOk t c) r6 h5 in
     let l = limits-yes c lines n e1 in
     let z = sizes-yes t c lines n (length runs) (length entries) (length (s .positions)) (length (s .fifo)) e2 in
     record {

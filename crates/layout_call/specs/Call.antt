@@ -7,7 +7,7 @@ use lib.ListN.{length}
 use lib.Dec.{leb, eqb}
 use Rattle.door.specs.Door.{ask}
 use Rattle.tables.specs.declared.Counts.{Counts}
-use Rattle.tables.specs.Door.{countsOk, slicesOk, runsOk, numbersOk, rangesOk}
+use Rattle.tables.specs.Door.{countsOk, slicesOk, runsOk, numbersOk, rangesOk, orderOk}
 use Rattle.tables.specs.Sane.{Sane}
 use Rattle.tables.specs.Timetable.{timetable}
 use Rattle.line_layout.specs.Layout.{positionsOf, fifosOf}
@@ -29,14 +29,15 @@ sizesOk c lines n runs entries positions fifo =
 abbrev pub areasOk : Counts → ℕ → ℕ → List ℕ → List ℕ → Areas → Bool
 areasOk c lines n runs entries s = sizesOk c lines n (length runs) (length entries) (length (s .positions)) (length (s .fifo))
 
--- THE QUESTIONS 1 to 5: the number of the first that is answered no, or 0
+-- THE QUESTIONS 1 to 6: the number of the first that is answered no, or 0. 6 is of the walk edges.
 unfoldable pub verdict : List ℕ → Counts → ℕ → ℕ → List ℕ → List ℕ → Bool → ℕ
 verdict t c lines n runs entries sizes =
     ask 1 (countsOk c && (leb lines 4096 && leb n 4096))
     (ask 2 (slicesOk t c && sizes)
     (ask 3 (runsOk t c && lineRunsOk runs lines n)
     (ask 4 (numbersOk t c && entriesOk c entries n)
-    (ask 5 (rangesOk t c) 0))))
+    (ask 5 (rangesOk t c)
+    (ask 6 (orderOk t c) 0)))))
 
 -- WHAT IS WRITTEN: every trip's position, every line's FIFO flag
 abbrev pub made : List ℕ → Counts → ℕ → List ℕ → List ℕ → Areas

@@ -55,7 +55,10 @@ fn questions(
     }
     let known = line_layout::entries_ok(c, entries, n);
     if door::both(known, tables::rows_ok(t, c)) {
-        return 0;
+        if tables::order_ok(t, c) {
+            return 0;
+        }
+        return 6;
     }
     if !door::both(tables::numbers_ok(t, c), known) {
         return 4;

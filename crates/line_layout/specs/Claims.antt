@@ -1,4 +1,5 @@
 -- What the laws speak of (proofs/Laws). Definitions only.
+-- For a law: no contract rests on this.
 use Prim.Native.Nat.{ℕ, _<_, _≤_}
 use mathlib.Core.Path.{_≡_}
 use Rattle.tables.specs.Timetable.{Timetable, timeAt}

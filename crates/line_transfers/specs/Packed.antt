@@ -1,5 +1,6 @@
 -- How the code holds a departure in one number and writes row by row. Inner: the call's outcome does not speak of it.
 -- Definitions only.
+-- Inner: nobody has to believe this.
 use Prim.Native.Nat.{ℕ, _+_, _*_, _-_, _/_, _%_, _<_, _≤_}
 use mathlib.Core.Path.{_≡_}
 use mathlib.Core.Bool.{not, cond}

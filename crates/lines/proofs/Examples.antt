@@ -10,7 +10,7 @@ use Rattle.sorts.specs.Sort.{insertBy, sortBy}
 use Rattle.sorts.specs.Orders.{keep}
 use Rattle.tables.specs.declared.Counts.{Counts}
 use Rattle.tables.specs.Tables.{timeOf, tripOf, windowOf, edgeOf}
-use Rattle.tables.specs.Door.{countsOk, slicesOk, tripRuns, stopTimeNumbers, edgeNumbers, stopTimeRanges, tripRanges, windowRanges, edgeRanges, runsOk, numbersOk, rangesOk}
+use Rattle.tables.specs.Door.{countsOk, slicesOk, tripRuns, stopTimeNumbers, edgeNumbers, stopTimeRanges, tripRanges, windowRanges, edgeRanges, edgeRises, runsOk, numbersOk, rangesOk, orderOk}
 use Rattle.line_numbers.specs.Lines.{same, leadOf, isLead, lineOf, lineTrips, entriesOf, lineCount, lineFirst, runsOf}
 use Rattle.lines.specs.Call.{Areas, areas, sizesOk, verdict, made, outcome}
 use Rattle.lines.specs.declared.Grouped.{Grouped}
@@ -41,6 +41,15 @@ table d s n mode = t0 ++ t1 d ++ t2 s ++ trip 0 3 mode ++ trip 3 3 0 ++ trip 6 n
 -- T2 first
 turned : List ℕ
 turned = t0 ++ t1 160 ++ t2 2 ++ trip 6 2 0 ++ trip 0 3 0 ++ trip 3 3 0 ++ (0 ∷ 0 ∷ 0 ∷ [])
+
+-- Timetable K with two walk edges, from stop 1 to 0, then from stop 0 to 1
+walked : List ℕ
+walked =
+    t0 ++ t1 160 ++ t2 2 ++ trip 0 3 0 ++ trip 3 3 0 ++ trip 6 2 0
+    ++ (1 ∷ 0 ∷ 60 ∷ 0 ∷ 0 ∷ 0 ∷ 1 ∷ 70 ∷ 0 ∷ 0 ∷ 0 ∷ 0 ∷ 0 ∷ [])
+
+walkedCounts : Counts
+walkedCounts = record { stops = 3; trips = 3; times = 8; windows = 0; edges = 2 }
 
 counts : ℕ → Counts
 counts trips = record { stops = 3; trips = trips; times = 8; windows = 0; edges = 0 }
@@ -110,7 +119,8 @@ cases =
     ∷ given turned (counts 3) (Lines 2) (left (0 ∷ 1 ∷ 1 ∷ []) (0 ∷ 1 ∷ 1 ∷ 2 ∷ 9 ∷ 9 ∷ []) (0 ∷ 1 ∷ 2 ∷ []))
     -- nothing at all
     ∷ record { table = []; counts = none; lent = areas [] [] [] [] []; answer = Lines 0; left = areas [] [] [] [] [] }
-    -- refused: too many trips; a table or the runs of a wrong length; a trip without stop times; a stop past the stops; a code; a time
+    -- refused: too many trips; a table or the runs of a wrong length; a trip without stop times; a stop past the stops; a code; a time;
+    -- walk edges out of order
     ∷ refusal (table 160 2 2 0) (counts 4097) (nines ++ nines) 1
     ∷ refusal (0 ∷ table 160 2 2 0) (counts 3) (nines ++ nines) 2
     ∷ refusal (table 160 2 2 0) (counts 3) (9 ∷ nines ++ nines) 2
@@ -118,9 +128,10 @@ cases =
     ∷ refusal (table 160 3 2 0) (counts 3) (nines ++ nines) 4
     ∷ refusal (table 160 2 2 7) (counts 3) (nines ++ nines) 5
     ∷ refusal (table 1048576 2 2 0) (counts 3) (nines ++ nines) 5
+    ∷ refusal walked walkedCounts (nines ++ nines) 6
     ∷ []
 
 -- every case is right
 pub worked : all cases ≡ true
-unfolding all right cases given refusal two left lent nines none counts turned table t0 t1 t2 trip stopTime sameList sameAnswer sameAreas every first count tabFrom insertBy sortBy keep flatMap timeOf tripOf windowOf edgeOf countsOk slicesOk tripRuns stopTimeNumbers edgeNumbers stopTimeRanges tripRanges windowRanges edgeRanges runsOk numbersOk rangesOk same leadOf isLead lineOf lineTrips entriesOf lineCount lineFirst runsOf sizesOk verdict made
+unfolding all right cases given refusal two left lent nines none counts turned walked walkedCounts table t0 t1 t2 trip stopTime sameList sameAnswer sameAreas every first count tabFrom insertBy sortBy keep flatMap timeOf tripOf windowOf edgeOf countsOk slicesOk tripRuns stopTimeNumbers edgeNumbers stopTimeRanges tripRanges windowRanges edgeRanges edgeRises runsOk numbersOk rangesOk orderOk same leadOf isLead lineOf lineTrips entriesOf lineCount lineFirst runsOf sizesOk verdict made
 worked = refl

@@ -11,7 +11,7 @@ use Rattle.door.specs.Door.{ask, refusal, success}
 use Rattle.tables.specs.declared.Counts.{Counts}
 use Rattle.tables.specs.Sane.{Sane}
 use Rattle.tables.specs.Timetable.{timetable}
-use Rattle.tables.specs.Door.{countsOk, slicesOk, runsOk, numbersOk, rangesOk}
+use Rattle.tables.specs.Door.{countsOk, slicesOk, runsOk, numbersOk, rangesOk, orderOk}
 use Rattle.line_numbers.specs.Lines.{lineOf, linesOf, entriesOf, runsOf}
 use Rattle.lines.specs.declared.Lengths.{Lengths}
 use Rattle.lines.specs.declared.Grouped.{Grouped}
@@ -36,10 +36,15 @@ unfoldable pub sizesOk : Counts → Lengths → Bool
 sizesOk c z =
     (eqb (z .lines) (c .trips) && eqb (z .runs) (c .trips * 2)) && (eqb (z .entries) (c .trips) && (eqb (z .work) (c .trips) && eqb (z .other) (c .trips)))
 
--- the number of the first question answered no, or 0
+-- THE QUESTIONS 1 to 6: the number of the first that is answered no, or 0. 6 is of the walk edges.
 unfoldable pub verdict : List ℕ → Counts → Lengths → ℕ
 verdict t c z =
-    ask 1 (countsOk c) (ask 2 (slicesOk t c && sizesOk c z) (ask 3 (runsOk t c) (ask 4 (numbersOk t c) (ask 5 (rangesOk t c) 0))))
+    ask 1 (countsOk c)
+    (ask 2 (slicesOk t c && sizesOk c z)
+    (ask 3 (runsOk t c)
+    (ask 4 (numbersOk t c)
+    (ask 5 (rangesOk t c)
+    (ask 6 (orderOk t c) 0)))))
 
 -- what is made; the workspace is left zero
 unfoldable pub made : List ℕ → Counts → Areas → Areas

@@ -1,4 +1,5 @@
 -- What deciding on a listed departure reads besides the tables, and a stop's part of the departures in order. Definitions only.
+-- Inner: nobody has to believe this.
 use Prim.Native.Nat.{ℕ, _*_, _≤_, _<_}
 use mathlib.Core.Path.{_≡_}
 use mathlib.Core.List.{List}

@@ -1,4 +1,5 @@
 -- Tests and keys over the numbers below n that suit a search by halving. Definitions only.
+-- Inner: nobody has to believe this.
 use Prim.Native.Nat.{ℕ, _≤_, _<_}
 use mathlib.Core.Path.{_≡_}
 use mathlib.Core.Bool.{Bool, true, false}

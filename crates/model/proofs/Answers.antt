@@ -1,52 +1,26 @@
 -- LAWS OF EVERY ADMITTED ANSWER, of `run_tbr` and of the query, with and without arc flags, on every day.
-use Prim.Native.Nat.{ℕ, suc, _+_, _*_, _≤_, _<_}
+use Prim.Native.Nat.{ℕ, suc, _+_, _≤_, _<_}
 use mathlib.Core.Path.{_≡_, refl, sym, ap, subst, _∙_}
 use mathlib.Core.Logic.{_⊎_, inl, inr, ⊎-elim}
 use mathlib.Core.Bool.{Bool, true, false}
 use mathlib.Core.List.{List, [], List·Memᴰ, List·Memᴰ·not-nil}
 use native.Mathlib.Nat.{le-refl, le-trans}
 use native.Mathlib.Omega.{arith}
-use lib.ListN.{length}
 use lib.Dec.{eqb}
 use borrow.Author.Tests.{eqb-true, eqb-false, eq-eqb, ne-eqb}
 use Rattle.loops.proofs.Search.{split}
 use Rattle.walk.proofs.Laws.{rounds-most}
 use Rattle.label.specs.declared.Label.the-variants.{Empty}
 use Rattle.model.specs.Tables.{Tables, Query, roundsOf, never, stops}
-use Rattle.model.specs.Search.{Arrivals, Answer, at, reachedBy, useArcFlags, flagsInUse, bestTarget, candidatesFrom, final, answer, runTbr, query}
+use Rattle.model.specs.Search.{Arrivals, at, reachedBy, useArcFlags, flagsInUse, bestTarget, candidatesFrom, final, answer, runTbr, query}
 use Rattle.model.specs.Door.{Door}
-use Rattle.model.proofs.Labels.{latest, labelIn, labelAt, Fits}
+use Rattle.model.specs.Lawful.{latestTotal, Candidate, Last, Sinks, none, Lawful}
+use Rattle.model.proofs.Labels.{labelAt}
 use Rattle.model.proofs.Rows.{Known, unreached, reached, Rows, filled}
-use Rattle.model.proofs.Bounds.{latestTotal, fits-early, ScanFits, final-sound, final-earliest, final-boardings}
-use Rattle.model.proofs.Candidates.{Candidate, Last, Sinks, none, Best, best-lowest, best-of, best-none, row-best, last-is, sinks, each-is}
+use Rattle.model.proofs.Bounds.{fits-early, final-sound, final-earliest, final-boardings}
+use Rattle.model.proofs.Candidates.{Best, best-lowest, best-of, best-none, row-best, last-is, sinks, each-is}
 
 module _ (T : Tables) (Q : Query) where
-  -- what every admitted answer keeps
-  pub record Lawful (A : Answer) : Type 0 where
-    -- LABELS: 13 rows a stop; each says what it should; rows above the round count are empty; arrivals fall strictly with the row
-    pub long : length (A .labels) ≡ stops T * 13
-    pub fits : (s row : ℕ) → s < stops T → row < 13 → Fits T Q s row (labelIn (A .labels) s row)
-    pub above : (s row : ℕ) → s < stops T → roundsOf Q < row → row < 13 → labelIn (A .labels) s row ≡ Empty
-    pub falls : (s i j u v : ℕ) → s < stops T → i < j → j < 13 → reachedBy (labelIn (A .labels) s i) ≡ suc u
-        → reachedBy (labelIn (A .labels) s j) ≡ suc v → v < u
-    -- TIMES: no label's arrival is after 108,003,224, no total after 109,051,799
-    pub arrives : (s row v : ℕ) → s < stops T → row < 13 → reachedBy (labelIn (A .labels) s row) ≡ suc v → v ≤ latest
-    pub total : (A .total ≡ never) ⊎ (A .total ≤ latestTotal)
-    -- THE TOTAL is no later than any label of an egress stop with the walk from there; "no way" names no stop and has no candidates,
-    -- any other answer names an egress stop whose label in some row gives the total
-    pub lowest : (s d row v : ℕ) → List·Memᴰ (s, d) (Q .egress) → row < 13 → reachedBy (labelIn (A .labels) s row) ≡ suc v → A .total ≤ v + d
-    pub no-stop : A .total ≡ never → A .stop ≡ never
-    pub no-candidate : A .total ≡ never → A .candidates ≡ []
-    pub stop : (A .total ≡ never → ⊥) → (row : ℕ) × (row ≤ roundsOf Q) × Candidate Q (A .labels) (A .total) (A .total) (A .stop) row
-    -- THE CANDIDATES: labels' totals, within the slack of the best one, of rows up to the round count; totals fall strictly and rows
-    -- rise strictly; the last one's total is the best one
-    pub each : (total stop row : ℕ) → List·Memᴰ (total, stop, row) (A .candidates)
-        → Candidate Q (A .labels) (A .total) total stop row × (row ≤ roundsOf Q)
-    pub sinking : Sinks never 0 (A .candidates)
-    pub last : (A .total ≡ never → ⊥) → Last (A .total) (A .candidates)
-    -- THE SCANS are of the query's rounds and of permitted trips, from offsets that they have
-    pub scans : (r t o : ℕ) → List·Memᴰ (r, t, o) (A .scans) → ScanFits T Q (roundsOf Q) r t o
-
   module _ (D : Door T Q) (flagged : Bool) where
     abbrev end : Arrivals
     end = final T Q flagged .arrivals
@@ -110,7 +84,7 @@ module _ (T : Tables) (Q : Query) where
     unfolding best
     early n = sum-early (best-of T Q end n)
 
-    pub answer-lawful : Lawful (answer T Q flagged)
+    pub answer-lawful : Lawful T Q (answer T Q flagged)
     unfolding answer best chosen
     answer-lawful =
         record {
@@ -173,10 +147,10 @@ module _ (T : Tables) (Q : Query) where
             (omega (arith, r .1)) (r .2))
 
   -- `run_tbr`, and the query
-  pub runTbr-lawful : Door T Q → Lawful (runTbr T Q)
+  pub runTbr-lawful : Door T Q → Lawful T Q (runTbr T Q)
   unfolding runTbr
   runTbr-lawful D = answer-lawful D (useArcFlags T Q)
 
-  pub query-lawful : Door T Q → Lawful (query T Q)
+  pub query-lawful : Door T Q → Lawful T Q (query T Q)
   unfolding query
   query-lawful D = answer-lawful D (flagsInUse T Q)

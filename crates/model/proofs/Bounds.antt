@@ -19,16 +19,13 @@ use Rattle.label.specs.declared.Label.{Label}
 use Rattle.model.specs.Tables.{Tables, Query, roundsOf, isEgress, egressWalk, never, stops, trips, stopCount, permitted}
 use Rattle.model.specs.Search.{Segment, Arrivals, Boardings, at, reachedBy, bestAfter, delayOf, prunable, board, emptied, final}
 use Rattle.model.specs.Door.{Door}
+use Rattle.model.specs.Lawful.{Boarded, Begins, latest, LabelFits, empty, access, transit, walk, latestTotal, ScanFits}
 use Rattle.model.proofs.Stores.{set-cases, no-both, getD-replicate}
-use Rattle.model.proofs.Steps.{Boarded, Begins, Rides, Why, ride, Same, Steps, Kept, Run, begun, round, run-stamp, steps-keep, steps-reached, steps-queue, Books-kept, books-keep}
+use Rattle.model.proofs.Steps.{Rides, Why, ride, Same, Steps, Kept, Run, begun, round, run-stamp, steps-keep, steps-reached, steps-queue, Books-kept, books-keep}
 use Rattle.model.proofs.Runs.{final-ran}
 use Rattle.model.proofs.Sizes.{latestBoarding, boards-soon}
-use Rattle.model.proofs.Labels.{latest, labelAt, Fits, empty, access, transit, walk, begins-shift, rides-early, why-early}
+use Rattle.model.proofs.Labels.{labelAt, begins-shift, rides-early, why-early}
 use Rattle.model.proofs.Rows.{Known, unreached, reached, Rows, rows-up, rows-kept}
-
--- the latest total: the latest arrival, then the longest egress walk
-abbrev pub latestTotal : ℕ
-latestTotal = 109051799
 
 -- an egress stop's walk is listed
 pub egress-listed : (es : List (ℕ × ℕ)) (s : ℕ) → isEgress es s ≡ true → List·Memᴰ (s, egressWalk es s) es
@@ -57,15 +54,8 @@ module _ (T : Tables) (Q : Query) where
     pub reached : (x : ℕ) → List·Memᴰ x (a .reached) → x < stops T
     pub segments : (g : Segment) → List·Memᴰ g (a .segQueue) → SegmentFits g
 
-  -- a scan in the log: of a round before this one, of a permitted trip, from an offset that it has
-  pub record ScanFits (rounds r t o : ℕ) : Type 0 where
-    pub round : r < rounds
-    pub trip : t < trips T
-    pub inside : o < stopCount T t
-    pub permits : permitted T Q t ≡ true
-
   abbrev Scans : ℕ → List (ℕ × ℕ × ℕ) → Type 0
-  Scans n l = (r t o : ℕ) → List·Memᴰ (r, t, o) l → ScanFits n r t o
+  Scans n l = (r t o : ℕ) → List·Memᴰ (r, t, o) l → ScanFits T Q n r t o
 
   -- boardings after so many rounds: tables of their lengths, early departures, numbers in range
   pub record BoardingsFit (rounds : ℕ) (b : Boardings) : Type 0 where
@@ -75,11 +65,11 @@ module _ (T : Tables) (Q : Query) where
     pub offsets : (t : ℕ) → t < trips T → getD (b .boardOffset) t 0 < stopCount T t
     pub departures : (t : ℕ) → getD (b .boardDeparture) t 0 ≤ latestBoarding
     pub lineBoards : (t o : ℕ) → List·Memᴰ (t, o) (b .lineBoards) → (t < trips T) × (o < stopCount T t)
-    pub scans : (r t o : ℕ) → List·Memᴰ (r, t, o) (b .scans) → ScanFits rounds r t o
+    pub scans : (r t o : ℕ) → List·Memᴰ (r, t, o) (b .scans) → ScanFits T Q rounds r t o
 
 module _ (T : Tables) (Q : Query) (D : Door T Q) where
   -- a label's arrival
-  pub fits-early : {s row v : ℕ} {l : Label} → Fits T Q s row l → reachedBy l ≡ suc v → v ≤ latest
+  pub fits-early : {s row v : ℕ} {l : Label} → LabelFits T Q s row l → reachedBy l ≡ suc v → v ≤ latest
   fits-early empty e = absurd (omega arith)
   fits-early (access f) e = omega (arith, f .arrival, D .start-small, D .origin-small (f .origin) (f .listed))
   fits-early (transit f) e = omega (arith, f .arrives)

@@ -17,7 +17,7 @@ use Rattle.model.proofs.Base.{split, and-true}
 
 module _ (T : Tables) (Q : Query) (P : CalmDay T Q) where
   lines-same : (t u : ℕ) → t < trips T → u < trips T → T .lineOf u ≡ T .lineOf t → lineOf (T .timetable) u ≡ lineOf (T .timetable) t
-  lines-same t u h l e = sym (P .line-built u l) ∙ e ∙ P .line-built t h
+  lines-same t u h l e = sym (P .built .line-built u l) ∙ e ∙ P .built .line-built t h
 
   pub same-count : (t u : ℕ) → t < trips T → u < trips T → T .lineOf u ≡ T .lineOf t → stopCount T u ≡ stopCount T t
   same-count t u h l e = line-counts (T .timetable) u t (lines-same t u h l e)
@@ -28,9 +28,9 @@ module _ (T : Tables) (Q : Query) (P : CalmDay T Q) where
   not-later : (t u : ℕ) → t < trips T → u < trips T → T .lineOf u ≡ T .lineOf t → fifo T (T .lineOf t) ≡ true → position T u ≤ position T t → NotLater (T .timetable) u t
   unfolding fifo
   not-later t u h l e f q =
-      built-fifo (T .timetable) (T .line) (P .lists-built) u t l h (lines-same t u h l e)
-      (subst (λ (z : ℕ). fifoLine (T .timetable) (T .line z) ≡ true) (sym e ∙ P .line-built u l) (and-true (ltb (T .lineOf t) (T .lines)) (fifoLine (T .timetable) (T .line (T .lineOf t))) f .1))
-      (subst (λ (n : ℕ). positionIn (T .line) n u ≤ positionIn (T .line) n t) (P .lines-built) q)
+      built-fifo (T .timetable) (T .line) (P .built .lists-built) u t l h (lines-same t u h l e)
+      (subst (λ (z : ℕ). fifoLine (T .timetable) (T .line z) ≡ true) (sym e ∙ P .built .line-built u l) (and-true (ltb (T .lineOf t) (T .lines)) (fifoLine (T .timetable) (T .line (T .lineOf t))) f .1))
+      (subst (λ (n : ℕ). positionIn (T .line) n u ≤ positionIn (T .line) n t) (P .built .lines-built) q)
 
   pub no-later-arrival : (t u : ℕ) → t < trips T → u < trips T → T .lineOf u ≡ T .lineOf t → fifo T (T .lineOf t) ≡ true → position T u ≤ position T t → (o : ℕ) → o < stopCount T t → arrival T u o ≤ arrival T t o
   no-later-arrival t u h l e f q o i = not-later t u h l e f q .arrival o (omega (arith, same-count t u h l e))

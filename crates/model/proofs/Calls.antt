@@ -16,25 +16,9 @@ use Rattle.label.specs.declared.Label.the-variants.{Empty}
 use Rattle.departures.specs.declared.DepartureRow.{DepartureRow}
 use Rattle.model.specs.Tables.{never, Tables, Origin, Query, roundsOf, changeBefore, stops, usable, permitted}
 use Rattle.model.specs.Door.{Door}
-use Rattle.model.specs.Search.{Segment, Arrivals, State, Answer, at, departuresAt, markAt, notBefore, marginOf, roundStart, targetsFrom, targetCells, holdsTarget, useArcFlags, skipsEdge, skipsTransfer, flagsInUse, boardAt, bestAfter, improve, relax, resolveIn, lineTripsAt, resolve, enqueue, takeTransfers, alightings, transferring, scanTripForward, rideSegments, dominated, pruned, passedOver, boarding, board, scanDepartures, scanStops, walkFrom, walkAll, ridePhase, stamped, walkPhase, idle, rounds, setOut, access, newArrivals, begin, bestTarget, rowTarget, candidatesFrom, final, answer, runTbr, query}
-use Rattle.model.proofs.Moves.{taken, left-out, Goes, any-fits, moves-none, ridePhase-goes, walkAll-moves, access-queue, roundOf, walksFrom, walksTo, rounds-keep}
-
--- the same query with the switch put off
-abbrev pub putOff : Query → Query
-putOff Q =
-    record {
-      start = Q .start;
-      origins = Q .origins;
-      egress = Q .egress;
-      modes = Q .modes;
-      wheelchair = Q .wheelchair;
-      change = Q .change;
-      wantedRounds = Q .wantedRounds;
-      transfers = Q .transfers;
-      delays = Q .delays;
-      flagsOff = true;
-      settings = Q .settings;
-    }
+use Rattle.model.specs.Search.{Segment, Arrivals, State, Answer, at, departuresAt, markAt, notBefore, marginOf, roundStart, targetsFrom, targetCells, holdsTarget, useArcFlags, skipsEdge, skipsTransfer, flagsInUse, boardAt, bestAfter, improve, relax, resolveIn, lineTripsAt, resolve, enqueue, takeTransfers, alightings, transferring, scanTripForward, rideSegments, dominated, pruned, passedOver, boarding, board, scanDepartures, scanStops, walkFrom, walkAll, ridePhase, stamped, walkPhase, idle, rounds, setOut, access, newArrivals, begin, bestTarget, rowTarget, candidatesFrom, final, answer, putOff, runTbr, query}
+use Rattle.model.specs.Queue.{roundOf}
+use Rattle.model.proofs.Moves.{taken, left-out, Goes, any-fits, moves-none, ridePhase-goes, walkAll-moves, access-queue, walksFrom, walksTo, rounds-keep}
 
 -- the answer that a state holds
 abbrev answerOf : Tables → Query → State → Answer
@@ -154,16 +138,19 @@ module _ (T : Tables) (Q : Query) where
       skips : Bool
       skips = skipsEdge T Q || skipsTransfer T Q
 
-  -- where the flags are not in use, it is `run_tbr` of the same query with the switch put off
-  pub query-put-off : flagsInUse T Q ≡ false → query T Q ≡ runTbr T (putOff Q)
-  unfolding query runTbr useArcFlags
-  query-put-off h =
-      ap (answer T Q) h ∙ sym (same-answer false)
-      ∙ ap (answer T (putOff Q)) (sym (off (not (holdsNone (targetCells T (putOff Q))) && not (eqb (T .patterns) 0))))
+  -- `run_tbr` with the switch put off is the search without flags
+  pub put-off : runTbr T (putOff Q) ≡ answer T Q false
+  unfolding runTbr useArcFlags
+  put-off = ap (answer T (putOff Q)) (off (not (holdsNone (targetCells T (putOff Q))) && not (eqb (T .patterns) 0))) ∙ same-answer false
     where
       off : (b : Bool) → b && false ≡ false
       off true = refl
       off false = refl
+
+  -- where the flags are not in use, the query is `run_tbr` of the same query with the switch put off
+  pub query-put-off : flagsInUse T Q ≡ false → query T Q ≡ runTbr T (putOff Q)
+  unfolding query
+  query-put-off h = ap (answer T Q) h ∙ sym put-off
 
 module _ (T : Tables) (Q : Query) where
   -- the best target is as before, or earlier

@@ -10,35 +10,14 @@ use lib.Dec.{ltb, leb, eqb}
 use borrow.Author.Tests.{ltb-true, ltb-false, leb-true, eqb-false, ne-eqb, lt-ltb, le-leb}
 use Rattle.loops.proofs.Iter.{and-left, and-right}
 use Rattle.loops.proofs.Search.{split}
-use Rattle.label.specs.declared.Label.{Label}
 use Rattle.model.specs.Tables.{Tables, Query, never}
 use Rattle.model.specs.Search.{Arrivals, at, reachedBy, bestTarget, rowTarget, candidatesFrom}
 use Rattle.model.specs.Door.{Door}
+use Rattle.model.specs.Lawful.{Last, last, more, Sinks, none, next, Candidate}
 use Rattle.model.proofs.Stores.{no-both}
-use Rattle.model.proofs.Labels.{labelIn, labelAt}
+use Rattle.model.proofs.Labels.{labelAt}
 use Rattle.model.proofs.Rows.{Known, unreached, reached, Rows}
 use Rattle.model.proofs.Bounds.{fits-early}
-
--- the last candidate has this total
-pub data Last (total : ℕ) : List (ℕ × ℕ × ℕ) → Type 0 where
-  last : (stop row : ℕ) → Last total ((total, stop, row) ∷ [])
-  more : {c : ℕ × ℕ × ℕ} {cs : List (ℕ × ℕ × ℕ)} → Last total cs → Last total (c ∷ cs)
-
--- totals fall strictly from below a bound, rows rise strictly from a row on
-pub data Sinks : ℕ → ℕ → List (ℕ × ℕ × ℕ) → Type 0 where
-  none : {bound from : ℕ} → Sinks bound from []
-  next : {bound from total stop row : ℕ} {cs : List (ℕ × ℕ × ℕ)} → total < bound → from ≤ row → Sinks total (suc row) cs
-      → Sinks bound from ((total, stop, row) ∷ cs)
-
--- a candidate: the total of an egress stop's label in a row, not before the best total, nor later by more than the slack
-pub record Candidate (Q : Query) (labels : List Label) (top total stop row : ℕ) : Type 0 where
-  pub walk : ℕ
-  pub egress : List·Memᴰ (stop, walk) (Q .egress)
-  pub arrives : ℕ
-  pub label : reachedBy (labelIn labels stop row) ≡ suc arrives
-  pub sum : total ≡ arrives + walk
-  pub best : top ≤ total
-  pub near : total ≤ top + Q .settings .candidateSlack
 
 sinks-low : {bound from : ℕ} {cs : List (ℕ × ℕ × ℕ)} → Sinks bound (suc from) cs → Sinks bound from cs
 sinks-low none = none

@@ -76,10 +76,10 @@ module _ (T : Tables) (Q : Query) where
     depart-late x t o h b =
         let d = delayAt T Q (delayOf Q t) t o in
         ⊎-elim (λ l. omega (arith, l, shifted-near (departure T t o) (cond (departureGiven (d .flags)) (d .«departure_delay») (d .«trip_delay»))))
-        (λ q. omega (arith, q, S .not-late x t o h b)) (covered t o)
+        (λ q. omega (arith, q, S .conditions .not-late x t o h b)) (covered t o)
 
     pub depart-early : (x t o : ℕ) → x < stops T → Boarding T Q (effective T Q) x t o → departure T t o ≤ effective T Q .departs t o + marginOf T Q
     depart-early x t o h b =
         let d = delayAt T Q (delayOf Q t) t o in
         ⊎-elim (λ l. omega (arith, l, shifted-back (departure T t o) (cond (departureGiven (d .flags)) (d .«departure_delay») (d .«trip_delay»))))
-        (λ q. omega (arith, q, S .not-early x t o h b)) (covered t o)
+        (λ q. omega (arith, q, S .conditions .not-early x t o h b)) (covered t o)

@@ -17,6 +17,7 @@ use Rattle.model.specs.Door.{Door}
 use Rattle.model.specs.Promise.{TripTimes, scheduled, effective, PlainDay, SteadyDay, TripDelays, Journey, Way, Arrives, Demand3, Pareto}
 use Rattle.model.proofs.Base.{no-both}
 use Rattle.model.proofs.Net.{Plain}
+use Rattle.model.proofs.Calls.{put-off}
 use Rattle.model.proofs.PlainSearch
 use Rattle.model.proofs.Rounds.{Reach, j-access, j-ride, j-walk}
 use Rattle.model.proofs.Ways
@@ -74,7 +75,7 @@ module _ (T : Tables) (Q : Query) where
     reach-of b n x v (Journey.access a m) = j-access (Memᴰ·map originOf m)
     reach-of b n x v (Journey.ride {b = b′} {n = n′} {x = y} {v = w} t o p j r a l) =
         let h = journey-in b′ n′ y w j in
-        j-ride t o p (reach-of b′ n′ y w j) (of-row T y t o h (r .listed)) (r .trip) (neither _ _ (r .pickup) (not-true _ (r .served))) (omega (arith, l, change-same n′)) (a .later) (omega (arith, a .inside, at-count T t (D .listed-trip y _ h (r .listed)))) (neither _ _ (a .dropOff) (not-true _ (a .served)))
+        j-ride t o p (reach-of b′ n′ y w j) (of-row T y t o h (r .listed)) (r .trip) (neither _ _ (r .pickup) (not-true _ (r .served))) (omega (arith, l, change-same n′)) (omega (arith, a .later)) (omega (arith, a .inside, at-count T t (D .listed-trip y _ h (r .listed)))) (neither _ _ (a .dropOff) (not-true _ (a .served)))
     reach-of b n x v (Journey.foot {n = n′} {x = y} {v = w} e j m) = j-walk (reach-of true n′ y w j) (of-edge T Q y e m)
 
   way-of : {L : List (ℕ × ℕ × ℕ)} (x v q : ℕ) → Ways.Way (net T Q) L x v q → Way T Q (effective T Q) L x v q
@@ -82,13 +83,21 @@ module _ (T : Tables) (Q : Query) where
       let a = origin-of Q s d m in
       subst (λ (z : ℕ). Way T Q (effective T Q) L z (Q .start + d) zero) (a .at) (subst (λ (z : ℕ). Way T Q (effective T Q) L (a .walk .stop) (Q .start + z) zero) (a .lasts) (Way.access (a .walk) (a .member)))
   way-of {L} x v q (Ways.w-ride {x = y} {v = w} {q = q′} r t o p j h i m k c l z n a) =
-      Way.ride r t o p (way-of y w q′ j) h i (boarding-of T Q y t o m k c .1) (alighting-of T Q t o p z n a) (omega (arith, l, change-same r))
+      Way.ride r t o p (way-of y w q′ j) (omega (arith, h)) i (boarding-of T Q y t o m k c .1) (alighting-of T Q t o p z n a) (omega (arith, l, change-same r))
   way-of {L} x v q (Ways.w-walk {x = y} {v = w} {q = q′} {y = y′} {d = d} j m) =
       let e = edge-of T Q y y′ d m in
       subst (λ (z : ℕ). Way T Q (effective T Q) L z (w + d) q′) (e .to) (subst (λ (z : ℕ). Way T Q (effective T Q) L (edgeTo T (e .edge)) (w + z) q′) (e .walk) (Way.foot (e .edge) (way-of y w q′ j) (e .member)))
 
-  arrives-of : {L : List (ℕ × ℕ × ℕ)} {n total stop : ℕ} → PlainTotals.Arrives (net T Q) L n total stop → Arrives T Q (effective T Q) L total stop
-  arrives-of {stop = stop} a = record { reached = a .reached; lastRound = a .good .last; way = way-of stop (a .reached) (a .good .last) (a .good .way); walk = a .walk; egress = a .egress; sum = a .sum }
+  arrives-of : {n total stop : ℕ} → PlainTotals.Arrives (net T Q) (answer T Q false .scans) n total stop → Arrives T Q (effective T Q) total stop
+  arrives-of {stop = stop} a =
+      record {
+        reached = a .reached;
+        lastRound = a .good .last;
+        way = subst (λ (A : Answer). Way T Q (effective T Q) (A .scans) stop (a .reached) (a .good .last)) (sym (put-off T Q)) (way-of stop (a .reached) (a .good .last) (a .good .way));
+        walk = a .walk;
+        egress = a .egress;
+        sum = a .sum;
+      }
 
 -- on a steady day, unflagged
 calm : (T : Tables) (Q : Query) → Door T Q → SteadyDay T Q → Calm T Q
@@ -101,7 +110,7 @@ calm T Q D S =
             known = e .0;
             unwindowed = e .1;
             arrives = λ i k p l n a. let b = boarding-of T Q x (d .trip) (d .offset) (Memᴰ·map pairOf m) i k in
-                S .one-arrival x (d .trip) (d .offset) p (b .0) (b .1)
+                S .conditions .one-arrival x (d .trip) (d .offset) p (b .0) (b .1)
                 (alighting-of T Q (d .trip) _ p (omega (arith, l)) (omega (arith, c, n)) a);
           };
     }
@@ -111,9 +120,9 @@ unfolding answer
 unflagged T Q D S =
     record {
       lowest = λ v j. let e = egress-is (Q .egress) (D .egress-rising) (j .stop) (j .walk) (j .egress) in
-          omega (arith, j .sum, e .1, d .lowest (j .justRode) (j .rideCount) (j .stop) (j .reached) (j .fits) (reach-of T Q D (j .justRode) (j .rideCount) (j .stop) (j .reached) (j .journey)) (e .0) (omega (arith, journey-small T Q D (j .justRode) (j .rideCount) (j .stop) (j .reached) (j .journey))));
+          omega (arith, j .sum, e .1, d .lowest (j .justRode) (j .rideCount) (j .stop) (j .reached) (omega (arith, j .fits)) (reach-of T Q D (j .justRode) (j .rideCount) (j .stop) (j .reached) (j .journey)) (e .0) (omega (arith, journey-small T Q D (j .justRode) (j .rideCount) (j .stop) (j .reached) (j .journey))));
       no-way = λ q v j. let e = egress-is (Q .egress) (D .egress-rising) (j .stop) (j .walk) (j .egress) in
-          d .none q (j .justRode) (j .rideCount) (j .stop) (j .reached) (j .fits) (reach-of T Q D (j .justRode) (j .rideCount) (j .stop) (j .reached) (j .journey)) (e .0)
+          d .none q (j .justRode) (j .rideCount) (j .stop) (j .reached) (omega (arith, j .fits)) (reach-of T Q D (j .justRode) (j .rideCount) (j .stop) (j .reached) (j .journey)) (e .0)
           (omega (arith, journey-small T Q D (j .justRode) (j .rideCount) (j .stop) (j .reached) (j .journey), e .1, D .egress-small (j .stop) (j .walk) (j .egress)));
       best = λ q. arrives-of T Q (d .best q);
       each = λ total stop row m. arrives-of T Q (d .each total stop row (shown (eqb (bestTarget T Q (final T Q false .arrivals) (Q .egress) (never, never) .0) never) total stop row m));
@@ -148,7 +157,7 @@ unflagged-pareto T Q D S =
           let low = unflagged T Q D S .lowest v (record { justRode = j .justRode; rideCount = j .rideCount; stop = j .stop; reached = j .reached; journey = j .journey; fits = omega (arith, j .fits, b); walk = j .walk; egress = j .egress; sum = j .sum }) in
           let c =
           subst (λ (z : PlainSearch.Answer (net T Q)). j .reached + egressWalk (Q .egress) (j .stop) ≤ z .total + Q .settings .candidateSlack → Pareto.Covers (net T Q) (z .cand) k (j .reached + egressWalk (Q .egress) (j .stop))) (sym (sim-answer T Q N-plain C))
-          (Pareto.pareto (net T Q) N-plain (trips T) (roundsOf Q) k (rounds-few Q) b (j .justRode) (j .rideCount) (j .stop) (j .reached) (j .fits) (reach-of T Q D (j .justRode) (j .rideCount) (j .stop) (j .reached) (j .journey)) (e .0) (omega (arith, h, g, e .1)))
+          (Pareto.pareto (net T Q) N-plain (trips T) (roundsOf Q) k (rounds-few Q) b (j .justRode) (j .rideCount) (j .stop) (j .reached) (omega (arith, j .fits)) (reach-of T Q D (j .justRode) (j .rideCount) (j .stop) (j .reached) (j .journey)) (e .0) (omega (arith, h, g, e .1)))
           (omega (arith, s, j .sum, e .1)) in
           (c .candidate, subst (λ (z : Bool). List·Memᴰ (c .candidate) (elim z [ true ↦ [] | false ↦ small T Q (final T Q false) .cand ])) (sym (ne-eqb (answer T Q false .total) never (λ z. omega (arith, z, low, j .sum, h, g)))) (c .listed), omega (arith, c .early, j .sum, e .1), c .row);
     }
@@ -162,21 +171,25 @@ unflagged-pareto T Q D S =
 -- STEADY DAYS: demand 3, of the query's answer
 pub steady : (T : Tables) (Q : Query) → Door T Q → SteadyDay T Q → Demand3 T Q (effective T Q) (query T Q)
 unfolding query
-steady T Q D S = subst (λ (b : Bool). Demand3 T Q (effective T Q) (answer T Q b)) (sym (S .calm .no-flags)) (unflagged T Q D S)
+steady T Q D S = subst (λ (b : Bool). Demand3 T Q (effective T Q) (answer T Q b)) (sym (S .calm .conditions .no-flags)) (unflagged T Q D S)
 
 -- and of `run_tbr`'s, wherever the Rust's `use_arc_flags` is false
 pub steady-rust : (T : Tables) (Q : Query) → Door T Q → SteadyDay T Q → useArcFlags T Q ≡ false → Demand3 T Q (effective T Q) (runTbr T Q)
 unfolding runTbr
 steady-rust T Q D S e = subst (λ (b : Bool). Demand3 T Q (effective T Q) (answer T Q b)) (sym e) (unflagged T Q D S)
 
--- beyond the request: the query's candidates are Pareto-complete
+-- beyond the request: the candidates are Pareto-complete
 pub steady-pareto : (T : Tables) (Q : Query) → Door T Q → SteadyDay T Q → Pareto T Q (effective T Q) (query T Q)
 unfolding query
-steady-pareto T Q D S = subst (λ (b : Bool). Pareto T Q (effective T Q) (answer T Q b)) (sym (S .calm .no-flags)) (unflagged-pareto T Q D S)
+steady-pareto T Q D S = subst (λ (b : Bool). Pareto T Q (effective T Q) (answer T Q b)) (sym (S .calm .conditions .no-flags)) (unflagged-pareto T Q D S)
+
+pub steady-pareto-rust : (T : Tables) (Q : Query) → Door T Q → SteadyDay T Q → useArcFlags T Q ≡ false → Pareto T Q (effective T Q) (runTbr T Q)
+unfolding runTbr
+steady-pareto-rust T Q D S e = subst (λ (b : Bool). Pareto T Q (effective T Q) (answer T Q b)) (sym e) (unflagged-pareto T Q D S)
 
 -- PLAIN DAYS. Without delay rows there are no stop rows, and every trip is without a delay row
 pub no-row : (T : Tables) (Q : Query) → PlainDay T Q → (t : ℕ) → delayOf Q t ≡ miss
-no-row T Q P t = first-isnt _ (Q .delays .delays) (λ j h. absurd (omega (arith, P .no-delays)))
+no-row T Q P t = first-isnt _ (Q .delays .delays) (λ j h. absurd (omega (arith, P .conditions .no-delays)))
 
 -- so effective times are the scheduled ones, and every stop is served
 pub plain-times : (T : Tables) (Q : Query) → PlainDay T Q → effective T Q ≡ scheduled T
@@ -190,14 +203,14 @@ plain-times T Q P =
 
 -- and each plain day is a steady one
 pub steady-of : (T : Tables) (Q : Query) → Door T Q → PlainDay T Q → SteadyDay T Q
-steady-of T Q D P = trip-delays-steady T Q D no-delays (P .calm) (P .no-times-fall)
+steady-of T Q D P = trip-delays-steady T Q D no-delays (P .calm) (P .conditions .no-times-fall)
   where
     no-delays : TripDelays T Q
     no-delays =
         record {
-          only-skips = λ j h u. absurd (omega (arith, P .no-delays, D .stop-row-in j h));
-          within-cap = λ i h u. absurd (omega (arith, P .no-delays));
-          after-zero = λ i o h u n. absurd (omega (arith, P .no-delays));
+          only-skips = λ j h u. absurd (omega (arith, P .conditions .no-delays, D .stop-row-in j h));
+          within-cap = λ i h u. absurd (omega (arith, P .conditions .no-delays));
+          after-zero = λ i o h u n. absurd (omega (arith, P .conditions .no-delays));
         }
 
 -- DEMAND 3, of the query's answer: by scheduled times
@@ -208,6 +221,9 @@ demand3 T Q D P = subst (λ (W : TripTimes). Demand3 T Q W (query T Q)) (plain-t
 pub demand3-rust : (T : Tables) (Q : Query) → Door T Q → PlainDay T Q → useArcFlags T Q ≡ false → Demand3 T Q (scheduled T) (runTbr T Q)
 demand3-rust T Q D P e = subst (λ (W : TripTimes). Demand3 T Q W (runTbr T Q)) (plain-times T Q P) (steady-rust T Q D (steady-of T Q D P) e)
 
--- beyond the request: the query's candidates are Pareto-complete
+-- beyond the request: the candidates are Pareto-complete
 pub pareto : (T : Tables) (Q : Query) → Door T Q → PlainDay T Q → Pareto T Q (scheduled T) (query T Q)
 pareto T Q D P = subst (λ (W : TripTimes). Pareto T Q W (query T Q)) (plain-times T Q P) (steady-pareto T Q D (steady-of T Q D P))
+
+pub pareto-rust : (T : Tables) (Q : Query) → Door T Q → PlainDay T Q → useArcFlags T Q ≡ false → Pareto T Q (scheduled T) (runTbr T Q)
+pareto-rust T Q D P e = subst (λ (W : TripTimes). Pareto T Q W (runTbr T Q)) (plain-times T Q P) (steady-pareto-rust T Q D (steady-of T Q D P) e)

@@ -1,104 +1,39 @@
 -- What every label of an admitted run says, and how a stop's rows go with its earliest arrival. In both modes, on every day.
-use Prim.Native.Nat.{ℕ, suc, _+_, _*_, _-_, _≤_, _<_}
+use Prim.Native.Nat.{ℕ, _*_, _-_, _≤_, _<_}
 use mathlib.Core.Path.{_≡_, refl, sym, ap, subst, _∙_}
-use mathlib.Core.Bool.{true, false}
-use mathlib.Core.List.{List, List·Memᴰ}
+use mathlib.Core.List.{List·Memᴰ}
 use native.Mathlib.Omega.{arith}
-use lib.ListN.{length, getD, length-set, length-replicate}
+use lib.ListN.{length, length-set, length-replicate}
 use lib.Dec.{eqb}
 use lib.Ieee.{Float}
 use borrow.Author.Tests.{eqb-true}
 use Rattle.door.specs.Door.{timeLimit}
 use Rattle.walk.proofs.Laws.{duration-most}
-use Rattle.frequency.specs.declared.Boarding.{Boarding}
-use Rattle.frequency.specs.declared.FreqBoard.the-variants.{Board}
 use Rattle.realtime.specs.Times.{sizeOf}
 use Rattle.label.specs.declared.Label.{Label}
 use Rattle.label.specs.declared.Label.the-variants.{Empty, Access, Transit, Walk}
-use Rattle.label.specs.Label.{noDistance}
 use Rattle.label_table.specs.Table.{recordOf}
-use Rattle.model.specs.Tables.{Tables, Origin, Query, never, stops, trips, stopCount, stopAt, noPickup, noDropOff, edgesFrom, edgeTo, walkTime, permitted}
-use Rattle.model.specs.Search.{Segment, Arrivals, delayOf, skipped, boardAt, arrivalNow}
+use Rattle.model.specs.Tables.{Tables, Query, never, stops, trips, edgesFrom, walkTime}
+use Rattle.model.specs.Search.{Segment, Arrivals}
 use Rattle.model.specs.Door.{Door}
+use Rattle.model.specs.Lawful.{latest, labelIn, AccessFits, TransitFits, transfer, edge, WalkFits, LabelFits, access, transit, walk, Begins}
+use Rattle.model.specs.Lawful.{Begins}
 use Rattle.model.proofs.Stores.{keep-in, upto-in}
-use Rattle.model.proofs.Steps.{lists-long, Boarded, Begins, Rides, alighted, changed, Why, origin, ride, foot, Kept}
+use Rattle.model.proofs.Steps.{lists-long, Rides, alighted, changed, Why, origin, ride, foot, Kept}
 use Rattle.model.proofs.Sizes.{latestBoarding, arrival-early, boards-soon}
-
--- the latest arrival at a stop: the latest boarding (a transfer's label), then the longest walk
-abbrev pub latest : ℕ
-latest = 108003224
-
--- a stop's label in a row
-abbrev pub labelIn : List Label → ℕ → ℕ → Label
-labelIn labels s row = getD labels (recordOf s row) Empty
 
 abbrev pub labelAt : Arrivals → ℕ → ℕ → Label
 labelAt a s row = labelIn (a .labels) s row
 
 module _ (T : Tables) (Q : Query) where
-  -- an Access label of stop s in a row: an origin's, in row 0
-  pub record AccessFits (s row x v d : ℕ) (f : Float) : Type 0 where
-    pub origin : Origin
-    pub listed : List·Memᴰ origin (Q .origins)
-    pub first : row ≡ 0
-    pub here : origin .stop ≡ s
-    pub stop : x ≡ s
-    pub arrival : v ≡ Q .start + origin .duration
-    pub duration : d ≡ origin .duration
-    pub distance : f ≡ origin .distance
-
-  -- a Transit label of stop s in a row: the label before it is of the row before; a ride on a permitted trip, boarded where pickup is not 1
-  -- with the boarding's time shift, and left later, at s, where drop-off is not 1, at the effective arrival there
-  pub record TransitFits (s row v t x o p r shift : ℕ) : Type 0 where
-    pub permits : permitted T Q t ≡ true
-    pub trip : t < trips T
-    pub boards : x ≡ stopAt T t o
-    pub pickup : noPickup T t o ≡ false
-    pub started : skipped T Q (delayOf Q t) t o ≡ false
-    pub alights : s ≡ stopAt T t p
-    pub dropOff : noDropOff T t p ≡ false
-    pub served : skipped T Q (delayOf Q t) t p ≡ false
-    pub later : o < p
-    pub inside : p < stopCount T t
-    pub round : row ≡ suc r
-    pub after : ℕ
-    pub boarding : Boarding
-    pub leaves : boardAt T Q (delayOf Q t) t o after ≡ Board boarding
-    pub shift-is : shift ≡ boarding .«time_shift_s»
-    pub arrival : v ≡ arrivalNow T Q (delayOf Q t) shift t p
-    pub arrives : v ≤ 2097150
-    pub shifts : sizeOf shift ≤ timeLimit
-
-  -- a Walk label's walk from stop x to stop s: along an edge, or a transfer to a trip that departs from s as the label arrives
-  pub data Walked (s v x d : ℕ) (f : Float) : Type 0 where
-    edge : (e : ℕ) → List·Memᴰ e (edgesFrom T x) → s ≡ edgeTo T e → d ≡ walkTime T Q e → f ≡ T .distance e → Walked s v x d f
-    transfer : (t o : ℕ) (b : Boarding) → Boarded T Q t o b → s ≡ stopAt T t o → v ≡ b .departure → d ≤ timeLimit → f ≡ noDistance → Walked s v x d f
-
-  -- a Walk label of stop s in a row: the label before it is of the same row, which is not the origins'
-  pub record WalkFits (s row v x y d : ℕ) (f : Float) (r : ℕ) : Type 0 where
-    pub from : x < stops T
-    pub to : y ≡ s
-    pub how : Walked s v x d f
-    pub round : row ≡ r
-    pub ridden : 1 ≤ row
-    pub arrives : v ≤ latest
-    pub duration : d ≤ 104857500
-
-  -- what the label of stop s in a row says
-  pub data Fits (s row : ℕ) : Label → Type 0 where
-    empty : Fits s row Empty
-    access : {x v d : ℕ} {f : Float} → AccessFits s row x v d f → Fits s row (Access x v d f)
-    transit : {v t x o p r shift : ℕ} → TransitFits s row v t x o p r shift → Fits s row (Transit v t x o p r shift)
-    walk : {v x y d r : ℕ} {f : Float} → WalkFits s row v x y d f r → Fits s row (Walk v x y d f r)
-
   -- the same, read off
-  pub transit-fits : {s row v t x o p r shift : ℕ} → Fits s row (Transit v t x o p r shift) → TransitFits s row v t x o p r shift
+  pub transit-fits : {s row v t x o p r shift : ℕ} → LabelFits T Q s row (Transit v t x o p r shift) → TransitFits T Q s row v t x o p r shift
   transit-fits (transit f) = f
 
-  pub walk-fits : {s row v x y d r : ℕ} {f : Float} → Fits s row (Walk v x y d f r) → WalkFits s row v x y d f r
+  pub walk-fits : {s row v x y d r : ℕ} {f : Float} → LabelFits T Q s row (Walk v x y d f r) → WalkFits T Q s row v x y d f r
   walk-fits (walk f) = f
 
-  pub access-fits : {s row x v d : ℕ} {f : Float} → Fits s row (Access x v d f) → AccessFits s row x v d f
+  pub access-fits : {s row x v d : ℕ} {f : Float} → LabelFits T Q s row (Access x v d f) → AccessFits T Q s row x v d f
   access-fits (access f) = f
 
   module _ (D : Door T Q) where
@@ -115,12 +50,12 @@ module _ (T : Tables) (Q : Query) where
 
     -- a ride phase reaches a stop of the timetable by the latest boarding
     pub rides-early : {stamp s v : ℕ} {l : Label} → Rides T Q stamp s v l → (s < stops T) × (v ≤ latestBoarding)
-    rides-early (alighted g p G L) = (
+    rides-early (alighted g p G L f) = (
       D .stop-in (g .trip) p (G .boarded .trip) (L .inside),
       omega
           (arith, arrival-early T Q D (g .trip) p (G .boarded .trip) (L .inside) (g .shift) (begins-shift g G)),
     )
-    rides-early (changed t o x time b B u n) =
+    rides-early (changed g p G L t o time b B e n) =
         (D .stop-in t o (B .trip) (B .inside), boards-soon T Q D t o (B .trip) (B .inside) (B .after) b (B .boards) .departs)
 
     walk-short : (x e : ℕ) → List·Memᴰ e (edgesFrom T x) → walkTime T Q e ≤ 104857500
@@ -138,10 +73,10 @@ module _ (T : Tables) (Q : Query) where
     why-stamp (foot x e u w l h j k m) = omega arith
 
     -- and its label fits
-    pub why-fits : {stamp s v : ℕ} {l : Label} → Why T Q stamp s v l → Fits s (stamp - 1) l
+    pub why-fits : {stamp s v : ℕ} {l : Label} → Why T Q stamp s v l → LabelFits T Q s (stamp - 1) l
     why-fits (origin a m) =
         access (record { origin = a; listed = m; first = refl; here = refl; stop = refl; arrival = refl; duration = refl; distance = refl })
-    why-fits {stamp} (ride h (alighted g p G L)) =
+    why-fits {stamp} (ride h (alighted g p G L f)) =
         transit {r = stamp - 2}
         (record {
           permits = L .permits;
@@ -151,7 +86,7 @@ module _ (T : Tables) (Q : Query) where
           started = G .boarded .served;
           alights = refl;
           dropOff = L .dropOff;
-          served = L .served;
+          served = f;
           later = L .later;
           inside = L .inside;
           round = omega arith;
@@ -163,15 +98,31 @@ module _ (T : Tables) (Q : Query) where
           arrives = arrival-early T Q D (g .trip) p (G .boarded .trip) (L .inside) (g .shift) (begins-shift g G);
           shifts = begins-shift g G;
         })
-    why-fits (ride h (changed t o x time b B u n)) =
+    why-fits (ride h (changed g p G L t o time b B e n)) =
         walk {d = time}
         (record {
-          from = u;
+          from = D .stop-in (g .trip) p (G .boarded .trip) (L .inside);
           to = refl;
-          how = transfer t o b B refl refl n refl;
+          how = transfer
+              (record {
+                ride = g;
+                begins = G;
+                left = p;
+                leaves = L;
+                from = refl;
+                trip = t;
+                offset = o;
+                boarding = b;
+                boarded = B;
+                in-time = e;
+                to = refl;
+                departs = refl;
+                time = n;
+                distance = refl;
+              });
           round = refl;
           ridden = omega arith;
-          arrives = why-early (ride h (changed t o x time b B u n)) .1;
+          arrives = why-early (ride h (changed g p G L t o time b B e n)) .1;
           duration = omega arith;
         })
     why-fits (foot x e u w l h j k m) =

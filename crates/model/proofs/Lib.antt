@@ -40,4 +40,3 @@ pub mod Bounds
 pub mod Candidates
 pub mod Answers
 pub mod Totals
-pub mod Bytes

@@ -26,6 +26,7 @@ use Rattle.line_transfers.specs.Transfers.{Transfer}
 use Rattle.model.specs.Tables.{never, Tables, Origin, Query, changeBefore, stops, trips, stopCount, stopAt, departure, noPickup, noDropOff, noWindows, edgesFrom, edgeTo, walkTime, position, fifo, usable, permitted}
 use Rattle.model.specs.Door.{Door}
 use Rattle.model.specs.Search.{Segment, Arrivals, bestAfter, setOut, access, State, at, holdsTarget, departuresAt, markAt, lineAt, notBefore, delayOf, skipped, arrivalNow, marginOf, boardAt, improve, relax, resolveIn, lineTripsAt, resolve, enqueue, takeTransfers, alightings, transferring, scanTripForward, logged, rideSegments, boarding, board, scanDepartures, scanStops, walkFrom, walkAll, emptied, roundStart, ridePhase, walkPhase, idle, rounds, newArrivals, begin}
+use Rattle.model.specs.Queue.{roundOf}
 
 -- a number counted to is below the count
 pub below-upto : (i n k : ℕ) → List·Memᴰ k (tabFrom (λ j. j) i n) → k < i + n
@@ -466,10 +467,6 @@ module _ (T : Tables) (Q : Query) {R J : ℕ → Type 0} where
 
 -- ROUNDS
 module _ (T : Tables) (Q : Query) (flagged : Bool) where
-  -- one round
-  abbrev pub roundOf : ℕ → State → State
-  roundOf r s = walkPhase T Q flagged r (ridePhase T Q flagged r s)
-
   -- where a round's walks begin
   abbrev pub walksFrom : State → Arrivals
   walksFrom s = emptied T Q (s .arrivals .segQueue) (s .arrivals)
@@ -479,14 +476,14 @@ module _ (T : Tables) (Q : Query) (flagged : Bool) where
   walksTo r s = walkAll T Q flagged (suc (suc r)) (s .arrivals .reached) (walksFrom s)
 
   -- what every round takes from its number to the next holds of a run's end, at some number
-  pub rounds-keep : (P : ℕ → State → Type 0) → ((r : ℕ) (s : State) → P r s → P (suc r) (roundOf r s)) → (n r : ℕ) (s : State) → P r s
+  pub rounds-keep : (P : ℕ → State → Type 0) → ((r : ℕ) (s : State) → P r s → P (suc r) (roundOf T Q flagged r s)) → (n r : ℕ) (s : State) → P r s
       → (k : ℕ) × P k (rounds T Q flagged n r s)
   unfolding rounds
   rounds-keep P k zero r s p = (r, p)
-  rounds-keep P k (suc n) r s p = go (idle T Q flagged (s .arrivals)) (rounds-keep P k n (suc r) (roundOf r s) (k r s p))
+  rounds-keep P k (suc n) r s p = go (idle T Q flagged (s .arrivals)) (rounds-keep P k n (suc r) (roundOf T Q flagged r s) (k r s p))
     where
-      go : (b : Bool) → (k : ℕ) × P k (rounds T Q flagged n (suc r) (roundOf r s))
-          → (k : ℕ) × P k (elim b [ true ↦ s | false ↦ rounds T Q flagged n (suc r) (roundOf r s) ])
+      go : (b : Bool) → (k : ℕ) × P k (rounds T Q flagged n (suc r) (roundOf T Q flagged r s))
+          → (k : ℕ) × P k (elim b [ true ↦ s | false ↦ rounds T Q flagged n (suc r) (roundOf T Q flagged r s) ])
       go true q = (r, p)
       go false q = q
 

@@ -21,11 +21,12 @@ use Rattle.label.specs.Label.{noDistance}
 use Rattle.label_table.specs.Table.{recordOf}
 use Rattle.line_layout.specs.Layout.{LineTrips}
 use Rattle.line_transfers.specs.Transfers.{Transfer}
-use Rattle.model.specs.Tables.{Tables, Query, stops, trips, stopCount, stopAt, departure, noPickup, noDropOff, noWindows, position, fifo, usable, permitted}
+use Rattle.model.specs.Tables.{Tables, Query, trips, stopCount, stopAt, departure, noPickup, noDropOff, noWindows, position, fifo, usable, permitted}
 use Rattle.model.specs.Search.{Segment, Arrivals, at, reachedBy, delayOf, skipped, boardAt, arrivalNow, bestAfter, marginOf, holdsTarget, lineAt, improve, relax, resolveIn, lineTripsAt, resolve, enqueue, takeTransfers, alightings, transferring, scanTripForward}
 use Rattle.model.specs.Door.{Door}
+use Rattle.model.specs.Lawful.{Boarded, Begins, Leaves, leftAt}
 use Rattle.model.proofs.Stores.{or-false}
-use Rattle.model.proofs.Steps.{Boarded, Begins, Rides, alighted, changed, again, anew, Improved, Steps, improved, queued}
+use Rattle.model.proofs.Steps.{Rides, alighted, changed, again, anew, Improved, Steps, improved, queued}
 
 module _ (T : Tables) (Q : Query) where
   -- `improve` is one step
@@ -86,12 +87,12 @@ module _ (T : Tables) (Q : Query) where
             queued (record { trip = t; offset = o; stop = s; shift = shift }) S q
             (record { same = record { labels = refl; earliest = refl; best = refl; stamps = refl; reaches = refl }; reached = refl; queue = refl })
 
-  -- what resolving finds is a boarding
-  pub data Found (o : ℕ) : Option (ℕ × Boarding) → Type 0 where
-    nowhere : Found o none
-    found : {t : ℕ} {b : Boarding} → Boarded T Q t o b → Found o (some (t, b))
+  -- what resolving finds is a boarding from that second on
+  pub data Found (o after : ℕ) : Option (ℕ × Boarding) → Type 0 where
+    nowhere : Found o after none
+    found : {t : ℕ} {b : Boarding} (B : Boarded T Q t o b) → B .after ≡ after → Found o after (some (t, b))
 
-  pub resolve-in : (isFifo : Bool) (o after best : ℕ) (trip : ℕ → ℕ) (k p : ℕ) → Found o (resolveIn T Q isFifo o after best trip k p)
+  pub resolve-in : (isFifo : Bool) (o after best : ℕ) (trip : ℕ → ℕ) (k p : ℕ) → Found o after (resolveIn T Q isFifo o after best trip k p)
   unfolding resolveIn
   resolve-in isFifo o after best trip zero p = nowhere
   resolve-in isFifo o after best trip (suc k) p =
@@ -103,18 +104,18 @@ module _ (T : Tables) (Q : Query) where
       t = trip p
 
       Rest : Type 0
-      Rest = (f : Bool) → Found o (resolveIn T Q f o after best trip k (suc p))
+      Rest = (f : Bool) → Found o after (resolveIn T Q f o after best trip k (suc p))
 
-      go₃ : Rest → (x f : Bool) (b : Boarding) → Boarded T Q t o b
-          → Found o (elim x [ true ↦ some (t, b) | false ↦ elim f [ true ↦ none | false ↦ resolveIn T Q false o after best trip k (suc p) ] ])
-      go₃ rest true f b B = found B
-      go₃ rest false true b B = nowhere
-      go₃ rest false false b B = rest false
+      go₃ : Rest → (x f : Bool) (b : Boarding) (B : Boarded T Q t o b) → B .after ≡ after
+          → Found o after (elim x [ true ↦ some (t, b) | false ↦ elim f [ true ↦ none | false ↦ resolveIn T Q false o after best trip k (suc p) ] ])
+      go₃ rest true f b B z = found B z
+      go₃ rest false true b B z = nowhere
+      go₃ rest false false b B z = rest false
 
       go₂ : Rest → (ltb t (trips T) && ltb o (stopCount T t)) ≡ true
           → ((not (usable T Q t) || noPickup T t o) || skipped T Q (delayOf Q t) t o) ≡ false
           → (y : FreqBoard) → boardAt T Q (delayOf Q t) t o after ≡ y
-          → Found o (elim y [
+          → Found o after (elim y [
             | Nothing ↦ resolveIn T Q isFifo o after best trip k (suc p)
             | Board b ↦ elim (ltb (b .departure) best) [
               | true ↦ some (t, b)
@@ -133,11 +134,12 @@ module _ (T : Tables) (Q : Query) where
             after = after;
             boards = e;
           })
+          refl
 
       go₁ : Rest → (x : Bool) → (ltb t (trips T) && ltb o (stopCount T t)) ≡ x → (y z : Bool)
           → ((not (usable T Q t) || noPickup T t o) || skipped T Q (delayOf Q t) t o) ≡ z
           → (w : FreqBoard) → boardAt T Q (delayOf Q t) t o after ≡ w
-          → Found o (elim x [
+          → Found o after (elim x [
             | false ↦ resolveIn T Q isFifo o after best trip k (suc p)
             | true ↦ elim y [
               | true ↦ none
@@ -158,7 +160,7 @@ module _ (T : Tables) (Q : Query) where
       go₁ rest true h false true n w e = rest isFifo
       go₁ rest true h false false n w e = go₂ rest h n w e
 
-  pub resolve-finds : (e : Transfer) (after best : ℕ) → Found (e .offset) (resolve T Q e after best)
+  pub resolve-finds : (e : Transfer) (after best : ℕ) → Found (e .offset) after (resolve T Q e after best)
   unfolding resolve
   resolve-finds e after best = go (ltb p (l .count) && eqb (l .trip p) (e .target))
     where
@@ -171,7 +173,7 @@ module _ (T : Tables) (Q : Query) where
       f : Bool
       f = fifo T (lineAt T (e .target))
 
-      go : (x : Bool) → Found (e .offset) (elim x [
+      go : (x : Bool) → Found (e .offset) after (elim x [
         | true ↦ resolveIn T Q f (e .offset) after best (l .trip) (min (l .count - p) (Q .settings .lineScan)) p
         | false ↦ resolveIn T Q f (e .offset) after best (λ p. e .target) (min 1 (Q .settings .lineScan)) 0
       ])
@@ -182,32 +184,40 @@ module _ (T : Tables) (Q : Query) where
     abbrev On : Arrivals → Type 0
     On b = Steps T Q (Rides T Q stamp) stamp a b
 
-    pub takes : (v x : ℕ) → x < stops T → (es : List Transfer) → ((e : Transfer) → List·Memᴰ e es → e .time ≤ timeLimit) → {b : Arrivals} → On b
-        → On (takeTransfers T Q stamp v x es b)
+    -- the transfers where a ride is left
+    pub takes : (g : Segment) (p : ℕ) → Begins T Q g → Leaves T Q g p → (es : List Transfer) → ((e : Transfer) → List·Memᴰ e es → e .time ≤ timeLimit)
+        → {b : Arrivals} → On b
+        → On (takeTransfers T Q stamp (leftAt T Q g p) (stopAt T (g .trip) p) es b)
     unfolding takeTransfers
-    takes v x u [] I S = S
-    takes v x u (e ∷ es) I {b} S =
-        go (λ c S. takes v x u es (λ d m. I d (List·Memᴰ·tail m)) S) (holdsTarget T Q (e .pattern)) (resolve T Q e (v + e .time) (b .best))
+    takes g p G L [] I S = S
+    takes g p G L (e ∷ es) I {b} S =
+        go (λ c S. takes g p G L es (λ d m. I d (List·Memᴰ·tail m)) S) (holdsTarget T Q (e .pattern)) (resolve T Q e (v + e .time) (b .best))
         (resolve-finds e (v + e .time) (b .best))
       where
+        v : ℕ
+        v = leftAt T Q g p
+
+        x : ℕ
+        x = stopAt T (g .trip) p
+
         taken : (t : ℕ) → Boarding → Arrivals
         taken t y =
             enqueue T Q t (e .offset) (stopAt T t (e .offset)) (y .«time_shift_s»)
             (relax T Q stamp (stopAt T t (e .offset)) (y .departure)
             (Walk (y .departure) x (stopAt T t (e .offset)) (e .time) noDistance (stamp - 1)) b)
 
-        go : ((c : Arrivals) → On c → On (takeTransfers T Q stamp v x es c)) → (h : Bool) (z : Option (ℕ × Boarding)) → Found (e .offset) z
+        go : ((c : Arrivals) → On c → On (takeTransfers T Q stamp v x es c)) → (h : Bool) (z : Option (ℕ × Boarding)) → Found (e .offset) (v + e .time) z
             → On (elim h [
               | false ↦ takeTransfers T Q stamp v x es b
               | true ↦ elim z [ none ↦ takeTransfers T Q stamp v x es b | some y ↦ takeTransfers T Q stamp v x es (taken (y .0) (y .1)) ]
             ])
         go on false z F = on b S
         go on true none F = on b S
-        go on true (some y) (found {t = t} {b = c} B) =
+        go on true (some y) (found {t = t} {b = c} B f) =
             on (taken t c)
             (enqueue-steps t (e .offset) (stopAt T t (e .offset)) (c .«time_shift_s») (record { boarding = c; boarded = B; stop = refl; shift = refl })
             (relax-steps (stopAt T t (e .offset)) (c .departure) (Walk (c .departure) x (stopAt T t (e .offset)) (e .time) noDistance (stamp - 1))
-            (changed t (e .offset) x (e .time) c B u (I e (List·Memᴰ·head refl))) refl S))
+            (changed g p G L t (e .offset) (e .time) c B f (I e (List·Memᴰ·head refl))) refl S))
 
     -- a ride that begins, on a permitted trip
     module _ (D : Door T Q) (g : Segment) (G : Begins T Q g) (W : permitted T Q (g .trip) ≡ true) where
@@ -245,30 +255,30 @@ module _ (T : Tables) (Q : Query) where
               let d = or-false (noDropOff T (g .trip) p) (skipped T Q adj (g .trip) p) h in
               on (relax T Q stamp (stopAt T (g .trip) p) (arrives p) l b)
               (relax-steps (stopAt T (g .trip) p) (arrives p) l
-              (alighted g p G (record { permits = W; later = u; inside = omega arith; dropOff = d .0; served = d .1 })) refl S)
+              (alighted g p G (record { permits = W; later = u; inside = omega arith; dropOff = d .0 }) (d .1)) refl S)
 
-      pub transfers-on : (k p : ℕ) → k + p ≤ stopCount T (g .trip) → (b : Arrivals) → On b → On (transfers k p b)
+      pub transfers-on : (k p : ℕ) → g .offset < p → k + p ≤ stopCount T (g .trip) → (b : Arrivals) → On b → On (transfers k p b)
       unfolding transferring
-      transfers-on zero p n b S = S
-      transfers-on (suc k) p n b S =
-          go (noDropOff T (g .trip) p) (ltb (arrives p) (b .best)) (λ c C. transfers-on k (suc p) (omega arith) c C)
+      transfers-on zero p u n b S = S
+      transfers-on (suc k) p u n b S =
+          go (noDropOff T (g .trip) p) refl (ltb (arrives p) (b .best)) (λ c C. transfers-on k (suc p) (omega arith) (omega arith) c C)
         where
           next : Arrivals
           next = takeTransfers T Q stamp (arrives p) (stopAt T (g .trip) p) (T .transfers (g .trip) p) b
 
-          go : (x y : Bool) → ((c : Arrivals) → On c → On (transfers k (suc p) c))
+          go : (x : Bool) → noDropOff T (g .trip) p ≡ x → (y : Bool) → ((c : Arrivals) → On c → On (transfers k (suc p) c))
               → On (elim x [ true ↦ transfers k (suc p) b | false ↦ elim y [ false ↦ b | true ↦ transfers k (suc p) next ] ])
-          go true y on = on b S
-          go false false on = S
-          go false true on =
+          go true d y on = on b S
+          go false d false on = S
+          go false d true on =
               on next
-              (takes (arrives p) (stopAt T (g .trip) p) (D .stop-in (g .trip) p (G .boarded .trip) (omega arith)) (T .transfers (g .trip) p)
+              (takes g p G (record { permits = W; later = u; inside = omega arith; dropOff = d }) (T .transfers (g .trip) p)
               (λ e m. D .transfer-small (g .trip) p (G .boarded .trip) (omega arith) e m) S)
 
       pub scan-on : (flagged : Bool) (b : Arrivals) → On b → On (scanTripForward T Q flagged stamp adj (g .shift) (g .trip) (g .stop) (g .offset) b)
       unfolding scanTripForward
       scan-on true b S =
-          transfers-on n (suc (g .offset)) (omega (arith, G .boarded .inside)) _
+          transfers-on n (suc (g .offset)) (omega arith) (omega (arith, G .boarded .inside)) _
           (alights-on n (suc (g .offset)) (omega arith) (omega (arith, G .boarded .inside)) b S)
         where
           n : ℕ

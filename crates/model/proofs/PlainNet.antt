@@ -159,12 +159,13 @@ module _ (T : Tables) (Q : Query) where
   boarding-of x t o m ok k =
       let d = row-of T x t o m in
       let u = or-false (noPickup T t o) (skipped T Q (delayOf Q t) t o) (not-true _ k) in
-      (d .0, record { trip = ok; listed = d .1; pickup = u .0; served = ap not (u .1) })
+      let v : noPickup T t o ≡ false = u .0 in
+      (d .0, record { trip = cc; listed = d .1; pickup = cc; served = ap not (u .1) })
 
   pub alighting-of : (t o p : ℕ) → o < p → p < countAt T t → net T Q .alight t p ≡ true → Alighting T Q (effective T Q) t o p
   alighting-of t o p l h k =
       let u = or-false (noDropOff T t p) (skipped T Q (delayOf Q t) t p) (not-true _ k) in
-      record { later = l; inside = count-at T t p h .1; dropOff = u .0; served = ap not (u .1) }
+      record { later = omega (arith, l); inside = count-at T t p h .1; dropOff = u .0; served = ap not (u .1) }
 
 module _ (T : Tables) (Q : Query) (D : Door T Q) (S : SteadyDay T Q) where
   abbrev P : CalmDay T Q
@@ -178,12 +179,12 @@ module _ (T : Tables) (Q : Query) (D : Door T Q) (S : SteadyDay T Q) where
       go true e =
           let h : x < stops T = ltb-true _ _ e in
           ap (λ (m : ℕ). eqb m 1)
-          (P .marks-built x h
-          ∙ ap one (unlisted T (P .listed x) (λ d m. P .no-windows (d .trip) (D .listed-trip x d h (subst (λ (l : List DepartureRow). List·Memᴰ d l) (sym (P .departures-built x h)) (sort-has (rowDeparture (T .timetable)) (P .listed x) d m))))))
+          (P .built .marks-built x h
+          ∙ ap one (unlisted T (P .listed x) (λ d m. P .conditions .no-windows (d .trip) (D .listed-trip x d h (subst (λ (l : List DepartureRow). List·Memᴰ d l) (sym (P .built .departures-built x h)) (sort-has (rowDeparture (T .timetable)) (P .listed x) d m))))))
       go false e = refl
 
   pub calm-trips : (x : ℕ) (d : DepartureRow) → List·Memᴰ d (departuresAt T x) → (d .trip < trips T) × (noWindows T (d .trip) ≡ true) × (d .offset < stopCount T (d .trip))
-  calm-trips x d m = let e = deps-at T x d m in let h = D .listed-trip x d (e .0) (e .1) in (h, P .no-windows (d .trip) h, D .listed-offset x d (e .0) (e .1))
+  calm-trips x d m = let e = deps-at T x d m in let h = D .listed-trip x d (e .0) (e .1) in (h, P .conditions .no-windows (d .trip) h, D .listed-offset x d (e .0) (e .1))
 
   -- both trips are in the table, or both are past it
   both : (t u : ℕ) → lineAt T u ≡ lineAt T t → ((t < trips T) × (u < trips T) × (T .lineOf u ≡ T .lineOf t)) ⊎ ((trips T ≤ t) × (trips T ≤ u))
@@ -225,11 +226,11 @@ module _ (T : Tables) (Q : Query) (D : Door T Q) (S : SteadyDay T Q) where
         late = λ t o b. let c = boarded t o b in depart-late T Q S (b .at) t o (c .0) (c .1);
         early = λ t o b. let c = boarded t o b in depart-early T Q S (b .at) t o (c .0) (c .1);
         dep-dep = λ t o p l b c. let i = boarded t o b in let j = boarded t p c in
-            ⊎-elim (λ e. le-of (ap (effective T Q .departs t) e)) (λ h. omega (arith, S .departures (b .at) (c .at) t o p (i .0) (j .0) (i .1) (j .1) h)) (eq-or-lt-of-le l);
+            ⊎-elim (λ e. le-of (ap (effective T Q .departs t) e)) (λ h. omega (arith, S .conditions .departures (b .at) (c .at) t o p (i .0) (j .0) (i .1) (j .1) h)) (eq-or-lt-of-le l);
         arr-arr = λ t o p q b z l h j k. let i = boarded t o b in
             ⊎-elim (λ e. le-of (ap (effective T Q .arrives t) e))
-            (λ r. omega (arith, S .arrivals (b .at) t o p q (i .0) (i .1) (alighting-of T Q t o p z (omega (arith, l, h)) j) (alighting-of T Q t o q (omega (arith, z, l)) h k) r)) (eq-or-lt-of-le l);
-        dep-arr = λ t o p l h b k. let i = boarded t o b in omega (arith, S .rides (b .at) t o p (i .0) (i .1) (alighting-of T Q t o p l h k));
+            (λ r. omega (arith, S .conditions .arrivals (b .at) t o p q (i .0) (i .1) (alighting-of T Q t o p z (omega (arith, l, h)) j) (alighting-of T Q t o q (omega (arith, z, l)) h k) r)) (eq-or-lt-of-le l);
+        dep-arr = λ t o p l h b k. let i = boarded t o b in omega (arith, S .conditions .rides (b .at) t o p (i .0) (i .1) (alighting-of T Q t o p l h k));
         listed = λ s t o m. let d = row-of T s t o m in let h = D .listed-trip s _ (d .0) (d .1) in omega (arith, at-count T t h, D .listed-offset s _ (d .0) (d .1));
         fifo-len = λ t u e. ⊎-elim (λ b. omega (arith, at-count T t (b .0), at-count T u (b .1), same-count T Q P t u (b .0) (b .1) (b .2))) (λ b. out-count T u (b .1) ∙ sym (out-count T t (b .0))) (both t u e);
         fifo-stop = λ t u o e h. let b = both-in t u o e h in same-stop T Q P t u (b .0) (b .1) (b .2) o (b .3);
@@ -251,11 +252,11 @@ module _ (T : Tables) (Q : Query) (D : Door T Q) (S : SteadyDay T Q) where
         edge-edge = λ a b c d e m n h.
             let p = edge-of T Q a b d m in
             let q = edge-of T Q b c e n in
-            let g = P .edges-complete a (p .edge) (q .edge) (p .member) (subst (λ (z : ℕ). List·Memᴰ (q .edge) (edgesFrom T z)) (sym (p .to)) (q .member)) (λ z. h (sym (q .to) ∙ z)) in
+            let g = P .conditions .edges-complete a (p .edge) (q .edge) (p .member) (subst (λ (z : ℕ). List·Memᴰ (q .edge) (edgesFrom T z)) (sym (p .to)) (q .member)) (λ z. h (sym (q .to) ∙ z)) in
             (walkTime T Q (g .0), subst (λ (z : ℕ). List·Memᴰ (z, walkTime T Q (g .0)) (map (walkOf T Q) (edgesFrom T a))) (g .2 ∙ q .to) (of-edge T Q a (g .0) (g .1)), omega (arith, g .3, p .walk, q .walk));
         orig-edge = λ b c d e m n.
             let p = origin-of Q b d m in
             let q = edge-of T Q b c e n in
-            let g = P .origins-complete (p .walk) (q .edge) (p .member) (subst (λ (z : ℕ). List·Memᴰ (q .edge) (edgesFrom T z)) (sym (p .at)) (q .member)) in
+            let g = P .conditions .origins-complete (p .walk) (q .edge) (p .member) (subst (λ (z : ℕ). List·Memᴰ (q .edge) (edgesFrom T z)) (sym (p .at)) (q .member)) in
             (g .0 .duration, subst (λ (z : ℕ). List·Memᴰ (z, g .0 .duration) (map originOf (Q .origins))) (g .2 ∙ q .to) (Memᴰ·map originOf (g .1)), omega (arith, g .3, p .lasts, q .walk));
       }

@@ -15,16 +15,8 @@ use Rattle.loops.specs.Count.{one, tab, tabFrom}
 use Rattle.model.specs.Tables.{Tables, Query, roundsOf, trips, stopCount, noWindows}
 use Rattle.model.specs.Door.{Door}
 use Rattle.model.specs.Search.{Segment, Arrivals, State, improve, enqueue, emptied, ridePhase, walkPhase, idle, rounds, begin, final, answer}
-use Rattle.model.proofs.Moves.{Moves, stay, arrive, queue, pushed, moves-trips, roundOf, Queues, rides, walks, round-queues, begin-queues}
-
--- all together
-abbrev pub added : List ℕ → ℕ
-added l = sum _+_ 0 l
-
--- how many of the segments are of trip t
-unfoldable pub ofTrip : ℕ → List Segment → ℕ
-ofTrip t [] = 0
-ofTrip t (g ∷ gs) = one (eqb (g .trip) t) + ofTrip t gs
+use Rattle.model.specs.Queue.{added, ofTrip, allStopTimes, NoFrequency, roundOf, timesQueued}
+use Rattle.model.proofs.Moves.{Moves, stay, arrive, queue, pushed, moves-trips, Queues, rides, walks, round-queues, begin-queues}
 
 -- SUMS
 added-le : (f g : ℕ → ℕ) (i n : ℕ) → ((k : ℕ) → f k ≤ g k) → added (tabFrom f i n) ≤ added (tabFrom g i n)
@@ -82,15 +74,7 @@ set-lower [] i v h = absurd (omega arith)
 set-lower (x ∷ l) zero v h = refl
 set-lower (x ∷ l) (suc i) v h = set-lower l i v h
 
--- all trips' stop counts added together
-abbrev pub allStopTimes : Tables → ℕ
-allStopTimes T = added (tab (λ t. stopCount T t) (trips T))
-
 module _ (T : Tables) where
-  -- no frequency trip
-  abbrev pub NoFrequency : Type 0
-  NoFrequency = (t : ℕ) → t < trips T → noWindows T t ≡ true
-
   -- how often trip t may still be queued: each time at a lower offset
   abbrev pub left : ℕ → Arrivals → ℕ
   left t a = min (getD (a .segReach) t 0) (stopCount T t)
@@ -133,17 +117,6 @@ module _ (T : Tables) (Q : Query) where
       go true p =
           let g : Segment = record { trip = t; offset = o; stop = s; shift = x } in
           (g ∷ p .0, p .1 ∙ append-assoc (a .segQueue) (g ∷ []) (p .0))
-
-module _ (T : Tables) (Q : Query) (flagged : Bool) where
-  -- HOW OFTEN TRIP t IS QUEUED in n rounds from round r on: its segments in the queue at each round's end. A round begins with an
-  -- empty queue and only adds to it (moves-add).
-  unfoldable pub timesQueued : ℕ → ℕ → ℕ → State → ℕ
-  timesQueued t zero r s = 0
-  timesQueued t (suc n) r s =
-      elim (idle T Q flagged (s .arrivals)) [
-        | true ↦ 0
-        | false ↦ ofTrip t (roundOf T Q flagged r s .arrivals .segQueue) + timesQueued t n (suc r) (roundOf T Q flagged r s)
-      ]
 
 module _ (T : Tables) (Q : Query) (D : Door T Q) (flagged : Bool) where
   one-more : (r : ℕ) (s : State) → Queues T s

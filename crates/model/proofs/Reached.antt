@@ -15,7 +15,8 @@ use Rattle.loops.proofs.Count.{count-le-n, count-ext}
 use Rattle.model.specs.Tables.{Tables, Origin, Query, stops, noWindows}
 use Rattle.model.specs.Door.{Door}
 use Rattle.model.specs.Search.{Arrivals, State, at, improve, enqueue, ridePhase, stamped, walkPhase, idle, rounds, setOut, access, newArrivals, begin}
-use Rattle.model.proofs.Moves.{Moves, stay, arrive, queue, pushed, taken, left-out, roundOf, rounds-keep, Queues, rides, walksTo, walks, round-queues, begin-queues}
+use Rattle.model.specs.Queue.{roundOf}
+use Rattle.model.proofs.Moves.{Moves, stay, arrive, queue, pushed, taken, left-out, rounds-keep, Queues, rides, walksTo, walks, round-queues, begin-queues}
 
 -- no number twice
 pub data Once : List ℕ → Type 0 where

@@ -15,9 +15,10 @@ use Rattle.label_table.specs.Table.{recordOf}
 use Rattle.model.specs.Tables.{Tables, Query, never, stops}
 use Rattle.model.specs.Search.{Arrivals, at, reachedBy, newArrivals}
 use Rattle.model.specs.Door.{Door}
+use Rattle.model.specs.Lawful.{LabelFits, empty}
 use Rattle.model.proofs.Stores.{set-cases, set-there, lt-getD, getD-replicate, getD-replicate-in}
 use Rattle.model.proofs.Steps.{Why, Improved, Kept, improved-le}
-use Rattle.model.proofs.Labels.{labelAt, Fits, empty, Lengths, lengths-kept, why-fits, why-stamp}
+use Rattle.model.proofs.Labels.{labelAt, Lengths, lengths-kept, why-fits, why-stamp}
 
 -- a stop's earliest arrival is none, and no row is filled; or it is that of a row below
 pub data Known (below : ℕ) (a : Arrivals) (s : ℕ) : Type 0 where
@@ -32,7 +33,7 @@ module _ (T : Tables) (Q : Query) where
   -- the labels, with rows filled only below a stamp
   pub record Rows (stamp : ℕ) (a : Arrivals) : Type 0 where
     pub long : Lengths T Q a
-    pub fits : (s row : ℕ) → s < stops T → row < 13 → Fits T Q s row (labelAt a s row)
+    pub fits : (s row : ℕ) → s < stops T → row < 13 → LabelFits T Q s row (labelAt a s row)
     pub above : (s row : ℕ) → s < stops T → stamp ≤ row → row < 13 → labelAt a s row ≡ Empty
     pub least : (s row v : ℕ) → s < stops T → row < 13 → reachedBy (labelAt a s row) ≡ suc v → at a s ≤ v
     pub falls : (s i j u v : ℕ) → s < stops T → i < j → j < 13 → reachedBy (labelAt a s i) ≡ suc u → reachedBy (labelAt a s j) ≡ suc v → v < u
@@ -66,7 +67,7 @@ module _ (T : Tables) (Q : Query) where
         (λ p. inr (ap (λ (z : List Label). getD z (recordOf x row) Empty) (i .labels) ∙ p))
         (set-cases (a .labels) (recordOf s (stamp - 1)) l (recordOf x row) Empty)
 
-    fits-on : (x row : ℕ) → x < stops T → row < 13 → Fits T Q x row (labelAt b x row)
+    fits-on : (x row : ℕ) → x < stops T → row < 13 → LabelFits T Q x row (labelAt b x row)
     fits-on x row u n =
         ⊎-elim
         (λ p. rw (p .2, p .0, p .1) (why-fits T Q D w))

@@ -10,47 +10,24 @@ use native.Mathlib.Omega.{arith}
 use lib.ListN.{length, getD, set, length-set}
 use Rattle.door.specs.Door.{timeLimit}
 use Rattle.frequency.specs.declared.Boarding.{Boarding}
-use Rattle.frequency.specs.declared.FreqBoard.the-variants.{Board}
 use Rattle.label.specs.declared.Label.{Label}
 use Rattle.label.specs.declared.Label.the-variants.{Access, Transit, Walk}
 use Rattle.label.specs.Label.{noDistance}
 use Rattle.label_table.specs.Table.{recordOf}
-use Rattle.model.specs.Tables.{Tables, Origin, Query, stops, trips, stopCount, stopAt, noPickup, noDropOff, edgesFrom, edgeTo, walkTime, permitted}
-use Rattle.model.specs.Search.{Segment, Arrivals, Boardings, at, reachedBy, delayOf, skipped, boardAt, arrivalNow, bestAfter, emptied, newArrivals, newBoardings, logged, board}
+use Rattle.model.specs.Tables.{Tables, Origin, Query, stops, stopAt, edgesFrom, edgeTo, walkTime, permitted}
+use Rattle.model.specs.Search.{Segment, Arrivals, Boardings, at, reachedBy, delayOf, skipped, bestAfter, emptied, newArrivals, newBoardings, logged, board}
+use Rattle.model.specs.Lawful.{Boarded, Begins, Leaves, leftAt}
 use Rattle.model.proofs.Stores.{set-le, set-hit}
 
 module _ (T : Tables) (Q : Query) where
-  -- trip t is boarded at offset o so
-  pub record Boarded (t o : ℕ) (b : Boarding) : Type 0 where
-    pub trip : t < trips T
-    pub inside : o < stopCount T t
-    pub pickup : noPickup T t o ≡ false
-    pub served : skipped T Q (delayOf Q t) t o ≡ false
-    pub after : ℕ
-    pub boards : boardAt T Q (delayOf Q t) t o after ≡ Board b
-
-  -- a ride that may begin: trip, offset, stop and time shift are those of a boarding
-  pub record Begins (g : Segment) : Type 0 where
-    pub boarding : Boarding
-    pub boarded : Boarded (g .trip) (g .offset) boarding
-    pub stop : g .stop ≡ stopAt T (g .trip) (g .offset)
-    pub shift : g .shift ≡ boarding .«time_shift_s»
-
-  -- a ride may be left at offset p
-  pub record Leaves (g : Segment) (p : ℕ) : Type 0 where
-    pub permits : permitted T Q (g .trip) ≡ true
-    pub later : g .offset < p
-    pub inside : p < stopCount T (g .trip)
-    pub dropOff : noDropOff T (g .trip) p ≡ false
-    pub served : skipped T Q (delayOf Q (g .trip)) (g .trip) p ≡ false
-
-  -- why a stop is reached at a time, with this label, in the ride phase: on leaving a ride, or on a transfer to a trip
+  -- why a stop is reached at a time, with this label, in the ride phase: on leaving a ride at a stop that is not skipped, or on a transfer from
+  -- where a ride is left to a trip
   pub data Rides (stamp : ℕ) : ℕ → ℕ → Label → Type 0 where
-    alighted : (g : Segment) (p : ℕ) → Begins g → Leaves g p
-        → Rides stamp (stopAt T (g .trip) p) (arrivalNow T Q (delayOf Q (g .trip)) (g .shift) (g .trip) p)
-        (Transit (arrivalNow T Q (delayOf Q (g .trip)) (g .shift) (g .trip) p) (g .trip) (g .stop) (g .offset) p (stamp - 2) (g .shift))
-    changed : (t o x time : ℕ) (b : Boarding) → Boarded t o b → x < stops T → time ≤ timeLimit
-        → Rides stamp (stopAt T t o) (b .departure) (Walk (b .departure) x (stopAt T t o) time noDistance (stamp - 1))
+    alighted : (g : Segment) (p : ℕ) → Begins T Q g → Leaves T Q g p → skipped T Q (delayOf Q (g .trip)) (g .trip) p ≡ false
+        → Rides stamp (stopAt T (g .trip) p) (leftAt T Q g p) (Transit (leftAt T Q g p) (g .trip) (g .stop) (g .offset) p (stamp - 2) (g .shift))
+    changed : (g : Segment) (p : ℕ) → Begins T Q g → Leaves T Q g p → (t o time : ℕ) (b : Boarding) (B : Boarded T Q t o b)
+        → B .after ≡ leftAt T Q g p + time → time ≤ timeLimit
+        → Rides stamp (stopAt T t o) (b .departure) (Walk (b .departure) (stopAt T (g .trip) p) (stopAt T t o) time noDistance (stamp - 1))
 
   -- .. at all: from an origin, by a ride, or by a walk from a stop x that this round's rides reached at w, and that is
   -- reached at u by now
@@ -107,7 +84,7 @@ module _ (T : Tables) (Q : Query) where
     improved : {b c : Arrivals} (s v : ℕ) (l : Label) → Steps J stamp a b → J s v l → reachedBy l ≡ suc v → v < at b s → Improved stamp s v l b c
         → Steps J stamp a c
     heard : {b c : Arrivals} (s v : ℕ) (l : Label) → Steps J stamp a b → J s v l → Heard s v b c → Steps J stamp a c
-    queued : {b c : Arrivals} (g : Segment) → Steps J stamp a b → Begins g → Queued g b c → Steps J stamp a c
+    queued : {b c : Arrivals} (g : Segment) → Steps J stamp a b → Begins T Q g → Queued g b c → Steps J stamp a c
 
   -- from a to b a round ends: only the stops reached are listed anew, out of those that either phase reached
   pub record Ended (xs : List ℕ) (a b : Arrivals) : Type 0 where
@@ -125,9 +102,9 @@ module _ (T : Tables) (Q : Query) where
   -- BOARDINGS from b on: each a scan of a permitted trip that is boarded so, from the departures or as a segment
   pub data Boards (round stamp : ℕ) (b : Boardings) : Boardings → Type 0 where
     none : Boards round stamp b b
-    listed : {c : Boardings} (t o : ℕ) (y : Boarding) → Boards round stamp b c → permitted T Q t ≡ true → Boarded t o y
+    listed : {c : Boardings} (t o : ℕ) (y : Boarding) → Boards round stamp b c → permitted T Q t ≡ true → Boarded T Q t o y
         → Boards round stamp b (board T Q round stamp (delayOf Q t) t o (y .departure) c)
-    segment : {c : Boardings} (g : Segment) → Boards round stamp b c → permitted T Q (g .trip) ≡ true → Begins g
+    segment : {c : Boardings} (g : Segment) → Boards round stamp b c → permitted T Q (g .trip) ≡ true → Begins T Q g
         → Boards round stamp b (logged T Q round (g .trip) (g .offset) c)
 
   -- no line is boarded yet
@@ -163,9 +140,9 @@ module _ (T : Tables) (Q : Query) where
   pub record Books-kept (P : ℕ → Boardings → Type 0) : Type 0 where
     pub new : P 0 (newBoardings T Q)
     pub clears : {b : Boardings} (r : ℕ) → P r b → P (suc r) (cleared b)
-    pub lists : {b : Boardings} (r stamp t o : ℕ) (y : Boarding) → permitted T Q t ≡ true → Boarded t o y → P (suc r) b
+    pub lists : {b : Boardings} (r stamp t o : ℕ) (y : Boarding) → permitted T Q t ≡ true → Boarded T Q t o y → P (suc r) b
         → P (suc r) (board T Q r stamp (delayOf Q t) t o (y .departure) b)
-    pub segments : {b : Boardings} (r : ℕ) (g : Segment) → permitted T Q (g .trip) ≡ true → Begins g → P (suc r) b
+    pub segments : {b : Boardings} (r : ℕ) (g : Segment) → permitted T Q (g .trip) ≡ true → Begins T Q g → P (suc r) b
         → P (suc r) (logged T Q r (g .trip) (g .offset) b)
     pub closes : {b : Boardings} (r n : ℕ) → P (suc r) b → P (suc r) (closed n b)
 
@@ -216,12 +193,12 @@ module _ (T : Tables) (Q : Query) where
     steps-reached (queued g S q h) x m = rw (h .same .earliest) (steps-reached S x (rw (h .reached) at m))
 
     -- a segment queued anew begins a ride
-    pub steps-queue : {b : Arrivals} → Steps J stamp a b → (g : Segment) → List·Memᴰ g (b .segQueue) → List·Memᴰ g (a .segQueue) ⊎ Begins g
+    pub steps-queue : {b : Arrivals} → Steps J stamp a b → (g : Segment) → List·Memᴰ g (b .segQueue) → List·Memᴰ g (a .segQueue) ⊎ Begins T Q g
     steps-queue stay g m = inl m
     steps-queue (improved s v l S j e h i) g m = steps-queue S g (rw (i .queue) at m)
     steps-queue (heard s v l S j h) g m = steps-queue S g (rw (h .queue) at m)
     steps-queue (queued {b} k S q h) g m =
-        ⊎-elim (λ n. steps-queue S g n) (λ n. inr (subst (λ (z : Segment). Begins z) (sym (List·Memᴰ·eq-of-singleton n)) q))
+        ⊎-elim (λ n. steps-queue S g n) (λ n. inr (subst (λ (z : Segment). Begins T Q z) (sym (List·Memᴰ·eq-of-singleton n)) q))
         (List·Memᴰ·append-cases (b .segQueue) (rw (h .queue) at m))
 
   -- PREDICATES THAT A RUN KEEPS: every justified improvement keeps it, and so does what changes the best total or the queues only

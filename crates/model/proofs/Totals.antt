@@ -12,10 +12,11 @@ use borrow.Author.Tests.{ltb-true, ltb-false, eq-eqb, ne-eqb}
 use Rattle.model.specs.Tables.{Tables, Query, isEgress, egressWalk, never, stops}
 use Rattle.model.specs.Search.{Arrivals, at, bestAfter, bestTarget, final, answer}
 use Rattle.model.specs.Door.{Door, EgressRising, none, more}
+use Rattle.model.specs.Lawful.{latestTotal}
 use Rattle.model.proofs.Stores.{set-cases, set-there, lt-getD, getD-replicate-in, no-both}
 use Rattle.model.proofs.Steps.{Kept, run-keeps, improved-le}
 use Rattle.model.proofs.Runs.{final-ran}
-use Rattle.model.proofs.Bounds.{latestTotal, egress-listed, final-best}
+use Rattle.model.proofs.Bounds.{egress-listed, final-best}
 use Rattle.model.proofs.Candidates.{best-lowest, best-of}
 use Rattle.model.proofs.Answers.{answer-lawful}
 

@@ -20,7 +20,7 @@ use Rattle.delay_tables.specs.Delays.{stopRow, besideTrip}
 use Rattle.model.specs.Tables.{Tables, Query, stops, trips, stopCount, arrival, departure, sequence}
 use Rattle.model.specs.Search.{delayOf, delayAt}
 use Rattle.model.specs.Door.{Door}
-use Rattle.model.specs.Promise.{effective, Boarding, NoTimesFall, CalmDay, arrivesFrom, SteadyDay, TripDelays}
+use Rattle.model.specs.Promise.{effective, Boarding, NoTimesFall, CalmDay, SteadyConditions, arrivesFrom, SteadyDay, TripDelays}
 use Rattle.model.proofs.Base.{no-both, or-false, and-true}
 use Rattle.model.proofs.Sizes.{shifted-back}
 use Rattle.model.proofs.Times.{later}
@@ -164,14 +164,17 @@ module _ (T : Tables) (Q : Query) (D : Door T Q) (S : TripDelays T Q) where
         let m = shifted-mono (departure T t o) (arrival T t p) (lateBy Q (delayOf Q t)) (later T F t o p u l n) in
         omega (arith, m, departs-late t o u, arrives-late t p u)
 
-  pub trip-delays-steady : CalmDay T Q → NoTimesFall T → SteadyDay T Q
-  trip-delays-steady C F =
+  -- THE CONDITIONS of a steady day
+  pub trip-delays-conditions : NoTimesFall T → SteadyConditions T Q
+  trip-delays-conditions F =
       record {
-        calm = C;
-        rides = λ x t o p h b a. omega (arith, on F t o p (known x t o h b .0) (a .later) (a .inside));
+        rides = λ x t o p h b a. omega (arith, on F t o p (known x t o h b .0) (omega (arith, a .later)) (a .inside));
         arrivals = λ x t o p q h b a c l. let u = known x t o h b .0 in omega (arith, up F t p u (a .inside), on F t p q u l (c .inside));
         departures = λ x y t o p h i b c l. let k = known y t p i c in omega (arith, on F t o p (k .0) l (k .1), up F t p (k .0) (k .1));
         not-late = λ x t o h b. let u = known x t o h b .0 in omega (arith, departs-late t o u, shifted-near (departure T t o) (lateBy Q (delayOf Q t)), within t u);
         not-early = λ x t o h b. let u = known x t o h b .0 in omega (arith, departs-late t o u, shifted-back (departure T t o) (lateBy Q (delayOf Q t)), within t u);
         one-arrival = λ x t o p h b a. one t o p (known x t o h b .0) (omega (arith, a .later)) (a .inside);
       }
+
+  pub trip-delays-steady : CalmDay T Q → NoTimesFall T → SteadyDay T Q
+  trip-delays-steady C F = record { calm = C; conditions = trip-delays-conditions F }

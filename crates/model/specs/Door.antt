@@ -1,5 +1,6 @@
 -- The questions at the door (document 01), as far as they speak of tables and query and not of lent memory: an answered query has a
 -- yes to each. Definitions only.
+-- Inner: nobody has to believe this.
 use Prim.Native.Nat.{ℕ, _+_, _≤_, _<_}
 use mathlib.Core.Path.{_≡_}
 use mathlib.Core.Logic.{_⊎_}

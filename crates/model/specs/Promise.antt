@@ -1,7 +1,7 @@
 -- What a guest relies on (the request's demand 3): plain day, journey, way, and the demand itself, in the request's and document 01's
 -- words; then days with delays, to which the promise is carried on. Journeys and ways take the trips' times as a parameter, of which there are
 -- two: on a plain day, as in the request, the scheduled ones; on a steady day the effective ones. No memory and no search stands here, but
--- how it reads the delay rows, and the log of the query's scans that a way's rounds refer to. Definitions only.
+-- how it reads the delay rows, and the log of the reference's scans that a way's rounds refer to. Definitions only.
 use Prim.Native.Nat.{ℕ, zero, suc, _+_, _≤_, _<_}
 use mathlib.Core.Path.{_≡_}
 use mathlib.Core.Bool.{Bool, true, false, cond, not, _||_}
@@ -16,11 +16,23 @@ use Rattle.built.specs.Built.{AsBuilt}
 use Rattle.departures.specs.Departures.{sorted, markOf}
 use Rattle.line_transfers.specs.Transfers.{Input, builtTransfers}
 use Rattle.model.specs.Tables.{never, Tables, Origin, Query, roundsOf, changeBefore, stops, trips, stopCount, stopAt, arrival, departure, noPickup, noDropOff, noWindows, edgesFrom, edgeTo, walkTime, permitted}
-use Rattle.model.specs.Search.{Answer, flagsInUse, delayOf, delayAt, skipped, arrivalNow}
+use Rattle.model.specs.Search.{Answer, flagsInUse, delayOf, delayAt, skipped, arrivalNow, putOff, runTbr}
 
--- what the transfers call makes its transfers from
-abbrev pub transferInput : Tables → ℕ → Input
-transferInput T time = record { timetable = T .timetable; lines = T .lines; lineOf = T .lineOf; listed = T .departures; time = time }
+-- LINES AND DEPARTURES AS BUILT: what the lines call and the departure sorting call write, from a caller's list of departures for each stop
+pub record LinesBuilt (T : Tables) (listed : ℕ → List DepartureRow) : Type 0 where
+  pub departures-built : (s : ℕ) → s < stops T → T .departures s ≡ sorted (T .timetable) (listed s)
+  pub marks-built : (s : ℕ) → s < stops T → T .mark s ≡ markOf (T .timetable) (listed s)
+  pub lines-built : T .lines ≡ linesOf (T .timetable)
+  pub line-built : (t : ℕ) → t < trips T → T .lineOf t ≡ lineOf (T .timetable) t
+  pub lists-built : AsBuilt (T .timetable) (T .line)
+
+-- what the transfers call makes its transfers from: the caller's list
+abbrev pub transferInput : Tables → (ℕ → List DepartureRow) → ℕ → Input
+transferInput T listed time = record { timetable = T .timetable; lines = T .lines; lineOf = T .lineOf; listed = listed; time = time }
+
+-- TRANSFERS AS BUILT: what the transfers call writes
+pub record TransfersBuilt (T : Tables) (listed : ℕ → List DepartureRow) (time : ℕ) : Type 0 where
+  pub transfers-built : (t o : ℕ) → t < trips T → o < stopCount T t → T .transfers t o ≡ builtTransfers (transferInput T listed time) t o
 
 -- THE TRIPS' TIMES: of trip t at offset o, its departure, its arrival, and whether it stops there
 pub record TripTimes : Type 0 where
@@ -38,15 +50,8 @@ pub record NoTimesFall (T : Tables) : Type 0 where
   pub rides : (t o : ℕ) → t < trips T → suc o < stopCount T t → departure T t o ≤ arrival T t (suc o)
 
 module _ (T : Tables) (Q : Query) where
-  -- what both kinds of day have
-  pub record CalmDay : Type 0 where
-    -- "tables as our building calls wrote them": from a caller's list of departures for each stop
-    pub listed : ℕ → List DepartureRow
-    pub departures-built : (s : ℕ) → s < stops T → T .departures s ≡ sorted (T .timetable) (listed s)
-    pub marks-built : (s : ℕ) → s < stops T → T .mark s ≡ markOf (T .timetable) (listed s)
-    pub lines-built : T .lines ≡ linesOf (T .timetable)
-    pub line-built : (t : ℕ) → t < trips T → T .lineOf t ≡ lineOf (T .timetable) t
-    pub lists-built : AsBuilt (T .timetable) (T .line)
+  -- what the timetable and the query have on both kinds of day
+  pub record CalmConditions : Type 0 where
     -- "no frequency trips": a frequency trip has windows
     pub no-windows : (t : ℕ) → t < trips T → noWindows T t ≡ true
     -- "no arc flags in use": the switch puts them off, or they skip no walk edge or transfer
@@ -58,19 +63,28 @@ module _ (T : Tables) (Q : Query) where
     pub origins-complete : (a : Origin) (f : ℕ) → List·Memᴰ a (Q .origins) → List·Memᴰ f (edgesFrom T (a .stop))
         → (b : Origin) × (List·Memᴰ b (Q .origins)) × (b .stop ≡ edgeTo T f) × (b .duration ≤ a .duration + walkTime T Q f)
 
-  -- PLAIN DAY
-  pub record PlainDay : Type 0 where
-    pub calm : CalmDay
-    -- "tables as our building calls wrote them", the transfers too
-    pub transfers-built : (t o : ℕ) → t < trips T → o < stopCount T t → T .transfers t o ≡ builtTransfers (transferInput T (Q .settings .transferTime)) t o
+  -- a day with these and "tables as our building calls wrote them": lines, departures and marks
+  pub record CalmDay : Type 0 where
+    pub listed : ℕ → List DepartureRow
+    pub built : LinesBuilt T listed
+    pub conditions : CalmConditions
+
+  -- what timetable and query have besides on a plain day
+  pub record PlainConditions : Type 0 where
     -- "no delays": no delay row
     pub no-delays : Q .delays .delays ≡ 0
     -- "no trip whose times fall"
     pub no-times-fall : NoTimesFall T
     -- "lines evenly listed": where one trip's departure is listed at an offset, that of each trip of its line is listed at the same
     -- offset, save where its pickup is 1
-    pub evenly-listed : (s t u o : ℕ) → s < stops T → List·Memᴰ (record { trip = t; offset = o }) (T .departures s) → u < trips T → T .lineOf u ≡ T .lineOf t → noPickup T u o ≡ false
-        → List·Memᴰ (record { trip = u; offset = o }) (T .departures s)
+    pub evenly-listed : (s t u o : ℕ) → s < stops T → List·Memᴰ (record { trip = t; offset = o }) (T .departures s) → u < trips T
+        → T .lineOf u ≡ T .lineOf t → noPickup T u o ≡ false → List·Memᴰ (record { trip = u; offset = o }) (T .departures s)
+
+  -- PLAIN DAY: the transfers too are as our call wrote them
+  pub record PlainDay : Type 0 where
+    pub calm : CalmDay
+    pub transfers : TransfersBuilt T (calm .listed) (Q .settings .transferTime)
+    pub conditions : PlainConditions
 
 module _ (T : Tables) (Q : Query) (W : TripTimes) where
   -- BOARDING (01, "Permitted"): at stop x, trip t at offset o. The trip is permitted, the departure is listed, pickup is not 1, the
@@ -113,19 +127,21 @@ module _ (T : Tables) (Q : Query) (W : TripTimes) where
 
   -- WAY ("from the query's start and one of its origins, by permitted rides and walks, each begun where the one before ended and no
   -- sooner, the rides' rounds never falling, and every boarding after the first round at least the change time after the arrival
-  -- before it"): which stop, when, and the round of its last ride (0 before any). Each ride has a round in which the query scans its
-  -- trip from that boarding; scans: these (round, trip, offset).
+  -- before it"): which stop, when, and the round of its last ride (0 before any). Each ride has a round in which its trip is scanned from that
+  -- boarding; scans: these (round, trip, offset).
   pub data Way (scans : List (ℕ × ℕ × ℕ)) : ℕ → ℕ → ℕ → Type 0 where
     access : (a : Origin) → List·Memᴰ a (Q .origins) → Way scans (a .stop) (Q .start + a .duration) zero
     ride : {x v q : ℕ} (r t o p : ℕ) → Way scans x v q → q ≤ r → List·Memᴰ (r, t, o) scans → Boarding x t o → Alighting t o p → v + changeBefore Q r ≤ W .departs t o
         → Way scans (stopAt T t p) (W .arrives t p) r
     foot : {x v q : ℕ} (e : ℕ) → Way scans x v q → List·Memᴰ e (edgesFrom T x) → Way scans (edgeTo T e) (v + walkTime T Q e) q
 
-  -- a total that is the arrival of a way which closes with the egress walk of the stop given with it
-  pub record Arrives (scans : List (ℕ × ℕ × ℕ)) (total stop : ℕ) : Type 0 where
+  -- a total that is the arrival of a way which closes with the egress walk of the stop given with it. "A way gives each of its rides one of the
+  -- rounds in which the reference scans its trip from that boarding on the same input": the reference is `run_tbr` with the switch put off, which
+  -- it is on a day without arc flags in use (DECISIONS A1: left on, flags that skip nothing make it scan too little).
+  pub record Arrives (total stop : ℕ) : Type 0 where
     pub reached : ℕ
     pub lastRound : ℕ
-    pub way : Way scans stop reached lastRound
+    pub way : Way (runTbr T (putOff Q) .scans) stop reached lastRound
     pub walk : ℕ
     pub egress : List·Memᴰ (stop, walk) (Q .egress)
     pub sum : total ≡ reached + walk
@@ -137,8 +153,8 @@ module _ (T : Tables) (Q : Query) (W : TripTimes) where
     -- ""no way" is given only if no journey exists"
     pub no-way : A .total ≡ never → (v : ℕ) → WholeJourney v → ⊥
     -- "in any other answer the best total, and each candidate's, is the arrival of a way"
-    pub best : (A .total ≡ never → ⊥) → Arrives (A .scans) (A .total) (A .stop)
-    pub each : (total stop row : ℕ) → List·Memᴰ (total, stop, row) (A .candidates) → Arrives (A .scans) total stop
+    pub best : (A .total ≡ never → ⊥) → Arrives (A .total) (A .stop)
+    pub each : (total stop row : ℕ) → List·Memᴰ (total, stop, row) (A .candidates) → Arrives total stop
 
   -- beyond the request: for every journey of at most k rides that arrives within the slack of the best total, a candidate of row k or
   -- lower arrives no later
@@ -165,10 +181,9 @@ module _ (T : Tables) (Q : Query) where
   abbrev W : TripTimes
   W = effective T Q
 
-  -- STEADY DAY: with delays and skipped stops, whatever the transfers, and lines listed in any way. Of every ride that tables and query permit,
-  -- by effective times: a trip t boarded at a stop x, at offset o, and left at p
-  pub record SteadyDay : Type 0 where
-    pub calm : CalmDay T Q
+  -- what timetable and query have besides on a steady day. Of every ride that they permit, by effective times: a trip t boarded at a stop x, at
+  -- offset o, and left at p
+  pub record SteadyConditions : Type 0 where
     -- the trip's times do not fall: from departure to arrival, from arrival to arrival, from departure to departure
     pub rides : (x t o p : ℕ) → x < stops T → Boarding T Q W x t o → Alighting T Q W t o p → W .departs t o ≤ W .arrives t p
     pub arrivals : (x t o p q : ℕ) → x < stops T → Boarding T Q W x t o → Alighting T Q W t o p → Alighting T Q W t o q → p < q → W .arrives t p ≤ W .arrives t q
@@ -178,6 +193,11 @@ module _ (T : Tables) (Q : Query) where
     pub not-early : (x t o : ℕ) → x < stops T → Boarding T Q W x t o → departure T t o ≤ W .departs t o + Q .settings .marginCap
     -- the trip arrives when it does, wherever it was boarded
     pub one-arrival : (x t o p : ℕ) → x < stops T → Boarding T Q W x t o → Alighting T Q W t o p → arrivesFrom t o p ≡ W .arrives t p
+
+  -- STEADY DAY: with delays and skipped stops, whatever the transfers, and lines listed in any way
+  pub record SteadyDay : Type 0 where
+    pub calm : CalmDay T Q
+    pub conditions : SteadyConditions
 
   -- DELAYS OF WHOLE TRIPS, which make a calm day steady where no scheduled times fall. Of a trip in the table:
   pub record TripDelays : Type 0 where

@@ -586,6 +586,28 @@ module _ (T : Tables) (Q : Query) where
         queued = s .boardings .queued;
       }
 
+-- QUESTION 8: is one of these numbers of queued segments more than a queue half has rows?
+unfoldable pub overflows : ℕ → List ℕ → Bool
+overflows room [] = false
+overflows room (m ∷ ms) = ltb room m || overflows room ms
+
+-- a query with the switch put off
+abbrev pub putOff : Query → Query
+putOff Q =
+    record {
+      start = Q .start;
+      origins = Q .origins;
+      egress = Q .egress;
+      modes = Q .modes;
+      wheelchair = Q .wheelchair;
+      change = Q .change;
+      wantedRounds = Q .wantedRounds;
+      transfers = Q .transfers;
+      delays = Q .delays;
+      flagsOff = true;
+      settings = Q .settings;
+    }
+
 -- `run_tbr` as the Rust has it
 unfoldable pub runTbr : Tables → Query → Answer
 runTbr T Q = answer T Q (useArcFlags T Q)

@@ -113,7 +113,9 @@ module _ (T : Tables) where
   abbrev pub sequence : ℕ → ℕ → ℕ
   sequence t o = timeAt (T .timetable) t o .sequence
 
-  -- pickup_type and drop_off_type of GTFS stop_times.txt: 1 is "no pickup available", "no drop off available"
+  -- The fields of GTFS stop_times.txt, in our words: `pickup_type` says how a rider gets on at a stop time, `drop_off_type` how one gets off: 0 or
+  -- empty as scheduled, 1 not at all, 2 by telephoning the agency first, 3 by arranging it with the driver. Only 1 bars; 2 and 3 count as
+  -- ordinary (docs/DIFFERENCES.md 7).
   abbrev pub noPickup : ℕ → ℕ → Bool
   noPickup t o = eqb (timeAt (T .timetable) t o .pickup) 1
 

@@ -1,4 +1,5 @@
 -- The model's `Boardings` in memory. Definitions only.
+-- Inner: nobody has to believe this.
 use Prim.Native.Nat.{ℕ, _+_, _≤_, _<_}
 use mathlib.Core.Path.{_≡_}
 use mathlib.Core.Bool.{true}

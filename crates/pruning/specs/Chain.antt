@@ -1,6 +1,7 @@
 -- Where the sections for boarding begin in a query's working numbers, and the chains of trips boarded in a round. Definitions only.
 -- From `restAt` on, with S stops, T trips, L lines: egress table S, positions T, FIFO flags L, events before each trip T, trip stamps T,
 -- boarding offsets T, boarding departures T, line stamps L, line heads L, links T, least offsets T.
+-- Inner: nobody has to believe this.
 use Prim.Native.Nat.{ℕ, zero, suc, _+_, _*_}
 use mathlib.Core.Bool.{Bool, false, cond, _&&_, _||_}
 use mathlib.Core.List.{List, [], _∷_}

@@ -20,7 +20,7 @@ fn rows_of(w: &[u32]) -> &[u32] {
     part(w, 157, 20)
 }
 
-fn copy_words(w: &[u32], to: &mut [u32]) {
+pub fn copy_words(w: &[u32], to: &mut [u32]) {
     let mut i: usize = 0;
     while i < to.len() {
         to[i] = at(w, i);

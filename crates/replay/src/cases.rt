@@ -1,6 +1,7 @@
 // The cases: is each answer the one on the line?
 ghost use Prim.Native.Nat.{_<_};
 use crate::building;
+use crate::chains;
 use crate::queries;
 use crate::words::Nine;
 use crate::words::at;
@@ -158,7 +159,7 @@ fn stored(n: Nine, m: Nine, labels: &mut [u32], distances: &mut [f64]) -> u32 {
     walk_stored(n, m, labels, distances)
 }
 
-// Is this the label of the words?
+// Are these the code of storing and, after it, the label of the words?
 fn label_right(code: u32, l: label_calls::LabelAnswer, w: &[u32]) -> bool {
     let r = l.row;
     let got = [
@@ -172,8 +173,8 @@ fn label_right(code: u32, l: label_calls::LabelAnswer, w: &[u32]) -> bool {
         r.word7,
     ];
     both(
-        both(code == 0, l.code == 0),
-        both(same_words(w, 0, &got), r.distance == at(w, 8) as f64),
+        both(code == at(w, 0), l.code == 0),
+        both(same_words(w, 1, &got), r.distance == at(w, 9) as f64),
     )
 }
 
@@ -237,6 +238,9 @@ pub fn right(w: &[u32]) -> bool {
     }
     if kind == 12 {
         return queries::searched(w);
+    }
+    if kind == 13 {
+        return chains::chained(w);
     }
     leaf(kind, w)
 }

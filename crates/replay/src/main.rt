@@ -5,6 +5,7 @@
 // Proves: that it is safe and ends. Assumes the contracts of the kit's io and libc.
 mod building;
 mod cases;
+mod chains;
 mod lines;
 mod queries;
 mod words;

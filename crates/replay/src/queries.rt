@@ -85,7 +85,7 @@ fn put_bytes(words: &[u32], to: &mut [u8]) {
     }
 }
 
-fn put_distances(words: &[u32], to: &mut [f64]) {
+pub fn put_distances(words: &[u32], to: &mut [f64]) {
     let mut i: usize = 0;
     while i < to.len() {
         to[i] = at(words, i) as f64;
@@ -148,7 +148,7 @@ fn take_labels(w: &[u32], n: usize, labels: &mut [u32], distances: &mut [f64]) -
 }
 
 // Is every word v?
-fn all_are(a: &[u32], v: u32) -> bool {
+pub fn all_are(a: &[u32], v: u32) -> bool {
     let mut i: usize = 0;
     while i < a.len() {
         if a[i] != v {
@@ -231,7 +231,7 @@ fn cleared(code: u32, k: &[u32], u: &[u32], v: &[u32]) -> bool {
 }
 
 // Is the call's reply, and every word of what it was lent to write, what the outcome says?
-fn left(
+pub fn left(
     reply: Reply,
     o: &[u32],
     l: &mut [u32],

@@ -6,11 +6,10 @@ use lib.ListN.{length, replicate}
 use lib.Ieee.{Float}
 use Rattle.label.specs.Label.{noDistance}
 use Rattle.label_table.specs.Table.{wordsOfAll, distancesOfAll}
-use Rattle.model.specs.Search.{Answer, runTbr as theRust, query as thePromise}
+use Rattle.model.specs.Search.{Answer, runTbr as theRust, query as thePromise, overflows}
 use Rattle.asking.specs.declared.Lengths.{Lengths}
 use Rattle.asking.specs.Lent.{Lent, tablesOf, queryOf}
 use Rattle.asking.specs.Door.{verdict}
-use Rattle.round.specs.Rounds.{overflows}
 use Rattle.replies.specs.declared.Reply.{Reply}
 
 -- what is lent to be written: labels and their distances, workspace, the two halves of the segment queue, candidate rows

@@ -1,4 +1,5 @@
 -- What the inner functions of the two calls are given, and what they leave. Definitions only.
+-- Inner: nobody has to believe this.
 use Prim.Native.Nat.{ℕ, suc, _+_, _*_, _-_, _≤_}
 use mathlib.Core.Path.{_≡_}
 use mathlib.Core.Bool.{Bool, true, false, cond}
@@ -12,10 +13,11 @@ use Rattle.walk.specs.Walk.{roundCount}
 use Rattle.line_transfers.specs.Transfers.{eventsBefore}
 use Rattle.model.specs.Tables.{Tables, Query, roundsOf, never}
 use Rattle.model.specs.Search.{Arrivals, Answer, useArcFlags, flagsInUse, bestTarget, candidatesFrom, answer}
-use Rattle.flags.specs.Flags.{PatternsOk, RunsIn, egressRows}
+use Rattle.flags.specs.Flags.{egressRows}
+use Rattle.flags.specs.Skipping.{PatternsOk, RowsIn, RunsIn}
 use Rattle.totals.specs.Totals.{EgressOk, EarliestOk, LabelsOk, EarliestAre, Labelled}
 use Rattle.asking.specs.declared.QueryCounts.{QueryCounts}
-use Rattle.asking.specs.Lent.{Lent, tablesOf, queryOf, transferRunsAt, transferRuns, querySize, egressPart}
+use Rattle.asking.specs.Lent.{Lent, tablesOf, queryOf, transferRunsAt, transferRuns, transferRows, querySize, egressPart}
 use Rattle.asking.specs.Sane.{Limits, Admitted}
 use Rattle.replies.specs.declared.Reply.{Reply}
 use Rattle.replies.specs.Outcome.{Areas, areas, Outcome, reply, cleared, overflown, runTbrOutcome, queryOutcome, candidateRows}
@@ -42,7 +44,8 @@ pub record Flagging (n : QueryCounts) (t built transfers patterns : List ℕ) : 
   pub sane : Sane t (n .timetable)
   pub long : length built ≡ transferRunsAt n + eventsBefore (timetable t (n .timetable)) (n .timetable .trips) * 2
   pub patterns-ok : PatternsOk patterns (n .patterns)
-  pub runs : RunsIn (transferRuns built n) transfers (eventsBefore (timetable t (n .timetable)) (n .timetable .trips))
+  pub rows : RowsIn transfers (transferRows n (length transfers))
+  pub runs : RunsIn (transferRuns built n) (transferRows n (length transfers))
 
 -- the door admits what is lent, with areas of these lengths
 pub record AdmittedWith (x : Lent) (labels distances work queueA queueB : ℕ) : Type 0 where

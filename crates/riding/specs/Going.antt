@@ -1,4 +1,5 @@
 -- What the parts of the ride phase need, and what they do. Definitions only.
+-- Inner: nobody has to believe this.
 use Prim.Native.Nat.{ℕ}
 use mathlib.Core.Path.{_≡_}
 use mathlib.Core.Bool.{Bool, false}

@@ -1,4 +1,5 @@
 -- What boarding trips does to a query's state. Definitions only.
+-- Inner: nobody has to believe this.
 use Prim.Native.Nat.{ℕ, suc, _/_, _≤_, _<_}
 use mathlib.Core.Path.{_≡_}
 use mathlib.Core.Bool.{Bool, true, false}

@@ -7,7 +7,7 @@ use native.Mathlib.Omega.{arith}
 use lib.ListN.{length}
 use lib.Ieee.{Float}
 use Rattle.model.specs.Tables.{Tables, Query, changeBefore}
-use Rattle.model.specs.Search.{Arrivals, Boardings, State, ridePhase, walkPhase}
+use Rattle.model.specs.Search.{Arrivals, Boardings, State, ridePhase, walkPhase, overflows}
 use Rattle.model.proofs.Stores.{no-both}
 use Rattle.scratch.specs.declared.Lay.{Lay}
 use Rattle.scratch.specs.Places.{turned}
@@ -22,7 +22,6 @@ use Rattle.walks.specs.Walking.{WalksAgree}
 use Rattle.walks.specs.Lists.{noted, Phase}
 use Rattle.riding.specs.Laid.{Rides, Laid}
 use Rattle.riding.specs.Phase.{RidePhase}
-use Rattle.round.specs.Rounds.{overflows}
 use Rattle.round.specs.Round.{stateAt, Fed, Holds, BeforeRound, Round}
 use Rattle.round.proofs.Keep.{laid-walked, rides-walked}
 use Rattle.round.proofs.States.{overflow-none, ride-queued, state-ran, round-overflows}

@@ -10,14 +10,14 @@ use lib.ListN.{length, getD}
 use lib.Dec.{ltb}
 use borrow.Author.Tests.{lt-ltb, le-ltb}
 use Rattle.model.specs.Tables.{Tables, Query, roundsOf}
-use Rattle.model.specs.Search.{Arrivals, Boardings, State, at, board, emptied, ridePhase, walkPhase, idle, rounds, begin, final}
+use Rattle.model.specs.Search.{Arrivals, Boardings, State, at, board, emptied, ridePhase, walkPhase, idle, rounds, begin, final, overflows}
 use Rattle.model.specs.Door.{Door}
+use Rattle.model.specs.Lawful.{latest}
 use Rattle.model.proofs.Moves.{rounds-keep}
 use Rattle.model.proofs.Steps.{Run, begun, round, Boards, none, listed, segment, steps-le, steps-reached}
-use Rattle.model.proofs.Labels.{latest, rides-early, why-early}
+use Rattle.model.proofs.Labels.{rides-early, why-early}
 use Rattle.model.proofs.Runs.{Ran, boarded, begin-ran, round-ran}
 use Rattle.riding.proofs.Later.{walks-later}
-use Rattle.round.specs.Rounds.{overflows}
 use Rattle.round.specs.Round.{stateAt}
 
 -- what stands in a list is one of its members

@@ -1,4 +1,5 @@
 -- One round in memory: the model's state before it, and after it. Definitions only.
+-- Inner: nobody has to believe this.
 use Prim.Native.Nat.{ℕ, zero, suc, _+_, _*_, _/_, _≤_, _<_}
 use mathlib.Core.Path.{_≡_}
 use mathlib.Core.Bool.{Bool, true, false, not, cond, _&&_, _||_}
@@ -9,7 +10,7 @@ use lib.Ieee.{Float, nan}
 use Rattle.tables.specs.Sane.{OrderOk}
 use Rattle.model.specs.Tables.{Tables, Query}
 use Rattle.model.specs.Door.{Door}
-use Rattle.model.specs.Search.{State, ridePhase, walkPhase, begin, rounds, final}
+use Rattle.model.specs.Search.{State, ridePhase, walkPhase, begin, rounds, final, overflows}
 use Rattle.scratch.specs.declared.Lay.{Lay}
 use Rattle.scratch.specs.declared.Head.{Head}
 use Rattle.scratch.specs.Places.{Sized, Walks, turned}
@@ -18,7 +19,6 @@ use Rattle.pruning.specs.Books.{Chains, Books}
 use Rattle.asking.specs.declared.QueryCounts.{QueryCounts}
 use Rattle.alighting.specs.declared.Net.{Net}
 use Rattle.riding.specs.Laid.{Rides, Laid}
-use Rattle.round.specs.Rounds.{overflows}
 
 -- the model's state before round r, where no round before it was idle
 unfoldable pub stateAt : Tables → Query → Bool → ℕ → State

@@ -1,11 +1,10 @@
 -- The rounds of a query over what is lent. Definitions only.
+-- Inner: nobody has to believe this.
 use Prim.Native.Nat.{ℕ, _*_}
 use mathlib.Core.Path.{_≡_}
-use mathlib.Core.Bool.{Bool, false, _||_}
-use mathlib.Core.List.{List, [], _∷_}
+use mathlib.Core.Bool.{Bool, false}
 use lib.ListN.{length}
-use lib.Dec.{ltb}
-use Rattle.model.specs.Search.{final}
+use Rattle.model.specs.Search.{final, overflows}
 use Rattle.scratch.specs.declared.Lay.{Lay}
 use Rattle.scratch.specs.Places.{Sized, earliestOf}
 use Rattle.scratch.specs.View.{Memory, labelsOf, Written}
@@ -14,11 +13,6 @@ use Rattle.asking.specs.Lent.{Lent, tablesOf, queryOf}
 use Rattle.asking.specs.Sane.{Admitted}
 use Rattle.alighting.specs.declared.Net.{Net}
 use Rattle.begin.specs.Begin.{layOf, netOf, Begun}
-
--- QUESTION 8: is one of these numbers of queued segments more than a queue half has rows?
-unfoldable pub overflows : ℕ → List ℕ → Bool
-overflows room [] = false
-overflows room (m ∷ ms) = ltb room m || overflows room ms
 
 -- what the rounds begin from: what is lent is admitted, and memory holds `begin`; both queue halves are as long
 pub record Started (x : Lent) (net : Net) (lay : Lay) (a : Memory) (qa qb : ℕ) : Type 0 where

@@ -9,7 +9,7 @@ use lib.ListN.{length, getD}
 use lib.Dec.{eqb}
 use lib.Ieee.{Float}
 use Rattle.model.specs.Tables.{Tables, Query, roundsOf}
-use Rattle.model.specs.Search.{Arrivals, State, idle, final}
+use Rattle.model.specs.Search.{Arrivals, State, idle, final, overflows}
 use Rattle.model.proofs.Stores.{no-both, or-false}
 use Rattle.scratch.specs.declared.Lay.{Lay}
 use Rattle.scratch.specs.View.{Memory, queueOf}
@@ -21,7 +21,7 @@ use Rattle.asking.proofs.Laws.{door-of}
 use Rattle.alighting.specs.declared.Net.{Net}
 use Rattle.riding.specs.Laid.{Rides, Laid}
 use Rattle.round.specs.Round.{stateAt, idleHead, read, filled, Fed, Between, Holds, Reached, BeforeRound, Round, Running}
-use Rattle.round.specs.Rounds.{overflows, Started, Ended}
+use Rattle.round.specs.Rounds.{Started, Ended}
 use Rattle.round.proofs.States.{overflow-stays, state-ran, onward-start, onward-next, onward-idle, onward-end}
 
 -- THE HALVES OF THE QUEUE

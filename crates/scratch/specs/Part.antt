@@ -1,4 +1,5 @@
 -- A section of a slice's numbers, and how many of a list's numbers are a given one. Definitions only.
+-- Inner: nobody has to believe this.
 use Prim.Native.Nat.{ℕ, _+_}
 use mathlib.Core.List.{List, [], _∷_}
 use lib.ListN.{take, drop}

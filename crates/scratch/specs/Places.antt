@@ -1,6 +1,7 @@
 -- Where the sections of a query's working numbers begin, and what they have to be. Definitions only.
 -- With S stops, T trips, L lines: earliest S, stop stamps S, seg_reach T, two lists of reached stops of S + 64 each; then, from
 -- `restAt` on, the egress table S, and what the boarding of trips needs (8 T + 3 L).
+-- Inner: nobody has to believe this.
 use Prim.Native.Nat.{ℕ, _+_, _*_, _≤_, _<_}
 use mathlib.Core.Path.{_≡_}
 use mathlib.Core.Logic.{_⊎_}

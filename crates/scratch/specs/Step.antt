@@ -1,4 +1,5 @@
 -- What a call does to a query's state. Definitions only.
+-- Inner: nobody has to believe this.
 use Prim.Native.Nat.{ℕ, _+_, _-_, _*_, _/_, _≤_, _<_}
 use mathlib.Core.Path.{_≡_}
 use mathlib.Core.Bool.{true, false, cond, not, _&&_}

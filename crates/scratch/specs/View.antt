@@ -1,4 +1,5 @@
 -- A query's state in memory, seen as the model's `Arrivals`. Definitions only.
+-- Inner: nobody has to believe this.
 use Prim.Native.Nat.{ℕ, _+_, _*_, _<_}
 use mathlib.Core.Path.{_≡_}
 use mathlib.Core.List.{List}

@@ -1,5 +1,5 @@
 -- What the door's yes gives the query's inner functions.
-use Prim.Native.Nat.{ℕ, zero, suc, _+_, _*_, _≤_, _<_}
+use Prim.Native.Nat.{ℕ, _+_, _*_, _<_}
 use mathlib.Core.Path.{_≡_, refl, sym, ap, ap₂, subst, _∙_}
 use mathlib.Core.Logic.{inl}
 use mathlib.Core.Bool.{Bool, true, false}
@@ -10,12 +10,11 @@ use lib.Seq.{length-slice}
 use lib.Ieee.{Float}
 use Rattle.loops.specs.Count.{tab}
 use Rattle.departures.proofs.Parts.{getD-slice}
-use Rattle.tables.specs.declared.Counts.{Counts}
 use Rattle.tables.specs.Timetable.{timetable}
-use Rattle.tables.specs.Sane.{Sane, CountsOk, RunsOk}
+use Rattle.tables.specs.Sane.{Sane}
 use Rattle.line_transfers.specs.Transfers.{eventsBefore, transferAt}
 use Rattle.model.specs.Search.{useArcFlags, flagsInUse}
-use Rattle.flags.specs.Flags.{RunsIn, runFirst, runLength, Transferring}
+use Rattle.flags.specs.Skipping.{RowsIn, RunsIn, runFirst, runLength, Transferring}
 use Rattle.scratch.specs.declared.Lay.{Lay}
 use Rattle.scratch.specs.Places.{Sized}
 use Rattle.scratch.specs.View.{Memory}
@@ -30,12 +29,6 @@ use Rattle.begin.specs.Begin.{layOf, netOf, Lends, Askable, Begun}
 use Rattle.round.specs.Rounds.{Started, Ended}
 use Rattle.replies.specs.Parts.{modeBy, Flagging}
 
--- trips have at most 65,536 stop times each
-events-few : (t : List ℕ) (c : Counts) → RunsOk t c → CountsOk c → (i : ℕ) → i ≤ c .trips → eventsBefore (timetable t c) i ≤ i * 65536
-unfolding eventsBefore
-events-few t c R C zero h = omega arith
-events-few t c R C (suc i) h = omega (arith, events-few t c R C i (omega arith), R .run i (omega arith), C .times)
-
 -- the transfer runs, as a part of what the building calls wrote
 module _ (built : List ℕ) (n : QueryCounts) (events : ℕ) (long : length built ≡ transferRunsAt n + events * 2) (e : ℕ) (h : e < events) where
   run-first : runFirst (transferRuns built n) e ≡ transferRunAt built n e .first
@@ -45,6 +38,10 @@ module _ (built : List ℕ) (n : QueryCounts) (events : ℕ) (long : length buil
   run-length =
       let z : transferRunsAt n + (e * 2 + 1) ≡ transferRunsAt n + e * 2 + 1 = omega arith in
       getD-slice (transferRunsAt n) (length built) built (e * 2 + 1) 0 (omega arith) ∙ ap (λ (i : ℕ). getD built i 0) z
+
+-- two numbers for each event
+runs-long : (t built : List ℕ) (n : QueryCounts) → length built ≡ transferRunsAt n + eventsOf t n * 2 → length (transferRuns built n) ≡ eventsOf t n * 2
+runs-long t built n e = omega (arith, length-slice (transferRunsAt n) (length built) built (omega arith))
 
 module _ {x : Lent} {l : Lengths} (A : Admitted x l) where
   pub sane : Sane (x .t) (x .n .timetable)
@@ -57,16 +54,19 @@ module _ {x : Lent} {l : Lengths} (A : Admitted x l) where
         sane = sane;
         long = A .sized .builtIs;
         patterns-ok = record { few = A .limits .patterns; long = A .lengthy .patternsIs };
+        rows = record {
+          few = omega (arith, A .limits .transfers);
+          fit = rows-room (x .n) (length (x .transfers)) (transferRows (x .n) (length (x .transfers))) refl;
+        };
         runs = record {
-          few = omega (arith, events-few (x .t) (x .n .timetable) (A .placed .trips) (A .limits .counts) (x .n .timetable .trips) (omega arith), A .limits .counts .trips);
-          long = omega (arith, length-slice (transferRunsAt (x .n)) (length (x .built)) (x .built) (omega arith), A .sized .builtIs);
-          inside = λ e h. omega (
-            arith,
-            run-first (x .built) (x .n) (eventsOf (x .t) (x .n)) (A .sized .builtIs) e h,
-            run-length (x .built) (x .n) (eventsOf (x .t) (x .n)) (A .sized .builtIs) e h,
-            A .placed .transfers e h,
-            rows-room (x .n) (length (x .transfers)) (transferRows (x .n) (length (x .transfers))) refl,
-          );
+          inside = λ e h.
+              let u : e < eventsOf (x .t) (x .n) = omega (arith, runs-long (x .t) (x .built) (x .n) (A .sized .builtIs)) in
+              omega (
+                arith,
+                run-first (x .built) (x .n) (eventsOf (x .t) (x .n)) (A .sized .builtIs) e u,
+                run-length (x .built) (x .n) (eventsOf (x .t) (x .n)) (A .sized .builtIs) e u,
+                A .placed .transfers e u,
+              );
         };
       }
 
@@ -108,9 +108,10 @@ module _ {x : Lent} {l : Lengths} (A : Admitted x l) where
 
 -- the transfers of the tables are these
 pub transferring : (n : QueryCounts) (t built transfers patterns : List ℕ) (d : List Float) (q : List ℕ) → Flagging n t built transfers patterns
-    → Transferring (tablesOf (lent n t built transfers patterns d q)) (n .timetable) (transferRuns built n) transfers
+    → Transferring (tablesOf (lent n t built transfers patterns d q)) (transferRuns built n) transfers
 transferring n t built transfers patterns d q F =
     record {
+      events = runs-long t built n (F .long);
       transfers = λ i o u v.
           let T = timetable t (n .timetable) in
           let e : eventsBefore T i + o < eventsBefore T (n .timetable .trips) = events-below T (n .timetable .trips) i o u v in
@@ -119,9 +120,12 @@ transferring n t built transfers patterns d q F =
           (sym (run-length built n (eventsBefore T (n .timetable .trips)) (F .long) (eventsBefore T i + o) e));
     }
 
-pub runs-in : {n : QueryCounts} {t built transfers patterns runs : List ℕ} → Flagging n t built transfers patterns → runs ≡ transferRuns built n
-    → RunsIn runs transfers (eventsBefore (timetable t (n .timetable)) (n .timetable .trips))
-runs-in {n} {t} {built} {transfers} F e = subst (λ (l : List ℕ). RunsIn l transfers (eventsBefore (timetable t (n .timetable)) (n .timetable .trips))) (sym e) (F .runs)
+pub runs-in : {n : QueryCounts} {t built transfers patterns runs : List ℕ} {rows : ℕ} → Flagging n t built transfers patterns → runs ≡ transferRuns built n
+    → rows ≡ transferRows n (length transfers) → RunsIn runs rows
+runs-in {n} {t} {built} {transfers} F e er = subst (RunsIn _) (sym er) (subst (λ (l : List ℕ). RunsIn l (transferRows n (length transfers))) (sym e) (F .runs))
+
+pub rows-in : {n : QueryCounts} {t built transfers patterns : List ℕ} {rows : ℕ} → Flagging n t built transfers patterns → rows ≡ transferRows n (length transfers) → RowsIn transfers rows
+rows-in {n} {t} {built} {transfers} F er = subst (RowsIn transfers) (sym er) (F .rows)
 
 -- the mode
 pub mode-rust : {rust r : Bool} (x : Lent) → rust ≡ true → r ≡ useArcFlags (tablesOf x) (queryOf x) → r ≡ modeBy rust x
@@ -130,5 +134,5 @@ mode-rust x e h = h ∙ ap (λ (b : Bool). modeBy b x) (sym e)
 pub mode-promise : {rust r : Bool} (x : Lent) → rust ≡ false → r ≡ flagsInUse (tablesOf x) (queryOf x) → r ≡ modeBy rust x
 mode-promise x e h = h ∙ ap (λ (b : Bool). modeBy b x) (sym e)
 
-pub ended : {x : Lent} {flagged mode : Bool} {room : ℕ} {lay lay′ : Lay} {b : Memory} → Ended x flagged room lay b → flagged ≡ mode → lay ≡ lay′ → Ended x mode room lay′ b
-ended {x} {flagged} {mode} {room} {lay} {lay′} {b} E ef el = subst (λ (y : Lay). Ended x mode room y b) el (subst (λ (f : Bool). Ended x f room lay b) ef E)
+pub ended : {x : Lent} {flagged : Bool} {room : ℕ} {lay lay′ : Lay} {b : Memory} (rust : Bool) → Ended x flagged room lay b → flagged ≡ modeBy rust x → lay ≡ lay′ → Ended x (modeBy rust x) room lay′ b
+ended {x} {flagged} {room} {lay} {lay′} {b} rust E ef el = subst (λ (y : Lay). Ended x (modeBy rust x) room y b) el (subst (λ (f : Bool). Ended x f room lay b) ef E)

@@ -34,11 +34,13 @@ fn in_use(
         return flags::use_arc_flags(n.patterns, net.target, off);
     }
     let runs = asking::transfer_runs(built, n);
+    let rows = asking::transfer_rows(n, transfers.len());
     flags::flags_in_use(
         t,
         n.timetable,
         runs,
         transfers,
+        rows,
         patterns,
         n.patterns,
         net.target,

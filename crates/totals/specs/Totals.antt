@@ -1,4 +1,5 @@
 -- The answer's numbers over a query's memory, and which states of a query agree with it. Definitions only.
+-- Inner: nobody has to believe this.
 use Prim.Native.Nat.{ℕ, zero, suc, _+_, _*_, _/_, _<_, _≤_}
 use mathlib.Core.Path.{_≡_}
 use mathlib.Core.Logic.{_⊎_}

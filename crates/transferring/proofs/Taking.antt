@@ -151,10 +151,10 @@ module _ (T : Tables) (Q : Query) (stamp v x : ℕ) where
 -- what a transfer resolves to is in the table, and early
 pub boards-in : (T : Tables) (Q : Query) (D : Door T Q) (t : List ℕ) (c : Counts) → T .timetable ≡ timetable t c → (e : Transfer) (after best trip off : ℕ) (b : Boarding) (f : Resolved)
     → f ≡ Trip trip b → resolvedOf f ≡ resolve T Q e after best → off ≡ e .offset → BoardedAt t c trip off (b .departure)
-boards-in T Q D t c u e after best trip off b f i r z = rw z (of (subst (Found T Q (e .offset)) (sym r ∙ ap resolvedOf i) (resolve-finds T Q e after best)))
+boards-in T Q D t c u e after best trip off b f i r z = rw z (of (subst (Found T Q (e .offset) after) (sym r ∙ ap resolvedOf i) (resolve-finds T Q e after best)))
   where
-    of : Found T Q (e .offset) (some (trip, b)) → BoardedAt t c trip (e .offset) (b .departure)
-    of (found g) =
+    of : Found T Q (e .offset) after (some (trip, b)) → BoardedAt t c trip (e .offset) (b .departure)
+    of (found g z) =
         record {
           trip-in = omega (arith, g .trip, ap (λ (z : Timetable). z .trips) u);
           offset-in = omega (arith, g .inside, ap (λ (z : Timetable). z .trip trip .count) u);

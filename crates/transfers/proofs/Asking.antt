@@ -12,14 +12,14 @@ use Rattle.door.specs.Door.{ask}
 use Rattle.door.proofs.Laws.{ask-later, ask-no, ask-on, ask-yes}
 use Rattle.tables.specs.declared.Counts.{Counts}
 use Rattle.tables.specs.Timetable.{timetable}
-use Rattle.tables.specs.Door.{countsOk, slicesOk, runsOk, numbersOk, rangesOk}
+use Rattle.tables.specs.Door.{countsOk, slicesOk, runsOk, numbersOk, rangesOk, orderOk}
 use Rattle.tables.specs.Sane.{CountsOk, SlicesOk, RunsOk}
 use Rattle.tables.proofs.Yes.{two, counts-yes, slices-yes, runs-yes, sane}
 use Rattle.departures.specs.Listed.{RunsListed, listedOk, stopRunsOk}
 use Rattle.departures.proofs.Yes.{rows-listed, runs-listed}
 use Rattle.transfers.specs.declared.Built.the-variants.{Refused}
 use Rattle.line_transfers.specs.Transfers.{eventsBefore}
-use Rattle.transfers.specs.Call.{Admitted, Areas, Lent, LinesBelow, inputOf, linesOk, outcome, outcomeOf, question1, question2, question3, question4, question5, settle, settled, sizesOk, verdict}
+use Rattle.transfers.specs.Call.{Admitted, Areas, Lent, LinesBelow, inputOf, linesOk, outcome, outcomeOf, question1, question2, question3, question4, question5, question6, settle, settled, sizesOk, verdict}
 
 -- a test that is asked only where the one before it is yes
 pub lent-no : {a r : Bool} (b : Bool) → r ≡ a → r ≡ false → false ≡ a && b
@@ -76,6 +76,10 @@ pub answer5 : (x : Lent) {a b r z : Bool} → r ≡ a && b → a ≡ rangesOk (x
 unfolding question5
 answer5 x p q s e = sym (ap₂ _&&_ q s) ∙ sym p ∙ e
 
+pub answer6 : (x : Lent) {r z : Bool} → r ≡ orderOk (x .t) (x .c) → r ≡ z → question6 x ≡ z
+unfolding question6
+answer6 x p e = sym p ∙ e
+
 -- the verdict
 pub no1 : (x : Lent) (n : ℕ) → question1 x ≡ false → 1 ≡ verdict x n
 unfolding verdict
@@ -95,11 +99,15 @@ no4 x n a b c e = ask-on 1 (question1 x) a (ask-on 2 (question2 x n) b (ask-on 3
 
 pub no5 : (x : Lent) (n : ℕ) → question1 x ≡ true → question2 x n ≡ true → question3 x ≡ true → question4 x ≡ true → question5 x ≡ false → 5 ≡ verdict x n
 unfolding verdict
-no5 x n a b c d e = ask-on 1 (question1 x) a (ask-on 2 (question2 x n) b (ask-on 3 (question3 x) c (ask-on 4 (question4 x) d (ask-no 5 (question5 x) 0 e))))
+no5 x n a b c d e = ask-on 1 (question1 x) a (ask-on 2 (question2 x n) b (ask-on 3 (question3 x) c (ask-on 4 (question4 x) d (ask-no 5 (question5 x) _ e))))
 
-pub yes : (x : Lent) (n : ℕ) → question1 x ≡ true → question2 x n ≡ true → question3 x ≡ true → question4 x ≡ true → question5 x ≡ true → 0 ≡ verdict x n
+pub no6 : (x : Lent) (n : ℕ) → question1 x ≡ true → question2 x n ≡ true → question3 x ≡ true → question4 x ≡ true → question5 x ≡ true → question6 x ≡ false → 6 ≡ verdict x n
 unfolding verdict
-yes x n a b c d e = ask-on 1 (question1 x) a (ask-on 2 (question2 x n) b (ask-on 3 (question3 x) c (ask-on 4 (question4 x) d (ask-on 5 (question5 x) e refl))))
+no6 x n a b c d f e = ask-on 1 (question1 x) a (ask-on 2 (question2 x n) b (ask-on 3 (question3 x) c (ask-on 4 (question4 x) d (ask-on 5 (question5 x) f (ask-no 6 (question6 x) _ e)))))
+
+pub yes : (x : Lent) (n : ℕ) → question1 x ≡ true → question2 x n ≡ true → question3 x ≡ true → question4 x ≡ true → question5 x ≡ true → question6 x ≡ true → 0 ≡ verdict x n
+unfolding verdict
+yes x n a b c d f e = ask-on 1 (question1 x) a (ask-on 2 (question2 x n) b (ask-on 3 (question3 x) c (ask-on 4 (question4 x) d (ask-on 5 (question5 x) f (ask-on 6 (question6 x) e refl)))))
 
 -- question by question, what a yes gives
 pub record First (x : Lent) : Type 0 where
@@ -155,7 +163,8 @@ admitted x n h =
     let q3 = question3 x in
     let q2 = question2 x n in
     let q1 = question1 x in
-    let l5 = ask 5 q5 0 in
+    let l6 = ask 6 (question6 x) 0 in
+    let l5 = ask 5 q5 l6 in
     let l4 = ask 4 q4 l5 in
     let l3 = ask 3 q3 l4 in
     let l2 = ask 2 q2 l3 in
@@ -167,7 +176,7 @@ admitted x n h =
     let y2 = ask-yes 1 q2 l3 h2 in
     let y3 = ask-yes 2 q3 l4 h3 in
     let y4 = ask-yes 3 q4 l5 h4 in
-    let y5 = ask-yes 4 q5 0 h5 in
+    let y5 = ask-yes 4 q5 l6 h5 in
     let f = first x y1 in
     let s = second x n y2 in
     let t = third x n y1 y2 y3 in

@@ -11,10 +11,10 @@ use Rattle.sorts.specs.Sort.{insertBy, sortBy}
 use Rattle.sorts.specs.Orders.{keep}
 use Rattle.tables.specs.declared.Counts.{Counts}
 use Rattle.tables.specs.Tables.{edgeOf, timeOf, tripOf, windowOf}
-use Rattle.tables.specs.Door.{countsOk, edgeNumbers, edgeRanges, numbersOk, rangesOk, runsOk, slicesOk, stopTimeNumbers, stopTimeRanges, tripRanges, tripRuns, windowRanges}
+use Rattle.tables.specs.Door.{countsOk, edgeNumbers, edgeRanges, edgeRises, numbersOk, orderOk, rangesOk, runsOk, slicesOk, stopTimeNumbers, stopTimeRanges, tripRanges, tripRuns, windowRanges}
 use Rattle.departures.specs.Listed.{atStopsOk, listedOk, rowAtStop, rowNumbers, rowsOk, runIn, stopRowsOk, stopRunsOk}
 use Rattle.line_transfers.specs.Transfers.{departuresOfLine, eventsBefore, eventsOf, firstNotBefore, runsFrom, transferTo, transfersOf, wordsOf}
-use Rattle.transfers.specs.Call.{Lent, answerOf, areaWith, areas, lent, linesOk, outcome, question1, question2, question3, question4, question5, roomOk, settled, sizesOk, verdict}
+use Rattle.transfers.specs.Call.{Lent, answerOf, areaWith, areas, lent, linesOk, outcome, question1, question2, question3, question4, question5, question6, roomOk, settled, sizesOk, verdict}
 
 -- two lists of numbers are the same
 same : List ℕ → List ℕ → Bool
@@ -87,6 +87,17 @@ L = lent tableL (record { stops = 2; trips = 3; times = 6; windows = 0; edges = 
 oneLine : Lent
 oneLine = lent tableL (record { stops = 2; trips = 3; times = 6; windows = 0; edges = 0 }) 1 (0 ∷ 0 ∷ 0 ∷ []) 3 (0 ∷ 0 ∷ 0 ∷ 3 ∷ []) (2 ∷ 1 ∷ 1 ∷ 1 ∷ 0 ∷ 1 ∷ []) 121
 
+-- one trip from stop 0 to stop 1, and two walk edges, from stop 1 to 0, then from stop 0 to 1
+tableW : List ℕ
+tableW =
+    0 ∷ 100 ∷ 100 ∷ 0 ∷ 0 ∷ 0 ∷ 1 ∷ 200 ∷ 200 ∷ 1 ∷ 0 ∷ 0
+    ∷ 0 ∷ 2 ∷ 0 ∷ 0 ∷ 0 ∷ 0 ∷ 1 ∷ 0
+    ∷ 1 ∷ 0 ∷ 60 ∷ 0 ∷ 0 ∷ 0 ∷ 1 ∷ 70 ∷ 0 ∷ 0
+    ∷ 0 ∷ 0 ∷ []
+
+walked : Lent
+walked = lent tableW (record { stops = 2; trips = 1; times = 2; windows = 0; edges = 2 }) 1 (0 ∷ []) 1 (0 ∷ 1 ∷ 1 ∷ 0 ∷ []) (0 ∷ 0 ∷ []) 120
+
 twelve : List ℕ
 twelve = 9 ∷ 9 ∷ 9 ∷ 9 ∷ 9 ∷ 9 ∷ 9 ∷ 9 ∷ 9 ∷ 9 ∷ 9 ∷ 9 ∷ []
 
@@ -99,6 +110,7 @@ cases =
     ∷ record { given = K 320 0 120; area = 9 ∷ 9 ∷ 9 ∷ []; transferRuns = nines; code = 7; value = 0; areaOut = 9 ∷ 9 ∷ 9 ∷ []; runsOut = nines }
     ∷ record { given = K 320 0 3601; area = 9 ∷ []; transferRuns = nines; code = 5; value = 0; areaOut = 9 ∷ []; runsOut = nines }
     ∷ record { given = K 320 0 120; area = 9 ∷ []; transferRuns = 9 ∷ []; code = 2; value = 0; areaOut = 9 ∷ []; runsOut = 9 ∷ [] }
+    ∷ record { given = walked; area = 9 ∷ []; transferRuns = 9 ∷ 9 ∷ 9 ∷ 9 ∷ []; code = 6; value = 0; areaOut = 9 ∷ []; runsOut = 9 ∷ 9 ∷ 9 ∷ 9 ∷ [] }
     ∷ record {
       given = L;
       area = nines;
@@ -120,5 +132,5 @@ cases =
     ∷ []
 
 pub cases-right : all cases ≡ true
-unfolding countsOk slicesOk runsOk numbersOk rangesOk tripRuns stopTimeNumbers edgeNumbers stopTimeRanges tripRanges windowRanges edgeRanges timeOf tripOf windowOf edgeOf every tabFrom insertBy sortBy keep flatten stopRunsOk runIn listedOk rowsOk rowNumbers atStopsOk stopRowsOk rowAtStop departuresOfLine firstNotBefore transferTo transfersOf eventsOf eventsBefore wordsOf runsFrom sizesOk linesOk question1 question2 question3 question4 question5 verdict roomOk areaWith settled all cases right K countsK tableK nines same oneRun noRuns L tableL twelve oneLine
+unfolding countsOk slicesOk runsOk numbersOk rangesOk orderOk edgeRises tripRuns stopTimeNumbers edgeNumbers stopTimeRanges tripRanges windowRanges edgeRanges timeOf tripOf windowOf edgeOf every tabFrom insertBy sortBy keep flatten stopRunsOk runIn listedOk rowsOk rowNumbers atStopsOk stopRowsOk rowAtStop departuresOfLine firstNotBefore transferTo transfersOf eventsOf eventsBefore wordsOf runsFrom sizesOk linesOk question1 question2 question3 question4 question5 question6 verdict roomOk areaWith settled all cases right K countsK tableK nines same oneRun noRuns L tableL twelve oneLine walked tableW
 cases-right = refl

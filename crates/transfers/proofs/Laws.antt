@@ -229,7 +229,7 @@ run-rows {A} (l ∷ ls) (suc e) h =
     ∙ ap (take (length (getD ls e []))) (drop-append-add l (flatten ls) (length (flatten (take e ls))))
     ∙ run-rows ls e (omega arith)
 
-run-inside : {A : Type 0} (ls : List (List A)) (e : ℕ) → e < length ls → length (flatten (take e ls)) + length (getD ls e []) ≤ length (flatten ls)
+pub run-inside : {A : Type 0} (ls : List (List A)) (e : ℕ) → e < length ls → length (flatten (take e ls)) + length (getD ls e []) ≤ length (flatten ls)
 unfolding flatten
 run-inside [] e h = absurd (omega arith)
 run-inside (l ∷ ls) zero h = omega (arith, length-append l (flatten ls))

@@ -10,7 +10,7 @@ use Rattle.door.specs.declared.Answer.{Answer}
 use Rattle.door.specs.Door.{ask, refusal, success}
 use Rattle.tables.specs.declared.Counts.{Counts}
 use Rattle.tables.specs.Timetable.{timetable}
-use Rattle.tables.specs.Door.{countsOk, slicesOk, runsOk, numbersOk, rangesOk}
+use Rattle.tables.specs.Door.{countsOk, slicesOk, runsOk, numbersOk, rangesOk, orderOk}
 use Rattle.tables.specs.Sane.{Sane}
 use Rattle.departures.specs.Departures.{listedAt}
 use Rattle.departures.specs.Listed.{stopRunsOk, listedOk, RowsListed}
@@ -81,9 +81,19 @@ question4 x = numbersOk (x .t) (x .c) && (linesOk (x .lines) (x .c .trips) (x .l
 unfoldable pub question5 : Lent → Bool
 question5 x = rangesOk (x .t) (x .c) && leb (x .time) 3600
 
--- the number of the first that is answered no, or 0
+-- 6: are the walk edges in order of from-stop? (The departures may come in any order.)
+unfoldable pub question6 : Lent → Bool
+question6 x = orderOk (x .t) (x .c)
+
+-- the number of the first of 1 to 6 that is answered no, or 0
 unfoldable pub verdict : Lent → ℕ → ℕ
-verdict x transferRuns = ask 1 (question1 x) (ask 2 (question2 x transferRuns) (ask 3 (question3 x) (ask 4 (question4 x) (ask 5 (question5 x) 0))))
+verdict x transferRuns =
+    ask 1 (question1 x)
+    (ask 2 (question2 x transferRuns)
+    (ask 3 (question3 x)
+    (ask 4 (question4 x)
+    (ask 5 (question5 x)
+    (ask 6 (question6 x) 0)))))
 
 -- 7: are there at most 65,536, and does the area hold all of them?
 unfoldable pub roomOk : ℕ → ℕ → Bool
@@ -117,7 +127,7 @@ settle (suc n) x s = outcomeOf (Refused (suc n)) s
 abbrev pub outcome : Lent → Areas → Outcome
 outcome x s = settle (verdict x (length (s .transferRuns))) (inputOf x) s
 
--- what the questions 1 to 5 give where all are answered yes
+-- what the questions 1 to 6 give where all are answered yes
 pub record LinesBelow (lines : List ℕ) (trips lineCount : ℕ) : Type 0 where
   pub size : length lines ≡ trips
   pub few : lineCount ≤ 4096

@@ -1,4 +1,5 @@
 -- What the call answers and writes, said of the numbers that the code sorts. Inner: the call's outcome does not speak of it. Definitions only.
+-- Inner: nobody has to believe this.
 use Prim.Native.Nat.{min}
 use mathlib.Core.Bool.{cond}
 use mathlib.Core.List.{flatten}

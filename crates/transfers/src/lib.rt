@@ -161,7 +161,7 @@ fn lines_ok(lines: &[u32], line_count: usize) -> bool
     true
 }
 
-// The questions 1 to 5: the number of the first that is answered no, or 0.
+// The questions 1 to 6: the number of the first that is answered no, or 0.
 fn questions(
     t: &[u32],
     c: Counts,
@@ -198,6 +198,9 @@ fn questions(
     }
     if !door::both(tables::ranges_ok(t, c), time <= 3600) {
         return 5;
+    }
+    if !tables::order_ok(t, c) {
+        return 6;
     }
     0
 }

@@ -5,8 +5,9 @@ use lib.Dec.{leb, eqb}
 use Rattle.door.specs.Door.{ask, answer, timeLimit}
 use Rattle.door.specs.declared.Answer.{Answer}
 
--- pathway_mode of GTFS pathways.txt: 1 walkway, 2 stairs, 3 moving sidewalk, 4 escalator, 5 elevator, 6 fare gate,
--- 7 exit gate. A walk edge that is no pathway has 0.
+-- The fields of GTFS pathways.txt, in our words: `pathway_mode` says what a pathway is: 1 walkway, 2 stairs, 3 moving sidewalk, 4 escalator,
+-- 5 elevator, 6 fare gate, 7 exit gate; `traversal_time` is the seconds that it takes on average. A walk edge that is no pathway has mode 0.
+-- GTFS does not say how a wheelchair passes stairs or an escalator; document 01 does (docs/DIFFERENCES.md 9).
 abbrev pub stairs : ℕ
 stairs = 2
 

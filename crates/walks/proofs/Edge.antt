@@ -16,7 +16,7 @@ use Rattle.tables.specs.Tables.{edgeAt}
 use Rattle.tables.specs.Timetable.{Timetable, timetable}
 use Rattle.model.specs.Tables.{Tables, Query, edgeTo, walkTime}
 use Rattle.model.specs.Search.{Arrivals, targetCells, holdsTarget, relax, walkFrom}
-use Rattle.flags.specs.Flags.{Patterned}
+use Rattle.flags.specs.Skipping.{Patterned}
 use Rattle.scratch.specs.declared.Lay.{Lay}
 use Rattle.scratch.specs.declared.Head.{Head}
 use Rattle.scratch.specs.Places.{EgressTable, Same}

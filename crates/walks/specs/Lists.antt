@@ -1,4 +1,5 @@
 -- The two lists of reached stops in the walk phase: the ride phase's is read, the other one is filled. Definitions only.
+-- Inner: nobody has to believe this.
 use Prim.Native.Nat.{ℕ, suc, _+_, _≤_, _<_}
 use mathlib.Core.Path.{_≡_}
 use mathlib.Core.Bool.{Bool}

@@ -1,4 +1,5 @@
 -- What the walks of a round read, and which tables and queries agree with it. Definitions only.
+-- Inner: nobody has to believe this.
 use Prim.Native.Nat.{ℕ, zero, suc, _*_, _≤_, _<_}
 use mathlib.Core.Path.{_≡_}
 use mathlib.Core.Bool.{true, false}
@@ -10,7 +11,7 @@ use Rattle.tables.specs.Timetable.{timetable}
 use Rattle.tables.specs.Sane.{Sane, OrderOk}
 use Rattle.model.specs.Tables.{Tables, Query}
 use Rattle.model.specs.Search.{targetCells}
-use Rattle.flags.specs.Flags.{Patterned}
+use Rattle.flags.specs.Skipping.{Patterned}
 use Rattle.scratch.specs.declared.Lay.{Lay}
 use Rattle.scratch.specs.Places.{EgressTable}
 use Rattle.walks.specs.declared.Rules.{Rules}

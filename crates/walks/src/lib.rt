@@ -19,7 +19,7 @@ ghost use Rattle.scratch.specs.Places.{Sized, turned, Falls};
 ghost use Rattle.scratch.specs.View.{memory};
 ghost use Rattle.scratch.specs.Step.{Ready, Step};
 ghost use Rattle.walks.specs.Walking.{WalkGround, WalksAgree};
-ghost use Rattle.flags.specs.Flags.{Patterned, PatternsOk};
+ghost use Rattle.flags.specs.Skipping.{Patterned, PatternsOk};
 ghost use Rattle.walks.specs.Lists.{StopsListed, bearing, Appended, Phase};
 use cell_bitset::CellBitSet;
 use label::Label;

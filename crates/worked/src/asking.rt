@@ -1,5 +1,6 @@
 // A query put to the compiled call, and its answer printed.
 use crate::legs::arrival;
+use crate::legs::joined;
 use crate::legs::label_at;
 use crate::legs::legs;
 use crate::words::at;
@@ -22,10 +23,12 @@ fn egress(total: u32, stop: u32, reached: u32) {
     tell(b"walk # s from stop #\n", &[total - reached, stop]);
 }
 
+// The total, and the legs where they join.
 fn candidate(
     k: u32,
     s: QuerySizes,
     tables: &[u32],
+    query: &[u32],
     candidates: &[u32],
     labels: &[u32],
     distances: &[f64],
@@ -38,15 +41,21 @@ fn candidate(
         b"  candidate of row #, at stop #, @:\n    ",
         &[row, stop, total],
     );
-    legs(26, s, tables, labels, distances, stop, row);
-    let l = label_at(s.stops, stop, row, labels, distances);
-    egress(total, stop, arrival(l));
+    if joined(s, tables, query, labels, distances, stop, row) {
+        legs(27, s, tables, query, labels, distances, stop, row);
+        let found = label_at(s.stops, stop, row, labels, distances);
+        let l = found.label;
+        egress(total, stop, arrival(l));
+        return;
+    }
+    say(b"no card\n");
 }
 
 fn show(
     reply: Reply,
     s: QuerySizes,
     tables: &[u32],
+    query: &[u32],
     candidates: &[u32],
     labels: &[u32],
     distances: &[f64],
@@ -62,7 +71,7 @@ fn show(
     tell(b"  best @ at stop #\n", &[reply.total, reply.stop]);
     let mut k: u32 = 0;
     while k < reply.candidates {
-        candidate(k, s, tables, candidates, labels, distances);
+        candidate(k, s, tables, query, candidates, labels, distances);
         k += 1;
     }
 }
@@ -97,7 +106,15 @@ fn ask_in(
         &mut queue_b,
         &mut candidates,
     );
-    show(reply, s, tables, &candidates, labels, label_distances);
+    show(
+        reply,
+        s,
+        tables,
+        query,
+        &candidates,
+        labels,
+        label_distances,
+    );
 }
 
 // Asks and prints. Room for 12 stops and 384 numbers of workspace.

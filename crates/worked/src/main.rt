@@ -1,11 +1,12 @@
 // worked: the program behind ./run. By the exported calls alone it answers the worked examples of document 01's leaves,
-// builds and asks Timetable K (k) and a larger timetable (town), and prints the answers with their legs for a person to
-// read; the gate holds what it prints to the file `stdout`.
+// builds and asks Timetable K (k), a second one (second) and a larger one (town), and prints the answers with their legs for a
+// person to read; the gate holds what it prints to the file `stdout`.
 // Proves: that it is safe and ends. Assumes the contracts of the kit's io and libc.
 mod asking;
 mod building;
 mod k;
 mod legs;
+mod second;
 mod town;
 mod words;
 
@@ -113,5 +114,6 @@ fn main() {
     cells();
     clocks();
     k::run();
+    second::run();
     town::run();
 }

@@ -20,7 +20,7 @@ skips-transfer-requires : tie.Need-skips-transfer-requires
 skips-transfer-requires c κs = search needs
 
 returns-3 : tie.Need-returns-3
-returns-3 c = λ T Q e g h et eo. by-transfer T Q (c .before .before .before .before .use-arc-flags .ensures T Q (g .size) eo et) (not-false _ (c .before .before .before .if1 .left)) (c .before .before .skips-edge .ensures T Q e g et) (c .before .if2 .left) (c .skips-transfer .ensures T Q e g h et)
+returns-3 c = λ T Q e g h et eo. by-transfer T Q (c .before .before .before .before .use-arc-flags .ensures T Q (g .size) eo et) (not-false _ (c .before .before .before .if1 .left)) (c .before .before .skips-edge .ensures T Q e g et) (c .before .if2 .left) (c .skips-transfer .ensures T Q g h et)
 
 pub flags-in-use-spec : {M : Type 1} → statement M
 flags-in-use-spec =

@@ -1,5 +1,5 @@
 use Rattle.flags.proofs.Laws.{skipsAt, skips-first, skips-at, some-yes, some-again, some-left}
-use Rattle.flags.specs.Flags.{Patterned}
+use Rattle.flags.specs.Skipping.{Patterned}
 use Rattle.model.specs.Search.{targetCells, skipsEdge}
 use Rattle.model.specs.Tables.{Tables, Query}
 use Rattle.tables.specs.Timetable.{timetable}

@@ -1,5 +1,5 @@
 use borrow.Author.Needs.{needs}
-use borrow.Author.Tests.{le-leb, le-ltb, lt-leb, lt-ltb, not-false, not-true}
+use borrow.Author.Tests.{le-leb, lt-leb, not-false, not-true}
 use mathlib.Core.Path.{_∙_, sym}
 use native.Mathlib.Omega.{arith}
 use Rattle.label_calls.specs.Calls.{placeCode}
@@ -19,15 +19,15 @@ returns-2 c = simp (le-leb (c .before .before .before .args .stops) 4096 (omega 
 
 returns-3 : tie.Need-returns-3
 unfolding placeCode
-returns-3 c = simp (le-leb (c .before .before .before .before .args .stops) 4096 (omega arith), sym (c .before .before .lengths-right .ensures) ∙ not-false _ (c .before .if2 .left), le-ltb (c .before .before .before .before .args .stop) (c .before .before .before .before .args .stops) (omega arith))
+returns-3 c = simp (le-leb (c .before .before .before .before .args .stops) 4096 (omega arith), sym (c .before .before .lengths-right .ensures) ∙ not-false _ (c .before .if2 .left), not-true (c .before .before .before .before .args .below) (c .if3 .taken))
 
 returns-4 : tie.Need-returns-4
 unfolding placeCode
-returns-4 c = simp (le-leb (c .before .before .before .before .before .args .stops) 4096 (omega arith), sym (c .before .before .before .lengths-right .ensures) ∙ not-false _ (c .before .before .if2 .left), lt-ltb (c .before .before .before .before .before .args .stop) (c .before .before .before .before .before .args .stops) (omega arith), lt-leb (c .before .before .before .before .before .args .row) 12 (omega arith))
+returns-4 c = simp (le-leb (c .before .before .before .before .before .args .stops) 4096 (omega arith), sym (c .before .before .before .lengths-right .ensures) ∙ not-false _ (c .before .before .if2 .left), not-false (c .before .before .before .before .before .args .below) (c .before .if3 .left), lt-leb (c .before .before .before .before .before .args .row) 12 (omega arith))
 
 returns-5 : tie.Need-returns-5
 unfolding placeCode
-returns-5 c = simp (le-leb (c .before .before .before .before .before .args .stops) 4096 (omega arith), sym (c .before .before .before .lengths-right .ensures) ∙ not-false _ (c .before .before .if2 .left), lt-ltb (c .before .before .before .before .before .args .stop) (c .before .before .before .before .before .args .stops) (omega arith), le-leb (c .before .before .before .before .before .args .row) 12 (omega arith))
+returns-5 c = simp (le-leb (c .before .before .before .before .before .args .stops) 4096 (omega arith), sym (c .before .before .before .lengths-right .ensures) ∙ not-false _ (c .before .before .if2 .left), not-false (c .before .before .before .before .before .args .below) (c .before .if3 .left), le-leb (c .before .before .before .before .before .args .row) 12 (omega arith))
 
 pub place-spec : {M : Type 1} → statement M
 place-spec =

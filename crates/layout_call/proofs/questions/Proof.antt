@@ -5,7 +5,7 @@ use lib.ListN.{length}
 use lib.Dec.{leb}
 use Rattle.line_layout.specs.Listed.{entriesOk, lineRunsOk}
 use Rattle.tables.specs.Door.{countsOk, numbersOk, rangesOk, runsOk, slicesOk}
-use Rattle.tables.proofs.Yes.{second-no, two}
+use Rattle.tables.proofs.Yes.{Two, second-no, two}
 use Rattle.door.proofs.Laws.{ask-no, ask-on}
 use mathlib.Core.Path.{_∙_, _≡_, ap₂, refl, sym}
 use mathlib.Core.Bool.{Bool, _&&_, true}
@@ -51,8 +51,8 @@ sizes c = sizes-yes _ _ _ _ _ _ _ _ (q2 c)
 q3 : (c : tie.Else3) → asked3 (c .before .before .before .before .before .before .before .before .before .before .before .before .before .before .before) ≡ true
 q3 c = found-yes (c .before .both4 .ensures) (c .before .before .before .runs-ok .ensures) (c .before .before .line-runs-ok .ensures) (c .if3 .left)
 
-q4 : (c : tie.Else5) → asked4 (c .before .before .before .before .before .before .before .before .before .before .before .before .before .before .before .before .before .before .before .before .before .before) ≡ true
-q4 c = found-yes (c .before .both6 .ensures) (c .before .before .numbers-ok .ensures) (c .before .before .before .before .before .before .entries-ok .ensures) (c .if5 .left)
+q4 : (c : tie.Else6) → asked4 (c .before .before .before .before .before .before .before .before .before .before .before .before .before .before .before .before .before .before .before .before .before .before) ≡ true
+q4 c = found-yes (c .before .both6 .ensures) (c .before .before .numbers-ok .ensures) (c .before .before .before .before .before .before .entries-ok .ensures) (c .if6 .left)
 
 counts-ok-requires : tie.Need-counts-ok-requires
 counts-ok-requires c κs = search needs
@@ -102,15 +102,42 @@ rows-ok-requires c κs = ((limits (c .before .before .before .before .before .be
 both-requires-5 : tie.Need-both-requires-5
 both-requires-5 c κs = search needs
 
-returns-4 : tie.Need-returns-4
-unfolding verdict
-returns-4 c =
+abbrev rowsYes : tie.Start → Type 0
+rowsYes s = Two (asked4 s) (asked5 s)
+
+rows-yes : (c : tie.Then4) → rowsYes (c .before .before .before .before .before .before .before .before .before .before .before .before .before .before .before .before .before .before .before)
+rows-yes c =
     let s = c .before .before .before .before .before .before .before .before .before .before .before .before .before .before .before .before .before .before .before in
     let n = numbersOk (now (s .args .t)) (s .args .c) in
     let e = entriesOk (s .args .c) (now (s .args .entries)) (s .args .n) in
     let x = two e (n && asked5 s) (sym (c .before .both5 .ensures ∙ ap₂ _&&_ (c .before .before .before .entries-ok .ensures) (c .before .before .rows-ok .ensures)) ∙ c .if4 .taken) in
     let y = two n (asked5 s) (x .two) in
-    ask-on 1 _ (q1 (c .before .before .before .before .before .before .before .before .before .before .before .before)) (ask-on 2 _ (q2 (c .before .before .before .before .before .before .before .before)) (ask-on 3 _ (q3 (c .before .before .before .before)) (ask-on 4 _ (ap₂ _&&_ (y .one) (x .one)) (ask-on 5 _ (y .two) refl))))
+    record { one = ap₂ _&&_ (y .one) (x .one); two = y .two }
+
+order-ok-requires : tie.Need-order-ok-requires
+order-ok-requires c κs = ((limits (c .before .before .before .before .before .before .before .before .before .before .before .before)) .counts, (sizes (c .before .before .before .before .before .before .before .before)) .slices)
+
+returns-4 : tie.Need-returns-4
+unfolding verdict
+returns-4 c =
+    let e = rows-yes (c .before .before) in
+    ask-on 1 _ (q1 (c .before .before .before .before .before .before .before .before .before .before .before .before .before .before))
+    (ask-on 2 _ (q2 (c .before .before .before .before .before .before .before .before .before .before))
+    (ask-on 3 _ (q3 (c .before .before .before .before .before .before))
+    (ask-on 4 _ (e .one)
+    (ask-on 5 _ (e .two)
+    (ask-on 6 _ (sym (c .before .order-ok .ensures) ∙ c .if5 .taken) refl)))))
+
+returns-5 : tie.Need-returns-5
+unfolding verdict
+returns-5 c =
+    let e = rows-yes (c .before .before) in
+    ask-on 1 _ (q1 (c .before .before .before .before .before .before .before .before .before .before .before .before .before .before))
+    (ask-on 2 _ (q2 (c .before .before .before .before .before .before .before .before .before .before))
+    (ask-on 3 _ (q3 (c .before .before .before .before .before .before))
+    (ask-on 4 _ (e .one)
+    (ask-on 5 _ (e .two)
+    (ask-no 6 _ _ (sym (c .before .order-ok .ensures) ∙ c .if5 .left))))))
 
 numbers-ok-requires : tie.Need-numbers-ok-requires
 numbers-ok-requires c κs = ((limits (c .before .before .before .before .before .before .before .before .before .before .before .before)) .counts, (sizes (c .before .before .before .before .before .before .before .before)) .slices)
@@ -118,19 +145,27 @@ numbers-ok-requires c κs = ((limits (c .before .before .before .before .before 
 both-requires-6 : tie.Need-both-requires-6
 both-requires-6 c κs = search needs
 
-returns-5 : tie.Need-returns-5
-unfolding verdict
-returns-5 c = ask-on 1 _ (q1 (c .before .before .before .before .before .before .before .before .before .before .before .before .before .before .before)) (ask-on 2 _ (q2 (c .before .before .before .before .before .before .before .before .before .before .before)) (ask-on 3 _ (q3 (c .before .before .before .before .before .before .before)) (ask-no 4 _ _ (found-no (c .before .both6 .ensures) (c .before .before .numbers-ok .ensures) (c .before .before .before .before .before .before .entries-ok .ensures) (c .if5 .taken)))))
-
 returns-6 : tie.Need-returns-6
 unfolding verdict
 returns-6 c =
+    ask-on 1 _ (q1 (c .before .before .before .before .before .before .before .before .before .before .before .before .before .before .before))
+    (ask-on 2 _ (q2 (c .before .before .before .before .before .before .before .before .before .before .before))
+    (ask-on 3 _ (q3 (c .before .before .before .before .before .before .before))
+    (ask-no 4 _ _ (found-no (c .before .both6 .ensures) (c .before .before .numbers-ok .ensures) (c .before .before .before .before .before .before .entries-ok .ensures) (c .if6 .taken)))))
+
+returns-7 : tie.Need-returns-7
+unfolding verdict
+returns-7 c =
     let s = c .before .before .before .before .before .before .before .before .before .before .before .before .before .before .before .before .before .before .before .before .before .before in
     let n = numbersOk (now (s .args .t)) (s .args .c) in
     let e = entriesOk (s .args .c) (now (s .args .entries)) (s .args .n) in
     let x = two n e (q4 c) in
     let y = second-no e (n && asked5 s) (sym (c .before .before .before .before .both5 .ensures ∙ ap₂ _&&_ (c .before .before .before .before .before .before .entries-ok .ensures) (c .before .before .before .before .before .rows-ok .ensures)) ∙ c .before .before .before .if4 .left) (x .two) in
-    ask-on 1 _ (q1 (c .before .before .before .before .before .before .before .before .before .before .before .before .before .before .before)) (ask-on 2 _ (q2 (c .before .before .before .before .before .before .before .before .before .before .before)) (ask-on 3 _ (q3 (c .before .before .before .before .before .before .before)) (ask-on 4 _ (q4 c) (ask-no 5 _ _ (second-no n (asked5 s) y (x .one))))))
+    ask-on 1 _ (q1 (c .before .before .before .before .before .before .before .before .before .before .before .before .before .before .before))
+    (ask-on 2 _ (q2 (c .before .before .before .before .before .before .before .before .before .before .before))
+    (ask-on 3 _ (q3 (c .before .before .before .before .before .before .before))
+    (ask-on 4 _ (q4 c)
+    (ask-no 5 _ _ (second-no n (asked5 s) y (x .one))))))
 
 pub questions-spec : {M : Type 1} → statement M
 questions-spec =
@@ -151,8 +186,10 @@ questions-spec =
     entries-ok-requires
     rows-ok-requires
     both-requires-5
+    order-ok-requires
     returns-4
+    returns-5
     numbers-ok-requires
     both-requires-6
-    returns-5
-    returns-6)
+    returns-6
+    returns-7)

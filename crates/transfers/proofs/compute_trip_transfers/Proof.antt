@@ -4,6 +4,7 @@ use denote.Ref.{now}
 use Rattle.transfers.specs.Call.{lent, areas}
 use Rattle.line_transfers.proofs.Lists.{repeat-room}
 use Rattle.transfers.proofs.Asking.{admitted, answered, refused}
+use native.Mathlib.Omega.{arith}
 use borrow.Author.Needs.{needs}
 use Rattle.transfers.proofs.compute_trip_transfers.Statement.{statement}
 use Rattle.transfers.proofs.compute_trip_transfers.Tie as tie
@@ -12,7 +13,7 @@ questions-requires : tie.Need-questions-requires
 questions-requires c κs = search needs
 
 returns : tie.Need-returns
-returns c = refused (lent (now (c .before .before .before .before .before .before .before .before .args .t)) (c .before .before .before .before .before .before .before .before .args .c) (c .before .before .before .before .before .before .before .before .args .line-count) (now (c .before .before .before .before .before .before .before .before .args .lines)) (c .before .before .before .before .before .before .before .before .args .d) (now (c .before .before .before .before .before .before .before .before .args .runs)) (now (c .before .before .before .before .before .before .before .before .args .rows)) (c .before .before .before .before .before .before .before .before .args .transfer-time)) (areas (now (c .before .before .before .before .before .before .before .before .args .area)) (now (c .before .before .before .before .before .before .before .before .args .transfer-runs))) (c .before .questions .result) (c .before .questions .ensures) (c .if1 .taken)
+returns c = refused (lent (now (c .before .before .before .before .before .before .before .before .args .t)) (c .before .before .before .before .before .before .before .before .args .c) (c .before .before .before .before .before .before .before .before .args .line-count) (now (c .before .before .before .before .before .before .before .before .args .lines)) (c .before .before .before .before .before .before .before .before .args .d) (now (c .before .before .before .before .before .before .before .before .args .runs)) (now (c .before .before .before .before .before .before .before .before .args .rows)) (c .before .before .before .before .before .before .before .before .args .transfer-time)) (areas (now (c .before .before .before .before .before .before .before .before .args .area)) (now (c .before .before .before .before .before .before .before .before .args .transfer-runs))) (c .before .questions .result) (c .before .questions .ensures) (λ z. omega (arith, z, c .if1 .taken))
 
 slice-aggregate-build : tie.Need-slice-aggregate-build
 slice-aggregate-build c = search needs

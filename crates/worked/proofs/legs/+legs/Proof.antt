@@ -9,19 +9,18 @@ use Rattle.worked.proofs.legs.+legs.Lts-legs as legs-lts
 use Rattle.worked.proofs.legs.access.Reads as access-reads
 use Rattle.worked.proofs.legs.label_at.Reads as label-at-reads
 use Rattle.worked.proofs.legs.leg.Reads as leg-reads
-use Rattle.worked.proofs.legs.row_before.Reads as row-before-reads
 use Rattle.worked.proofs.legs.stop_before.Reads as stop-before-reads
 use Rattle.worked.proofs.legs.+legs.{statement}
 use Rattle.worked.proofs.legs.+legs.Tie.{close}
 
-abbrev μ-legs : Measures 3 legs-kinds.ps ℕ
+abbrev μ-legs : Measures 4 legs-kinds.ps ℕ
 μ-legs κs a = a .0
 
-abbrev legs-at : ℕ → In 3 legs-kinds.ps
-legs-at t = and 3 legs-kinds.ps (is 3 legs-kinds.ps μ-legs t) legs.Pre
+abbrev legs-at : ℕ → In 4 legs-kinds.ps
+legs-at t = and 4 legs-kinds.ps (is 4 legs-kinds.ps μ-legs t) legs.Pre
 
-abbrev legs-below : ℕ → In 3 legs-kinds.ps
-legs-below t = and 3 legs-kinds.ps (falls 3 legs-kinds.ps _<_ μ-legs t) legs.Pre
+abbrev legs-below : ℕ → In 4 legs-kinds.ps
+legs-below t = and 4 legs-kinds.ps (falls 4 legs-kinds.ps _<_ μ-legs t) legs.Pre
 
 legs-returns : (t : ℕ) → legs-lts.Need-returns (
   label-at-reads.Asked,
@@ -30,8 +29,6 @@ legs-returns : (t : ℕ) → legs-lts.Need-returns (
   access-reads.Learnt,
   stop-before-reads.Asked,
   stop-before-reads.Learnt,
-  row-before-reads.Asked,
-  row-before-reads.Learnt,
   legs-below t,
   legs.Post,
   leg-reads.Asked,
@@ -46,8 +43,6 @@ legs-label-at-requires : (t : ℕ) → legs-lts.Need-label-at-requires (
   access-reads.Learnt,
   stop-before-reads.Asked,
   stop-before-reads.Learnt,
-  row-before-reads.Asked,
-  row-before-reads.Learnt,
   legs-below t,
   legs.Post,
   leg-reads.Asked,
@@ -62,8 +57,6 @@ legs-access-requires : (t : ℕ) → legs-lts.Need-access-requires (
   access-reads.Learnt,
   stop-before-reads.Asked,
   stop-before-reads.Learnt,
-  row-before-reads.Asked,
-  row-before-reads.Learnt,
   legs-below t,
   legs.Post,
   leg-reads.Asked,
@@ -78,8 +71,6 @@ legs-returns-2 : (t : ℕ) → legs-lts.Need-returns-2 (
   access-reads.Learnt,
   stop-before-reads.Asked,
   stop-before-reads.Learnt,
-  row-before-reads.Asked,
-  row-before-reads.Learnt,
   legs-below t,
   legs.Post,
   leg-reads.Asked,
@@ -94,8 +85,6 @@ legs-sub-legs : (t : ℕ) → legs-lts.Need-sub-legs (
   access-reads.Learnt,
   stop-before-reads.Asked,
   stop-before-reads.Learnt,
-  row-before-reads.Asked,
-  row-before-reads.Learnt,
   legs-below t,
   legs.Post,
   leg-reads.Asked,
@@ -110,30 +99,12 @@ legs-stop-before-requires : (t : ℕ) → legs-lts.Need-stop-before-requires (
   access-reads.Learnt,
   stop-before-reads.Asked,
   stop-before-reads.Learnt,
-  row-before-reads.Asked,
-  row-before-reads.Learnt,
   legs-below t,
   legs.Post,
   leg-reads.Asked,
   leg-reads.Learnt,
 ) (legs-at t) legs.Post
 legs-stop-before-requires t c κs = search needs
-
-legs-row-before-requires : (t : ℕ) → legs-lts.Need-row-before-requires (
-  label-at-reads.Asked,
-  label-at-reads.Learnt,
-  access-reads.Asked,
-  access-reads.Learnt,
-  stop-before-reads.Asked,
-  stop-before-reads.Learnt,
-  row-before-reads.Asked,
-  row-before-reads.Learnt,
-  legs-below t,
-  legs.Post,
-  leg-reads.Asked,
-  leg-reads.Learnt,
-) (legs-at t) legs.Post
-legs-row-before-requires t c κs = search needs
 
 legs-legs-requires : (t : ℕ) → legs-lts.Need-legs-requires (
   label-at-reads.Asked,
@@ -142,8 +113,6 @@ legs-legs-requires : (t : ℕ) → legs-lts.Need-legs-requires (
   access-reads.Learnt,
   stop-before-reads.Asked,
   stop-before-reads.Learnt,
-  row-before-reads.Asked,
-  row-before-reads.Learnt,
   legs-below t,
   legs.Post,
   leg-reads.Asked,
@@ -158,8 +127,6 @@ legs-leg-requires : (t : ℕ) → legs-lts.Need-leg-requires (
   access-reads.Learnt,
   stop-before-reads.Asked,
   stop-before-reads.Learnt,
-  row-before-reads.Asked,
-  row-before-reads.Learnt,
   legs-below t,
   legs.Post,
   leg-reads.Asked,
@@ -174,8 +141,6 @@ legs-returns-3 : (t : ℕ) → legs-lts.Need-returns-3 (
   access-reads.Learnt,
   stop-before-reads.Asked,
   stop-before-reads.Learnt,
-  row-before-reads.Asked,
-  row-before-reads.Learnt,
   legs-below t,
   legs.Post,
   leg-reads.Asked,
@@ -191,8 +156,6 @@ pub +legs-spec : {M : Type 1} → statement M
   access-reads.Learnt,
   stop-before-reads.Asked,
   stop-before-reads.Learnt,
-  row-before-reads.Asked,
-  row-before-reads.Learnt,
   legs-below t,
   legs.Post,
   leg-reads.Asked,
@@ -206,7 +169,6 @@ pub +legs-spec : {M : Type 1} → statement M
     (legs-returns-2 t)
     (legs-sub-legs t)
     (legs-stop-before-requires t)
-    (legs-row-before-requires t)
     (legs-legs-requires t)
     (legs-leg-requires t)
     (legs-returns-3 t)
