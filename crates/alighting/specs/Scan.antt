@@ -6,9 +6,9 @@ use mathlib.Core.Bool.{false}
 use mathlib.Core.List.{List}
 use lib.ListN.{length, getD}
 use Rattle.door.specs.Door.{timeLimit}
-use Rattle.realtime.specs.Times.{sizeOf}
+use Rattle.stop_delay.specs.Times.{sizeOf}
 use Rattle.tables.specs.declared.Counts.{Counts}
-use Rattle.delay_tables.specs.declared.Found.{Found}
+use Rattle.delay_rows.specs.declared.Found.{Found}
 use Rattle.frequency.specs.declared.Boarding.{Boarding}
 use Rattle.label.specs.declared.Label.the-variants.{Walk}
 use Rattle.label.specs.Label.{noDistance}

@@ -15,7 +15,7 @@ ghost use Rattle.alighting.specs.Scan.{Riding, Reads};
 use boarding::Lined;
 use boarding::Terms;
 use cell_bitset::CellBitSet;
-use delay_tables::Found;
+use delay_rows::Found;
 use scratch::Head;
 use scratch::Lay;
 use scratch::Ride;

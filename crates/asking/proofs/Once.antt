@@ -24,7 +24,7 @@ use Rattle.departures.specs.Departures.{rowAt, rowDeparture, runAt, runFirst, r
 use Rattle.departures.specs.Listed.{RowKnown, RunsListed}
 use Rattle.departures.proofs.Yes.{listed-yes}
 use Rattle.departures.proofs.Parts.{part-row}
-use Rattle.delay_tables.specs.Door.{delayNumbers, delayRanges, delayOrder}
+use Rattle.delay_rows.specs.Door.{delayNumbers, delayRanges, delayOrder}
 use Rattle.asking.specs.declared.QueryCounts.{QueryCounts}
 use Rattle.asking.specs.Lent.{delaysOf, stopRuns, departureRows}
 use Rattle.asking.specs.Door.{lineNumbers, queryNumbers, question4, markRanges, transferRanges, settingRanges, walkRanges, question5, notEarlier, partOrder, departureOrder, egressOrder, question6}

@@ -20,8 +20,8 @@ use Rattle.departures.proofs.Yes.{runs-listed, rows-listed}
 use Rattle.line_layout.specs.Listed.{lineRunsOk, entriesOk}
 use Rattle.line_layout.proofs.Yes.{lines-listed}
 use Rattle.label_table.specs.Table.{lengthsRight}
-use Rattle.delay_tables.specs.Door.{delayNumbers, delayRanges, delayOrder}
-use Rattle.delays.proofs.Door.{delays-yes}
+use Rattle.delay_rows.specs.Door.{delayNumbers, delayRanges, delayOrder}
+use Rattle.delay_lookup.proofs.Door.{delays-yes}
 use Rattle.asking.specs.declared.QueryCounts.{QueryCounts}
 use Rattle.asking.specs.declared.Lengths.{Lengths}
 use Rattle.asking.specs.Lent.{marksAt, eventsOf, builtSize, originsAt, egressAt, querySize, lineRuns, lineEntries, stopRuns, departureRows, delaysOf, transferRunAt, transferRows, Lent, stopRows}

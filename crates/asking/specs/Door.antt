@@ -13,7 +13,7 @@ use Rattle.departures.specs.Departures.{rowAt, rowDeparture, runLength, departu
 use Rattle.departures.specs.Listed.{runIn, stopRunsOk, listedOk}
 use Rattle.line_layout.specs.Listed.{lineRunsOk, entriesOk}
 use Rattle.label_table.specs.Table.{lengthsRight}
-use Rattle.delay_tables.specs.Door.{delayNumbers, delayRanges, delayOrder}
+use Rattle.delay_rows.specs.Door.{delayNumbers, delayRanges, delayOrder}
 use Rattle.asking.specs.declared.QueryCounts.{QueryCounts}
 use Rattle.asking.specs.declared.Lengths.{Lengths}
 use Rattle.asking.specs.Lent.{marksAt, eventsOf, builtSize, originsAt, egressAt, querySize, lineRuns, lineEntries, stopRuns, departureRows, delaysOf, transferRunAt, transferRows, Lent}

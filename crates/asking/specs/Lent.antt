@@ -11,8 +11,8 @@ use Rattle.departures.specs.declared.StopRun.{StopRun}
 use Rattle.departures.specs.Departures.{listedAt}
 use Rattle.line_layout.specs.Layout.{lineAt}
 use Rattle.line_transfers.specs.Transfers.{eventsBefore, transfersAt}
-use Rattle.delay_tables.specs.Delays.{DelayTables}
-use Rattle.delay_tables.specs.Flat.{delayTables}
+use Rattle.delay_rows.specs.Delays.{DelayTables}
+use Rattle.delay_rows.specs.Flat.{delayTables}
 use Rattle.flags.specs.Flags.{patternAt}
 use Rattle.model.specs.Tables.{Tables, Origin, Query, rustSettings}
 use Rattle.asking.specs.declared.QueryCounts.{QueryCounts}

@@ -12,7 +12,7 @@ use Rattle.tables.specs.Door.{numbersOk, rangesOk, orderOk}
 use Rattle.departures.specs.declared.DepartureRow.{DepartureRow}
 use Rattle.departures.specs.Departures.{rowAt, rowDeparture}
 use Rattle.departures.specs.Listed.{RowKnown, RowsListed}
-use Rattle.delay_tables.specs.Door.{delayNumbers, delayRanges, delayOrder}
+use Rattle.delay_rows.specs.Door.{delayNumbers, delayRanges, delayOrder}
 use Rattle.asking.specs.declared.QueryCounts.{QueryCounts}
 use Rattle.asking.specs.Lent.{delaysOf}
 use Rattle.asking.specs.Door.{lineNumbers, queryNumbers, question4, markRanges, transferRanges, settingRanges, walkRanges, question5, departureOrder, egressOrder, question6}

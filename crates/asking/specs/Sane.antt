@@ -10,7 +10,7 @@ use Rattle.tables.specs.Sane.{CountsOk, SlicesOk, RunsOk, NumbersOk, RangesOk, 
 use Rattle.departures.specs.Listed.{RunsListed, RowsListed}
 use Rattle.departures.specs.Departures.{rowAt, rowDeparture, runLength, departuresOf}
 use Rattle.line_layout.specs.Listed.{LinesListed}
-use Rattle.delays.specs.Sane.{Delays}
+use Rattle.delay_lookup.specs.Sane.{Delays}
 use Rattle.asking.specs.declared.QueryCounts.{QueryCounts}
 use Rattle.asking.specs.declared.Lengths.{Lengths}
 use Rattle.asking.specs.Lent.{marksAt, eventsOf, builtSize, egressAt, querySize, lineRuns, lineEntries, stopRuns, departureRows, delaysOf, transferRunAt, transferRows, Lent}

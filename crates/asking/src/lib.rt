@@ -193,7 +193,7 @@ fn read_ok(
     requires { ⌜ Limits n ⌝ ∗ ⌜ SlicesOk (now t) (n .timetable) ⌝ }
     ensures { λ r. ⌜ r ≡ readOk (now (t .entry)) n built patterns distances q ⌝ }
 {
-    let events = transfers::event_count(t, n.timetable);
+    let events = event_transfers::event_count(t, n.timetable);
     let a = built == transfer_runs_at(n) + events * 2;
     let b = distances == n.timetable.edges + n.origins;
     both(
@@ -279,7 +279,7 @@ pub fn runs_ok(t: &[u32], built: &[u32], n: QueryCounts, rows: usize) -> bool
 {
     let lines = line_layout::line_runs_ok(line_runs(built, n), n.lines, n.entries);
     let stops = departures::stop_runs_ok(stop_runs(built, n), n.timetable, n.departures);
-    let events = transfers::event_count(t, n.timetable);
+    let events = event_transfers::event_count(t, n.timetable);
     both(
         both(tables::runs_ok(t, n.timetable), lines),
         both(stops, transfer_runs_ok(built, n, events, rows)),

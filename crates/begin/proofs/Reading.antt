@@ -17,8 +17,8 @@ use Rattle.flags.specs.Skipping.{EgressIn}
 use Rattle.cell_bitset.specs.declared.CellBitSet.{CellBitSet}
 use Rattle.tables.specs.Timetable.{timetable}
 use Rattle.tables.specs.declared.Counts.{Counts}
-use Rattle.delay_tables.specs.Delays.{margin}
-use Rattle.delay_tables.specs.Flat.{delayTables}
+use Rattle.delay_rows.specs.Delays.{margin}
+use Rattle.delay_rows.specs.Flat.{delayTables}
 use Rattle.model.specs.Tables.{Tables, Query}
 use Rattle.model.specs.Search.{targetCells}
 use Rattle.alighting.specs.declared.Net.{Net}

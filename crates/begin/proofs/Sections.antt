@@ -18,7 +18,7 @@ use Rattle.departures.proofs.Parts.{getD-slice}
 use Rattle.line_layout.specs.Layout.{lineAt, positionIn, fifoOf, positionsOf, fifosOf}
 use Rattle.line_layout.specs.Listed.{LinesListed}
 use Rattle.line_transfers.specs.Transfers.{eventsBefore}
-use Rattle.transfers.proofs.Packing.{events-step}
+use Rattle.event_transfers.proofs.Counting.{events-step}
 use Rattle.scratch.proofs.Part.{drop-at}
 use Rattle.scratch.proofs.Labels.{same-or}
 use Rattle.begin.specs.Laying.{Put}

@@ -68,7 +68,7 @@ pub fn net_of(n: QueryCounts, t: &[u32], built: &[u32], distances: &[f64], q: &[
     let c = n.timetable;
     let rows = asking::delay_rows(q, n);
     let stop_rows = asking::stop_rows(q, n);
-    let margin = delays::rt_margin(rows, stop_rows, MARGIN_CAP);
+    let margin = delay_lookup::rt_margin(rows, stop_rows, MARGIN_CAP);
     let egress = asking::egress_rows(q, n);
     let target = flags::target_cells(t, c, n.cells as u32, egress);
     let terms = Terms {

@@ -20,12 +20,12 @@ use Rattle.loops.proofs.Search.{hit-below}
 use Rattle.tables.specs.declared.Counts.{Counts}
 use Rattle.tables.specs.Tables.{timeOf, tripOf, firstOf, windowsAt, windowOf as tableWindow}
 use Rattle.tables.specs.Timetable.{Timetable, timetable}
-use Rattle.realtime.specs.declared.StopDelay.{StopDelay}
-use Rattle.realtime.specs.Times.{effectiveDeparture, effectiveArrival}
-use Rattle.delay_tables.specs.declared.Found.{Found}
-use Rattle.delay_tables.specs.declared.Found.the-variants.{At}
-use Rattle.delay_tables.specs.Delays.{delayRow, stopDelay, margin}
-use Rattle.delay_tables.specs.Flat.{delaysAlone, delayTables, foundOf}
+use Rattle.stop_delay.specs.declared.StopDelay.{StopDelay}
+use Rattle.stop_delay.specs.Times.{effectiveDeparture, effectiveArrival}
+use Rattle.delay_rows.specs.declared.Found.{Found}
+use Rattle.delay_rows.specs.declared.Found.the-variants.{At}
+use Rattle.delay_rows.specs.Delays.{delayRow, stopDelay, margin}
+use Rattle.delay_rows.specs.Flat.{delaysAlone, delayTables, foundOf}
 use Rattle.frequency.specs.declared.Boarding.{Boarding}
 use Rattle.frequency.specs.declared.FreqBoard.{FreqBoard}
 use Rattle.frequency.specs.declared.FreqBoard.the-variants.{Nothing as NoBoard, Board}

@@ -8,11 +8,11 @@ use Rattle.tables.specs.declared.Counts.{Counts}
 use Rattle.tables.specs.Tables.{countOf}
 use Rattle.tables.specs.Timetable.{timetable}
 use Rattle.tables.specs.Sane.{Sane}
-use Rattle.delay_tables.specs.declared.Found.{Found}
-use Rattle.delay_tables.specs.declared.Found.the-variants.{At, Nothing}
-use Rattle.delay_tables.specs.Delays.{margin}
-use Rattle.delay_tables.specs.Flat.{delayCount, stopCount, delayRowAt, stopRowAt, delayTables}
-use Rattle.delays.specs.Sane.{DelayRows, StopRows}
+use Rattle.delay_rows.specs.declared.Found.{Found}
+use Rattle.delay_rows.specs.declared.Found.the-variants.{At, Nothing}
+use Rattle.delay_rows.specs.Delays.{margin}
+use Rattle.delay_rows.specs.Flat.{delayCount, stopCount, delayRowAt, stopRowAt, delayTables}
+use Rattle.delay_lookup.specs.Sane.{DelayRows, StopRows}
 use Rattle.model.specs.Tables.{Tables, Query}
 use Rattle.boarding.specs.declared.Terms.{Terms}
 

@@ -9,21 +9,21 @@ ghost use Prim.Native.Nat.{ℕ, _+_, _≤_, _<_};
 ghost use mathlib.Core.Bool.{_||_, not};
 ghost use mathlib.Core.List.{List};
 ghost use Rattle.door.specs.Door.{timeLimit};
-ghost use Rattle.realtime.specs.Times.{sizeOf};
-ghost use Rattle.realtime.specs.Door.{Bounded};
+ghost use Rattle.stop_delay.specs.Times.{sizeOf};
+ghost use Rattle.stop_delay.specs.Door.{Bounded};
 ghost use Rattle.tables.specs.Tables.{timeOf, firstOf};
 ghost use Rattle.tables.specs.Timetable.{timetable};
 ghost use Rattle.tables.specs.Sane.{Sane};
-ghost use Rattle.delay_tables.specs.Flat.{delayCount, delayRowAt, delayTables};
-ghost use Rattle.delays.specs.Sane.{DelayRows};
+ghost use Rattle.delay_rows.specs.Flat.{delayCount, delayRowAt, delayTables};
+ghost use Rattle.delay_lookup.specs.Sane.{DelayRows};
 ghost use Rattle.model.specs.Tables.{Tables, Query, modeWanted, usable, permitted, noPickup};
 ghost use Rattle.model.specs.Search.{delayOf, delayAt, skipped, departureNow, arrivalNow, boardAt};
 ghost use Rattle.boarding.specs.Reads.{hitOf, Known, Ground, Event, Agree, Asks};
 ghost use Rattle.boarding.specs.Resolving.{freqBoardAt};
-use delay_tables::Found;
+use delay_rows::Found;
 use frequency::Boarding;
 use frequency::FreqBoard;
-use realtime::StopDelay;
+use stop_delay::StopDelay;
 use tables::Counts;
 
 // What of a query boarding goes by: wanted modes (seven bits, 0 means all), wheelchair, the delay margin, and how many trips
@@ -94,7 +94,7 @@ pub fn delay_of(rows: &[u32], trip: u32) -> Found
     requires { ⌜ DelayRows (delayCount (now rows)) (delayRowAt (now rows)) ⌝ }
     ensures { λ r. ⌜ Known (now (rows .entry)) r ⌝ ∗ ⌜ ((Q : Query) (stops : List ℕ) → Q .delays ≡ delayTables (now (rows .entry)) stops → hitOf r ≡ delayOf Q trip) ⌝ }
 {
-    delays::delay_row(rows, trip)
+    delay_lookup::delay_row(rows, trip)
 }
 
 // Field k of a trip's stop time.
@@ -120,8 +120,8 @@ pub fn delay_at(
 {
     let sequence = event_word(t, c, trip, off, 3);
     match adj {
-        Found::At(i) => delays::stop_delay(rows, stop_rows, i, sequence),
-        Found::Nothing => realtime::no_delay(),
+        Found::At(i) => delay_lookup::stop_delay(rows, stop_rows, i, sequence),
+        Found::Nothing => stop_delay::no_delay(),
     }
 }
 
@@ -138,7 +138,7 @@ pub fn skipped(
     requires { ⌜ Ground (now t) c (now rows) (now «stop_rows») ⌝ ∗ ⌜ Known (now rows) adj ⌝ ∗ ⌜ Event (now t) c trip off ⌝ }
     ensures { λ r. ⌜ ((T : Tables) (Q : Query) → Agree T Q (now (t .entry)) c (now (rows .entry)) (now («stop_rows» .entry)) → r ≡ skipped T Q (hitOf adj) trip off) ⌝ }
 {
-    realtime::is_skipped(delay_at(t, c, rows, stop_rows, adj, trip, off))
+    stop_delay::is_skipped(delay_at(t, c, rows, stop_rows, adj, trip, off))
 }
 
 // The effective departure of a stop time.
@@ -155,7 +155,7 @@ pub fn departure_now(
     ensures { λ r. ⌜ r ≤ 2097150 ⌝ ∗ ⌜ ((T : Tables) (Q : Query) → Agree T Q (now (t .entry)) c (now (rows .entry)) (now («stop_rows» .entry)) → r ≡ departureNow T Q (hitOf adj) trip off) ⌝ }
 {
     let d = delay_at(t, c, rows, stop_rows, adj, trip, off);
-    realtime::rt_effective_dep_s(event_word(t, c, trip, off, 2), d)
+    stop_delay::rt_effective_dep_s(event_word(t, c, trip, off, 2), d)
 }
 
 // The effective arrival of a stop time on a ride with this shift.
@@ -173,7 +173,7 @@ pub fn arrival_now(
     ensures { λ r. ⌜ r ≤ 2097150 ⌝ ∗ ⌜ ((T : Tables) (Q : Query) → Agree T Q (now (t .entry)) c (now (rows .entry)) (now («stop_rows» .entry)) → r ≡ arrivalNow T Q (hitOf adj) shift trip off) ⌝ }
 {
     let d = delay_at(t, c, rows, stop_rows, adj, trip, off);
-    realtime::rt_effective_arr_s(event_word(t, c, trip, off, 1), shift, d)
+    stop_delay::rt_effective_arr_s(event_word(t, c, trip, off, 1), shift, d)
 }
 
 // Boarding

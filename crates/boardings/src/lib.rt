@@ -11,7 +11,7 @@ ghost use Rattle.boarding.specs.Reads.{hitOf};
 ghost use Rattle.scratch.specs.Places.{Sized};
 ghost use Rattle.pruning.specs.Chain.{linked, lowered, listed, stampedAs};
 ghost use Rattle.pruning.specs.Books.{Chains, Noted};
-use delay_tables::Found;
+use delay_rows::Found;
 use scratch::Lay;
 
 // A trip at the front of a line's chain, with this offset.

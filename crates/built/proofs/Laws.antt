@@ -13,7 +13,7 @@ use Rattle.loops.specs.Count.{tabFrom}
 use Rattle.loops.proofs.Search.{first-is}
 use Rattle.tables.specs.Timetable.{Timetable}
 use Rattle.line_numbers.specs.Lines.{entriesOf, lineCount, lineFirst, lineOf, linesOf, lineTrips, runsOf}
-use Rattle.lines.proofs.Laws.{InLine, in-line, line-is-one, run-entry, trips-count}
+use Rattle.line_numbers.proofs.Laws.{InLine, in-line, line-is-one, run-entry, trips-count}
 use Rattle.line_layout.specs.Layout.{LineTrips, fifoLine, lineAt, positionIn}
 use Rattle.line_layout.specs.Claims.{ListedOnce, NotLater}
 use Rattle.line_layout.proofs.Laws.{fifo-positions, position-once}

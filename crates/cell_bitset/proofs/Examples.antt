@@ -3,11 +3,10 @@ use Prim.Native.Nat.{ℕ}
 use mathlib.Core.Path.{_≡_, refl}
 use mathlib.Core.Bool.{Bool, true, false, _&&_, Bool·beq}
 use mathlib.Core.List.{List, [], _∷_}
-use lib.Dec.{eqb}
 use Rattle.loops.specs.Iter.{some}
 use Rattle.loops.specs.Count.{tabFrom}
 use Rattle.cell_bitset.specs.declared.CellBitSet.{CellBitSet}
-use Rattle.cell_bitset.specs.CellSet.{emptySet, withCell, held, kept, meets, holdsNone, union, sized, created}
+use Rattle.cell_bitset.specs.CellSet.{emptySet, withCell, held, kept, meets, holdsNone, union, sized}
 
 -- the set of n cells with the cell c
 abbrev one : ℕ → ℕ → CellBitSet
@@ -64,7 +63,3 @@ pairs =
 pub pairs-right : pairAll pairs ≡ true
 unfolding pairAll pairRight pairs some tabFrom
 pairs-right = refl
-
--- question 1: 512 cells are made, 513 are not
-pub asked : eqb (created 0 .code) 0 && eqb (created 512 .code) 0 && eqb (created 513 .code) 1 && eqb (created 513 .set .reserved) 0 ≡ true
-asked = refl

@@ -1,18 +1,16 @@
 -- A cell set (document 01, leaf 1): cell c stands at bit c % 8 of byte c / 8. The reserved bytes come first, 8 for each
 -- group of 64 cells; a cell past them is dropped. A set is any 64 bytes with any number as `reserved`: past the 64 there
 -- is nothing to reserve, and what stands past the reserved bytes is in no set. Definitions only.
-use Prim.Native.Nat.{ℕ, zero, suc, _+_, _*_, _/_, _%_, _^_, _≤_, min, max}
+use Prim.Native.Nat.{ℕ, _+_, _*_, _/_, _%_, _^_, _≤_, min, max}
 use mathlib.Core.Path.{_≡_}
 use mathlib.Core.Bool.{Bool, true, not, _&&_, cond}
 use mathlib.Core.List.{List}
 use lib.ListN.{length, getD, set, replicate}
-use lib.Dec.{ltb, leb, eqb}
+use lib.Dec.{ltb, eqb}
 use lib.Bits.{bitOr}
-use Rattle.door.specs.Door.{ask}
 use Rattle.loops.specs.Iter.{someIn}
 use Rattle.loops.specs.Count.{tab}
 use Rattle.cell_bitset.specs.declared.CellBitSet.{CellBitSet}
-use Rattle.cell_bitset.specs.declared.CellSetAnswer.{CellSetAnswer}
 
 -- the most cells that a set has room for
 abbrev pub cellLimit : ℕ
@@ -85,20 +83,3 @@ pub record WellFormed (s : CellBitSet) : Type 0 where
   pub room : s .reserved ≤ 64
   pub whole : s .reserved % 8 ≡ 0
   pub past : (i : ℕ) → s .reserved ≤ i → getD (s .bytes) i 0 ≡ 0
-
--- question 1 (are all counts within the limits?) of a number of cells: 0 is yes
-abbrev pub countAsked : ℕ → ℕ
-countAsked n = ask 1 (leb n cellLimit) 0
-
--- the answer of a call whose questions gave this number: the set that it makes, or the one that a refusal gives back
-abbrev pub setAnswer : ℕ → CellBitSet → CellBitSet → CellSetAnswer
-setAnswer zero made back = record { code = 0; set = made }
-setAnswer (suc n) made back = record { code = suc n; set = back }
-
--- a new set of n cells; refused: the set of no group
-abbrev pub created : ℕ → CellSetAnswer
-created n = setAnswer (countAsked n) (emptySet n) (emptySet 0)
-
--- the set with room for n cells at least; refused: the set as it came
-abbrev pub resized : CellBitSet → ℕ → CellSetAnswer
-resized s n = setAnswer (countAsked n) (sized s n) s

@@ -11,7 +11,7 @@ ghost use Prim.Native.Nat.{_≤_, min, max};
 ghost use lib.ListN.{getD};
 ghost use lib.Bits.{bitOr};
 ghost use Rattle.loops.specs.Count.{tab};
-ghost use Rattle.cell_bitset.specs.CellSet.{cellLimit, emptySet, held, withCell, meets, holdsNone, byteUpto, union, sized, created, resized};
+ghost use Rattle.cell_bitset.specs.CellSet.{cellLimit, emptySet, held, withCell, meets, holdsNone, byteUpto, union, sized};
 
 // The most cells that a set has room for.
 pub const CELL_LIMIT: u32 = 512;
@@ -22,13 +22,6 @@ pub struct CellBitSet {
     pub bytes: [u8; 64],
     // how many of the bytes are reserved, 8 for each group of 64 cells; they come first
     pub reserved: u32,
-}
-
-// The answer of a call that takes a number of cells: 0 and the set made, or the number of the first no.
-#[repr(C)]
-pub struct CellSetAnswer {
-    pub code: u32,
-    pub set: CellBitSet,
 }
 
 // The reserved bytes of a set, of which there are at most 64.
@@ -179,34 +172,5 @@ impl CellBitSet {
             at += 1;
         }
         found == 0
-    }
-}
-
-// A new set, behind question 1.
-pub fn create(num_cells: u32) -> CellSetAnswer
-    ensures { λ r. ⌜ r ≡ created «num_cells» ⌝ }
-{
-    if CELL_LIMIT < num_cells {
-        return CellSetAnswer {
-            code: 1,
-            set: CellBitSet::new(0),
-        };
-    }
-    CellSetAnswer {
-        code: 0,
-        set: CellBitSet::new(num_cells),
-    }
-}
-
-// A set with room for more cells, behind question 1.
-pub fn resize(set: CellBitSet, num_cells: u32) -> CellSetAnswer
-    ensures { λ r. ⌜ r ≡ resized set «num_cells» ⌝ }
-{
-    if CELL_LIMIT < num_cells {
-        return CellSetAnswer { code: 1, set: set };
-    }
-    CellSetAnswer {
-        code: 0,
-        set: set.ensure_sized(num_cells),
     }
 }

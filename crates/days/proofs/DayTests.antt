@@ -18,7 +18,7 @@ use Rattle.loops.proofs.Search.{clash}
 use Rattle.sorts.specs.Orders.{keep}
 use Rattle.door.specs.Door.{timeLimit}
 use Rattle.signed.specs.Signed.{ofBits}
-use Rattle.realtime.specs.Times.{departureGiven, arrivalGiven, sizeOf}
+use Rattle.stop_delay.specs.Times.{departureGiven, arrivalGiven, sizeOf}
 use Rattle.cell_bitset.specs.declared.CellBitSet.{CellBitSet}
 use Rattle.departures.specs.declared.DepartureRow.{DepartureRow}
 use Rattle.tables.specs.Timetable.{Timetable}

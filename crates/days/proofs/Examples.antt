@@ -1,6 +1,6 @@
 -- Worked rows computed of the definitions, as one tabulated check: document 01's rows on Timetable K; K with a pattern, with a frequency
 -- trip and with delays; queries without origin or egress; the day with walks. Each row: what is computed, and the numbers it must give.
-use Prim.Native.Nat.{ℕ, zero, suc, _+_}
+use Prim.Native.Nat.{ℕ, zero, suc}
 use mathlib.Core.Path.{_≡_, refl}
 use mathlib.Core.Bool.{true, false}
 use mathlib.Core.List.{List, [], _∷_, _++_, map, flatMap, flatten}
@@ -9,11 +9,11 @@ use Rattle.loops.specs.Iter.{iter, every, some, first}
 use Rattle.loops.specs.Count.{one, upto, count, tabFrom}
 use Rattle.sorts.specs.Sort.{insertBy, sortBy}
 use Rattle.sorts.specs.Orders.{keep}
-use Rattle.walk.specs.Walk.{effectiveDuration, roundCount}
+use Rattle.walk_time.specs.Walk.{effectiveDuration, roundCount}
 use Rattle.frequency.specs.declared.FreqBoard.{FreqBoard}
 use Rattle.frequency.specs.declared.FreqBoard.the-variants.{Nothing, Board}
 use Rattle.frequency.specs.Gtfs.{windowOf, firstRun, earliestFreqBoard}
-use Rattle.realtime.specs.Times.{effectiveArrival}
+use Rattle.stop_delay.specs.Times.{effectiveArrival}
 use Rattle.label.specs.declared.Label.{Label}
 use Rattle.label.specs.declared.Label.the-variants.{Access, Transit, Walk}
 use Rattle.label.specs.Label.{rowOf, noDistance}

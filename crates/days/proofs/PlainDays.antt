@@ -12,7 +12,7 @@ use Rattle.loops.specs.Iter.{iter, every, first, some}
 use Rattle.loops.specs.Count.{count, tabFrom}
 use Rattle.sorts.specs.Sort.{insertBy, sortBy}
 use Rattle.sorts.specs.Orders.{keep}
-use Rattle.walk.specs.Walk.{effectiveDuration, roundCount}
+use Rattle.walk_time.specs.Walk.{effectiveDuration, roundCount}
 use Rattle.line_numbers.specs.Lines.{lineOf, same, leadOf, isLead, lineTrips}
 use Rattle.departures.specs.Departures.{frequencyListed}
 use Rattle.line_transfers.specs.Transfers.{departuresOfLine, firstNotBefore, transferTo, transfersOf}

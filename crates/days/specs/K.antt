@@ -16,7 +16,7 @@ use Rattle.tables.specs.Timetable.{Timetable}
 use Rattle.line_numbers.specs.Lines.{lineOf, linesOf, lineTrips}
 use Rattle.departures.specs.Departures.{sorted, markOf}
 use Rattle.line_transfers.specs.Transfers.{builtTransfers}
-use Rattle.delay_tables.specs.Delays.{DelayTables}
+use Rattle.delay_rows.specs.Delays.{DelayTables}
 use Rattle.model.specs.Tables.{rustSettings, Tables, Origin, Query}
 
 -- THE BUILT TABLES of a timetable: what the building calls make of the departures that a caller lists at each stop, after this

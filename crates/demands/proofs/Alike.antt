@@ -26,7 +26,7 @@ use Rattle.departures.proofs.Parts.{part-row}
 use Rattle.departures.proofs.All.{all-tab}
 use Rattle.line_numbers.specs.Lines.{same, leadOf, isLead, lineOf, linesOf, lineIs, lineTrips, firstDeparture}
 use Rattle.line_numbers.proofs.Same.{lead-is}
-use Rattle.lines.proofs.Entries.{all-upto}
+use Rattle.line_numbers.proofs.Lists.{all-upto}
 use Rattle.line_layout.specs.Layout.{LineTrips}
 use Rattle.built.specs.Built.{AsBuilt}
 use Rattle.demands.specs.Chain.{SameRides}

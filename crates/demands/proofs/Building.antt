@@ -14,15 +14,15 @@ use Rattle.departures.specs.Departures.{markOf, listedAt}
 use Rattle.departures.specs.Listed.{RowKnown}
 use Rattle.line_numbers.specs.Lines.{entriesOf, lineOf, lineRun, linesOf, runsOf}
 use Rattle.line_numbers.proofs.Parts.{flat-length}
-use Rattle.lines.proofs.Laws.{entries-length}
-use Rattle.lines.proofs.Outcome.{admitted}
-use Rattle.lines.specs.Call.{Areas as LineAreas, Admitted as LinesAdmitted, lengthsOf, verdict as linesVerdict, settle as linesSettle, made as linesMade, outcome as linesOutcome}
-use Rattle.lines.specs.declared.Grouped.the-variants.{Lines}
+use Rattle.line_numbers.proofs.Laws.{entries-length}
+use Rattle.lines_call.proofs.Outcome.{admitted}
+use Rattle.lines_call.specs.Call.{Areas as LineAreas, Admitted as LinesAdmitted, lengthsOf, verdict as linesVerdict, settle as linesSettle, made as linesMade, outcome as linesOutcome}
+use Rattle.lines_call.specs.declared.Grouped.the-variants.{Lines}
 use Rattle.line_layout.specs.Layout.{lineAt}
 use Rattle.built.specs.Built.{AsBuilt}
 use Rattle.built.proofs.Laws.{built-lists}
-use Rattle.departure_sorting.specs.Call.{Areas as SortAreas, Admitted as SortAdmitted, made as sortMade, outcome as sortingOutcome}
-use Rattle.departure_sorting.proofs.Laws.{answered-admitted, answered-made, answered-sorted, answered-marked, length-kept}
+use Rattle.departures_call.specs.Call.{Areas as SortAreas, Admitted as SortAdmitted, made as sortMade, outcome as sortingOutcome}
+use Rattle.departures_call.proofs.Laws.{answered-admitted, answered-made, answered-sorted, answered-marked, length-kept}
 use Rattle.asking.specs.Lent.{Lent, tablesOf, lineEntries}
 use Rattle.model.specs.Promise.{LinesBuilt}
 use Rattle.demands.specs.Chain.{Chain, callersList}

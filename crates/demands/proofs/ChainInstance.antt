@@ -20,10 +20,10 @@ use Rattle.tables.specs.Door.{countsOk, slicesOk, tripRuns, stopTimeNumbers, ed
 use Rattle.departures.specs.Departures.{flat, frequencyListed, sortStop}
 use Rattle.departures.specs.Listed.{runIn, stopRunsOk, rowNumbers, rowsOk, rowAtStop, stopRowsOk, atStopsOk, listedOk}
 use Rattle.line_numbers.specs.Lines.{same, leadOf, isLead, lineOf, lineTrips, entriesOf, lineCount, lineFirst, runsOf}
-use Rattle.lines.specs.Call.{areas as lineAreas, sizesOk as lineSizes, verdict as lineVerdict, made as linesMade}
-use Rattle.departure_sorting.specs.Call.{areas as sortAreas, sizesOk as sortSizes, verdict as sortVerdict, sortedRows}
+use Rattle.lines_call.specs.Call.{areas as lineAreas, sizesOk as lineSizes, verdict as lineVerdict, made as linesMade}
+use Rattle.departures_call.specs.Call.{areas as sortAreas, sizesOk as sortSizes, verdict as sortVerdict, sortedRows}
 use Rattle.line_transfers.specs.Transfers.{departuresOfLine, eventsBefore, eventsOf, firstNotBefore, runsFrom, transferTo, transfersOf, wordsOf}
-use Rattle.transfers.specs.Call.{areas as transferAreas, areaWith, linesOk, question1, question2, question3, question4, question5, question6, roomOk, settled, sizesOk as transferSizes, verdict as transferVerdict}
+use Rattle.transfers_call.specs.Call.{areas as transferAreas, areaWith, linesOk, question1, question2, question3, question4, question5, question6, roomOk, settled, sizesOk as transferSizes, verdict as transferVerdict}
 use Rattle.asking.specs.Door.{writtenOk, columnBelow, queryNumbers, settingRanges, walkRanges, columnRises}
 use Rattle.asking.proofs.Examples.{tK, builtK, transfersK, qK, query, time, trip, counts}
 use Rattle.replies.specs.Outcome.{reply, lengthsOf, queryOutcome}

@@ -21,11 +21,11 @@ use Rattle.departures.specs.Departures.{rowAt, rowDeparture, runAt, runFirst, r
 use Rattle.departures.specs.Listed.{runIn, stopRunsOk, listedOk, RowKnown, RowsListed}
 use Rattle.departures.proofs.Parts.{part-row}
 use Rattle.departures.proofs.Yes.{listed-yes}
-use Rattle.departure_sorting.specs.Call.{Areas as SortAreas, sortedRows}
-use Rattle.departure_sorting.proofs.Laws.{still-listed, departures-rise}
+use Rattle.departures_call.specs.Call.{Areas as SortAreas, sortedRows}
+use Rattle.departures_call.proofs.Laws.{still-listed, departures-rise}
 use Rattle.line_numbers.specs.Lines.{lineBelow, lineCount, lineFirst, linesOf, runsOf}
 use Rattle.built.proofs.Laws.{run-first, run-count}
-use Rattle.lines.proofs.Laws.{first-next, line-is-one, lines-at-most, entry-trip}
+use Rattle.line_numbers.proofs.Laws.{first-next, line-is-one, lines-at-most, entry-trip}
 use Rattle.line_layout.specs.Layout.{runAt as lineRunAt}
 use Rattle.line_layout.specs.Listed.{runIn as lineRunIn, lineRunsOk, entriesOk}
 use Rattle.asking.specs.declared.Lengths.{Lengths}

@@ -1,6 +1,6 @@
 -- AN INSTANCE of demand 3's hypotheses, in one statement about what is lent: Timetable K of document 01 with Q1, as slices. The door admits
 -- them, the day that they say is a plain one, and the call's whole outcome is the answer with the total 385 at stop 2.
-use Prim.Native.Nat.{ℕ, zero, suc, _-_, _<_}
+use Prim.Native.Nat.{ℕ, zero, suc, _<_}
 use mathlib.Core.Path.{_≡_, refl, ap}
 use mathlib.Core.List.{[], _∷_, flatten}
 use native.Mathlib.Omega.{arith}
@@ -25,7 +25,7 @@ use Rattle.loops.specs.Iter.{iter, every, first, some}
 use Rattle.loops.specs.Count.{count, tabFrom}
 use Rattle.sorts.specs.Sort.{insertBy, sortBy}
 use Rattle.sorts.specs.Orders.{keep}
-use Rattle.walk.specs.Walk.{effectiveDuration, roundCount}
+use Rattle.walk_time.specs.Walk.{effectiveDuration, roundCount}
 use Rattle.line_layout.specs.Layout.{fifoLine, inOrder, neighbours, lastIn, positionIn}
 use Rattle.replies.specs.Outcome.{Areas, areas, lengthsOf, Outcome, reply, queryOutcome}
 use Rattle.demands.specs.Claims.{PromiseKept}

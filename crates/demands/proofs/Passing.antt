@@ -18,9 +18,9 @@ use Rattle.departures.specs.Listed.{runIn}
 use Rattle.departures.proofs.All.{all-tab}
 use Rattle.line_transfers.specs.Transfers.{Input, Transfer, allTransfers, builtTransfers, eventsBefore, eventsOf, runsFrom, transferOf, transfersOf}
 use Rattle.line_transfers.proofs.Lists.{all-flatten, all-map}
-use Rattle.transfers.specs.Call.{Areas as TransferAreas, areaWith, inputOf, outcome as transfersOutcome}
-use Rattle.transfers.proofs.Laws.{Answered, answered, area-length, area-words, run-first, run-count, run-inside}
-use Rattle.transfers.proofs.Written.{events-length}
+use Rattle.transfers_call.specs.Call.{Areas as TransferAreas, areaWith, inputOf, outcome as transfersOutcome}
+use Rattle.transfers_call.proofs.Laws.{Answered, answered, area-length, area-words, run-first, run-count, run-inside}
+use Rattle.transfers_call.proofs.Written.{events-length}
 use Rattle.asking.specs.Lent.{Lent, transferRunAt, transferRunsAt, transferRows, eventsOf as eventsTold}
 use Rattle.asking.specs.Door.{transferRunsOk, columnAt, columnBelow, transferRanges}
 use Rattle.demands.specs.Chain.{Chain, TransferChain, TransfersPass, lentOn}

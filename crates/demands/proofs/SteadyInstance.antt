@@ -22,14 +22,14 @@ use Rattle.asking.specs.declared.QueryCounts.{QueryCounts}
 use Rattle.tables.specs.Tables.{timeOf, tripOf, windowOf, edgeOf, cellOf}
 use Rattle.line_transfers.specs.Transfers.{eventsBefore}
 use Rattle.line_numbers.specs.Lines.{same, leadOf, isLead, lineOf, lineTrips}
-use Rattle.departures.specs.Departures.{frequencyListed, sorted}
+use Rattle.departures.specs.Departures.{frequencyListed}
 use Rattle.loops.specs.Iter.{iter, every, first, some}
 use Rattle.loops.specs.Count.{count, tabFrom}
 use Rattle.sorts.specs.Sort.{insertBy, sortBy}
 use Rattle.sorts.specs.Orders.{keep}
-use Rattle.walk.specs.Walk.{effectiveDuration, roundCount}
+use Rattle.walk_time.specs.Walk.{effectiveDuration, roundCount}
 use Rattle.line_layout.specs.Layout.{fifoLine, inOrder, neighbours, lastIn, positionIn}
-use Rattle.replies.specs.Outcome.{areas, lengthsOf, Outcome, reply, queryOutcome}
+use Rattle.replies.specs.Outcome.{lengthsOf, Outcome, reply, queryOutcome}
 use Rattle.demands.specs.Claims.{PromiseKept}
 use Rattle.demands.specs.Demands.{answerOf}
 use Rattle.demands.proofs.Demands.{steady-query, kept}

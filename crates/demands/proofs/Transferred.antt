@@ -16,10 +16,10 @@ use Rattle.departures.specs.declared.DepartureRow.{DepartureRow}
 use Rattle.departures.specs.declared.StopRun.{StopRun}
 use Rattle.departures.specs.Departures.{sorted, listedAt, rowDeparture, runAt}
 use Rattle.departures.specs.Listed.{RowKnown}
-use Rattle.departure_sorting.proofs.Laws.{answered-sorted}
+use Rattle.departures_call.proofs.Laws.{answered-sorted}
 use Rattle.line_transfers.specs.Transfers.{Input, departuresOfLine, builtTransfers, eventsBefore, transfersAt}
-use Rattle.transfers.specs.Call.{Areas as TransferAreas, inputOf, outcome as transfersOutcome}
-use Rattle.transfers.proofs.Laws.{Answered, answered, answered-transfers}
+use Rattle.transfers_call.specs.Call.{Areas as TransferAreas, inputOf, outcome as transfersOutcome}
+use Rattle.transfers_call.proofs.Laws.{Answered, answered, answered-transfers}
 use Rattle.model.specs.Tables.{rustSettings}
 use Rattle.model.specs.Promise.{transferInput, TransfersBuilt}
 use Rattle.asking.specs.Lent.{Lent, tablesOf, transferRunAt, transferRunsAt}

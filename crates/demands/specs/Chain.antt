@@ -13,12 +13,12 @@ use Rattle.tables.specs.Tables.{timeOf, tripOf}
 use Rattle.tables.specs.Door.{countsOk, slicesOk, runsOk, numbersOk, rangesOk, orderOk}
 use Rattle.departures.specs.declared.DepartureRow.{DepartureRow}
 use Rattle.departures.specs.Departures.{listedAt}
-use Rattle.delay_tables.specs.Door.{delayNumbers, delayRanges, delayOrder}
-use Rattle.lines.specs.Call.{Areas as LineAreas, outcome as linesOutcome}
-use Rattle.lines.specs.declared.Grouped.the-variants.{Lines}
-use Rattle.departure_sorting.specs.Call.{Areas as SortAreas, outcome as sortingOutcome}
-use Rattle.transfers.specs.Call.{Lent as TransferLent, lent as transferLent, Areas as TransferAreas, outcome as transfersOutcome}
-use Rattle.transfers.specs.declared.Built.the-variants.{Rows}
+use Rattle.delay_rows.specs.Door.{delayNumbers, delayRanges, delayOrder}
+use Rattle.lines_call.specs.Call.{Areas as LineAreas, outcome as linesOutcome}
+use Rattle.lines_call.specs.declared.Grouped.the-variants.{Lines}
+use Rattle.departures_call.specs.Call.{Areas as SortAreas, outcome as sortingOutcome}
+use Rattle.transfers_call.specs.Call.{Lent as TransferLent, lent as transferLent, Areas as TransferAreas, outcome as transfersOutcome}
+use Rattle.transfers_call.specs.declared.Built.the-variants.{Rows}
 use Rattle.model.specs.Tables.{rustSettings}
 use Rattle.asking.specs.declared.Lengths.{Lengths}
 use Rattle.asking.specs.Lent.{Lent, eventsOf, querySize, transferRows, delaysOf}

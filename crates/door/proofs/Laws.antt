@@ -1,7 +1,7 @@
 -- Laws of the questions at a door.
 use Prim.Native.Nat.{ℕ, suc}
 use mathlib.Core.Path.{_≡_, refl, sym, ap, _∙_}
-use mathlib.Core.Bool.{Bool, true, false}
+use mathlib.Core.Bool.{Bool, true, false, _&&_}
 use native.Mathlib.Omega.{arith}
 use Rattle.door.specs.Door.{ask}
 
@@ -20,3 +20,10 @@ ask-yes n false later h = absurd (omega arith)
 pub ask-later : (n : ℕ) (b : Bool) (later : ℕ) → ask (suc n) b later ≡ 0 → later ≡ 0
 ask-later n true later h = h
 ask-later n false later h = absurd (omega arith)
+
+-- a test that is asked only where the one before it is yes
+pub lent-no : {a r : Bool} (b : Bool) → r ≡ a → r ≡ false → false ≡ a && b
+lent-no {a} b e f = sym (ap (λ (t : Bool). t && b) (sym e ∙ f))
+
+pub lent-yes : {a r b q : Bool} → r ≡ a → r ≡ true → q ≡ b → q ≡ a && b
+lent-yes {a} {r} {b} e f g = g ∙ sym (ap (λ (t : Bool). t && b) (sym e ∙ f))

@@ -1,5 +1,4 @@
 -- The walk over the events: one event, the events of a trip, all trips.
-
 use Rattle.tables.proofs.Yes.{sane}
 use Prim.Native.Nat.{ℕ, zero, suc, _+_, _*_, _-_, _<_, _≤_, min}
 use mathlib.Core.Path.{_≡_, refl, sym, _∙_, ap, ap₂}

@@ -10,6 +10,8 @@ ghost use Rattle.tables.specs.Tables.{timeOf};
 ghost use Rattle.tables.specs.Sane.{CountsOk, SlicesOk, Sane};
 ghost use Rattle.departures.specs.Listed.{RunsListed};
 ghost use Rattle.line_transfers.specs.Packed.{laid, lay, walk, putRun, layEvent, layEvents, Most, MostAt, prepared, alightKeys, eventKeys, tripKeys, allKeys, SortedRuns, EventAt, TripAt};
+ghost use Rattle.tables.specs.Timetable.{timetable};
+ghost use Rattle.line_transfers.specs.Transfers.{eventsBefore};
 use tables::Counts;
 
 // Is getting off barred at a stop time? Only drop-off 1 bars.
@@ -250,4 +252,19 @@ pub fn total(
     let mut a = [0u32; 1];
     let mut v = [0u32; 1];
     all_events(t, c, runs, d, work, ends, &mut a, &mut v, time)
+}
+
+// How many stop events the trips have.
+pub fn event_count(t: &[u32], c: Counts) -> usize
+    requires { ⌜ CountsOk c ⌝ ∗ ⌜ SlicesOk (now t) c ⌝ }
+    ensures { λ r. ⌜ r ≡ eventsBefore (timetable (now (t .entry)) c) (c .trips) ⌝ ∗ ⌜ r ≤ 17592186044416 ⌝ }
+{
+    let n = c.trips;
+    let mut e: usize = 0;
+    let mut i: usize = 0;
+    while i < n {
+        e += tables::trip(t, c, i, 1);
+        i += 1;
+    }
+    e
 }

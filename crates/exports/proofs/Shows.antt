@@ -1,10 +1,10 @@
 -- From a call's own outcome to what a caller sees of it.
 use mathlib.Core.Path.{_≡_, _∙_, ap}
 use Rattle.door.specs.declared.Answer.{Answer}
-use Rattle.lines.specs.declared.Grouped.{Grouped}
-use Rattle.lines.specs.Call.{Areas, Outcome, outcomeOf, answerOf}
-use Rattle.transfers.specs.declared.Built.{Built}
-use Rattle.transfers.specs.Call.{Areas as TransferAreas, Outcome as TransferOutcome, outcomeOf as transferOutcomeOf, answerOf as transferAnswer}
+use Rattle.lines_call.specs.declared.Grouped.{Grouped}
+use Rattle.lines_call.specs.Call.{Areas, Outcome, outcomeOf, answerOf}
+use Rattle.transfers_call.specs.declared.Built.{Built}
+use Rattle.transfers_call.specs.Call.{Areas as TransferAreas, Outcome as TransferOutcome, outcomeOf as transferOutcomeOf, answerOf as transferAnswer}
 use Rattle.exports.specs.Shown.{shown, shownOf, shownTransfers, shownTransfersOf}
 
 pub shows : (r : Answer) (g : Grouped) (x : Areas) (o : Outcome) → r ≡ answerOf g → outcomeOf g x ≡ o → shown r x ≡ shownOf o

@@ -1,7 +1,7 @@
 -- What a caller sees of a call whose answer is an enum inside: document 01's number and value, and the slices. Definitions only.
 use Rattle.door.specs.declared.Answer.{Answer}
-use Rattle.lines.specs.Call.{Areas, Outcome, answerOf}
-use Rattle.transfers.specs.Call.{Areas as TransferAreas, Outcome as TransferOutcome, answerOf as transferAnswer}
+use Rattle.lines_call.specs.Call.{Areas, Outcome, answerOf}
+use Rattle.transfers_call.specs.Call.{Areas as TransferAreas, Outcome as TransferOutcome, answerOf as transferAnswer}
 
 pub record Shown : Type 0 where
   pub answer : Answer

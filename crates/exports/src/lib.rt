@@ -5,33 +5,35 @@
 // Proves: each call's whole outcome is the leaf's definition of it.
 // Assumes nothing.
 ghost use mathlib.Core.Path.{_≡_};
-ghost use Rattle.cell_bitset.specs.CellSet.{created, resized, withCell, held, meets, union, holdsNone};
-ghost use Rattle.walk.specs.Walk.{walkDuration, roundCount};
-ghost use Rattle.frequency.specs.Entry.{freqOutcome};
-ghost use Rattle.realtime.specs.Door.{departureOutcome, arrivalOutcome, skippedOutcome};
-ghost use Rattle.delay_tables.specs.Door.{marginOutcome, delayAtOutcome};
-ghost use Rattle.label_calls.specs.Calls.{outcome, storeOutcome, loadAnswer};
+ghost use Rattle.leaf_calls.specs.CellSetCall.{created, resized};
+ghost use Rattle.cell_bitset.specs.CellSet.{withCell, held, meets, union, holdsNone};
+ghost use Rattle.leaf_calls.specs.WalkCall.{walkDuration};
+ghost use Rattle.walk_time.specs.Walk.{roundCount};
+ghost use Rattle.leaf_calls.specs.FrequencyCall.{freqOutcome};
+ghost use Rattle.leaf_calls.specs.StopDelayCall.{departureOutcome, arrivalOutcome, skippedOutcome};
+ghost use Rattle.leaf_calls.specs.DelayCall.{marginOutcome, delayAtOutcome};
+ghost use Rattle.label_call.specs.Calls.{outcome, storeOutcome, loadAnswer};
 ghost use Rattle.label.specs.declared.Label.the-variants.{Access, Transit, Walk};
-ghost use Rattle.clock.specs.Clock.{serviceSecond};
-ghost use Rattle.departure_sorting.specs.Call.{areas as departureAreas, outcomeOf as departureOutcomeOf, outcome as sortOutcome};
-ghost use Rattle.lines.specs.Call.{areas as lineAreas, answerOf as linesAnswer, outcome as linesOutcome};
+ghost use Rattle.leaf_calls.specs.ClockCall.{serviceSecond};
+ghost use Rattle.departures_call.specs.Call.{areas as departureAreas, outcomeOf as departureOutcomeOf, outcome as sortOutcome};
+ghost use Rattle.lines_call.specs.Call.{areas as lineAreas, answerOf as linesAnswer, outcome as linesOutcome};
 ghost use Rattle.layout_call.specs.Call.{areas as layoutAreas, outcomeOf as layoutOutcomeOf, outcome as layoutOutcome};
-ghost use Rattle.transfers.specs.Call.{areas as transferAreas, answerOf as transfersAnswer, lent, outcome as transfersOutcome};
+ghost use Rattle.transfers_call.specs.Call.{areas as transferAreas, answerOf as transfersAnswer, lent, outcome as transfersOutcome};
 ghost use Rattle.asking.specs.Lent.{lent as lentForQuery};
 ghost use Rattle.asking.specs.Door.{workspaceAnswer};
 ghost use Rattle.replies.specs.Outcome.{areas, runTbrOutcome, queryOutcome};
 ghost use Rattle.sizes.specs.Counts.{countsOf, queryCountsOf};
 ghost use Rattle.exports.specs.Shown.{shown, shownOf, shownTransfers, shownTransfersOf};
 use cell_bitset::CellBitSet;
-use cell_bitset::CellSetAnswer;
-use delay_tables::DelayAt;
 use door::Answer;
-use frequency::FreqAnswer;
-use label_calls::LabelAnswer;
-use lines::Grouped;
+use label_call::LabelAnswer;
+use leaf_calls::CellSetAnswer;
+use leaf_calls::DelayAt;
+use leaf_calls::FreqAnswer;
+use lines_call::Grouped;
 use replies::Reply;
 use sizes::QuerySizes;
-use transfers::Built;
+use transfers_call::Built;
 
 // The transfer time of built transfers, in seconds.
 const TRANSFER_TIME: usize = 120;
@@ -68,7 +70,7 @@ const TRANSFER_TIME: usize = 120;
 pub extern "C" fn savoiky_cell_bitset_new(num_cells: u32) -> CellSetAnswer
     ensures { λ r. ⌜ r ≡ created «num_cells» ⌝ }
 {
-    cell_bitset::create(num_cells)
+    leaf_calls::create(num_cells)
 }
 
 // The set with at least the groups of so many cells reserved; it holds the same cells. Question 1: at most 512 cells; refused, the
@@ -77,7 +79,7 @@ pub extern "C" fn savoiky_cell_bitset_new(num_cells: u32) -> CellSetAnswer
 pub extern "C" fn savoiky_cell_bitset_ensure_sized(set: CellBitSet, num_cells: u32) -> CellSetAnswer
     ensures { λ r. ⌜ r ≡ resized set «num_cells» ⌝ }
 {
-    cell_bitset::resize(set, num_cells)
+    leaf_calls::resize(set, num_cells)
 }
 
 // The set with this cell; a cell past the reserved groups is dropped.
@@ -128,7 +130,7 @@ pub extern "C" fn savoiky_cell_bitset_is_empty(set: CellBitSet) -> bool
 pub extern "C" fn savoiky_walk_duration(duration: u32, pathway_mode: u32, wheelchair: u32) -> Answer
     ensures { λ r. ⌜ r ≡ walkDuration duration «pathway_mode» wheelchair ⌝ }
 {
-    walk::walk_duration(duration, pathway_mode, wheelchair)
+    leaf_calls::walk_duration(duration, pathway_mode, wheelchair)
 }
 
 // The rounds of a query: min(12, max(wanted, transfers + 2, 4)). Any numbers.
@@ -136,7 +138,7 @@ pub extern "C" fn savoiky_walk_duration(duration: u32, pathway_mode: u32, wheelc
 pub extern "C" fn savoiky_max_rounds(wanted: u32, transfers: u32) -> u32
     ensures { λ r. ⌜ r ≡ roundCount wanted transfers ⌝ }
 {
-    walk::tbr_max_rounds(wanted, transfers)
+    walk_time::tbr_max_rounds(wanted, transfers)
 }
 
 // The earliest run of a frequency trip that leaves here no sooner than `after`: `count` windows of three words each (start,
@@ -153,7 +155,7 @@ pub extern "C" fn savoiky_freq_board(
 ) -> FreqAnswer
     ensures { λ r. ⌜ r ≡ freqOutcome count (now (windows .entry)) base dep after ⌝ }
 {
-    frequency::freq_board(count, windows, base, dep, after)
+    leaf_calls::freq_board(count, windows, base, dep, after)
 }
 
 // The departure under delays: flags 1 departure given at the stop, 2 arrival given, 4 skipped, added. By its own delay where
@@ -167,7 +169,7 @@ pub extern "C" fn savoiky_effective_departure(
 ) -> Answer
     ensures { λ r. ⌜ r ≡ departureOutcome departure «trip_delay» flags «departure_delay» ⌝ }
 {
-    realtime::effective_departure(departure, trip_delay, flags, departure_delay)
+    leaf_calls::effective_departure(departure, trip_delay, flags, departure_delay)
 }
 
 // The arrival under delays: where the stop has either time given, by its own delay, else the trip's, and no shift; where not,
@@ -182,7 +184,7 @@ pub extern "C" fn savoiky_effective_arrival(
 ) -> Answer
     ensures { λ r. ⌜ r ≡ arrivalOutcome arrival «time_shift_s» «trip_delay» flags «arrival_delay» ⌝ }
 {
-    realtime::effective_arrival(arrival, time_shift_s, trip_delay, flags, arrival_delay)
+    leaf_calls::effective_arrival(arrival, time_shift_s, trip_delay, flags, arrival_delay)
 }
 
 // 1 where the flags say skipped, else 0. Question 5: flags at most 7.
@@ -190,7 +192,7 @@ pub extern "C" fn savoiky_effective_arrival(
 pub extern "C" fn savoiky_skipped(flags: u32) -> Answer
     ensures { λ r. ⌜ r ≡ skippedOutcome flags ⌝ }
 {
-    realtime::skipped(flags)
+    leaf_calls::skipped(flags)
 }
 
 // The delay margin: the largest size among trip delays and given stop delays, at most 21,600. Delay rows of two words (trip,
@@ -206,7 +208,7 @@ pub extern "C" fn savoiky_margin(
 ) -> Answer
     ensures { λ r. ⌜ r ≡ marginOutcome trips «delay_rows» «stop_row_count» (now (rows .entry)) (now («stop_rows» .entry)) 21600 ⌝ }
 {
-    delays::capped_margin(trips, delay_rows, stop_row_count, rows, stop_rows)
+    leaf_calls::capped_margin(trips, delay_rows, stop_row_count, rows, stop_rows)
 }
 
 // What the delay tables say of the stop time of a trip with this sequence number: known 1 where the trip has a delay row. The
@@ -223,7 +225,7 @@ pub extern "C" fn savoiky_delay_at(
 ) -> DelayAt
     ensures { λ r. ⌜ r ≡ delayAtOutcome trips «delay_rows» «stop_row_count» (now (rows .entry)) (now («stop_rows» .entry)) trip sequence ⌝ }
 {
-    delays::delay_at(
+    leaf_calls::delay_at(
         trips,
         delay_rows,
         stop_row_count,
@@ -240,7 +242,7 @@ pub extern "C" fn savoiky_delay_at(
 pub extern "C" fn savoiky_service_second(hour: u32, minute: u32, second: u32) -> Answer
     ensures { λ r. ⌜ r ≡ serviceSecond hour minute second ⌝ }
 {
-    clock::service_second(hour, minute, second)
+    leaf_calls::service_second(hour, minute, second)
 }
 
 // LABELS: when and how a stop was reached in a round. A stop has 13 rows: row 0 is its access walk, round k writes row k + 1. The
@@ -274,7 +276,7 @@ pub extern "C" fn savoiky_label_store_access(
 ) -> u32
     ensures { λ r. ⌜ outcome r (now (labels .exit)) (now (distances .exit)) ≡ storeOutcome (Access «stop_idx» «arrival_s» «walk_duration» «walk_distance») stops stop row (now (labels .entry)) (now (distances .entry)) ⌝ }
 {
-    label_calls::store_access(
+    label_call::store_access(
         stops,
         stop,
         row,
@@ -305,7 +307,7 @@ pub extern "C" fn savoiky_label_store_transit(
 ) -> u32
     ensures { λ r. ⌜ outcome r (now (labels .exit)) (now (distances .exit)) ≡ storeOutcome (Transit «arrival_s» «trip_idx» «board_stop» «board_off» «alight_off» «prev_round» «time_shift_s») stops stop row (now (labels .entry)) (now (distances .entry)) ⌝ }
 {
-    label_calls::store_transit(
+    label_call::store_transit(
         stops,
         stop,
         row,
@@ -338,7 +340,7 @@ pub extern "C" fn savoiky_label_store_walk(
 ) -> u32
     ensures { λ r. ⌜ outcome r (now (labels .exit)) (now (distances .exit)) ≡ storeOutcome (Walk «arrival_s» «from_stop» «to_stop» «duration_s» «distance_m» «prev_round») stops stop row (now (labels .entry)) (now (distances .entry)) ⌝ }
 {
-    label_calls::store_walk(
+    label_call::store_walk(
         stops,
         stop,
         row,
@@ -364,7 +366,7 @@ pub extern "C" fn savoiky_label_load(
 ) -> LabelAnswer
     ensures { λ r. ⌜ r ≡ loadAnswer stops stop row (now (labels .entry)) (now (distances .entry)) ⌝ }
 {
-    label_calls::load(stops, stop, row, labels, distances)
+    label_call::load(stops, stop, row, labels, distances)
 }
 
 // THE TIMETABLE, `tables`, is one slice of 6 times + 8 trips + 3 windows + 5 edges + stops words, in this order:
@@ -401,7 +403,7 @@ pub extern "C" fn savoiky_sort_stop_departures(
     ensures { λ r. ⌜ departureOutcomeOf r (departureAreas (now (rows .exit)) (now (marks .exit)) (now (work .exit)) (now (other .exit))) ≡ sortOutcome (now (tables .entry)) (countsOf stops trips times windows edges) departures (now (runs .entry)) (departureAreas (now (rows .entry)) (now (marks .entry)) (now (work .entry)) (now (other .entry))) ⌝ }
 {
     let c = sizes::counts(stops, trips, times, windows, edges);
-    departure_sorting::sort_stop_departures(
+    departures_call::sort_stop_departures(
         tables,
         c,
         departures as usize,
@@ -442,7 +444,7 @@ pub extern "C" fn savoiky_compute_line_groups(
     ensures { λ r. ⌜ shown r (lineAreas (now (lines .exit)) (now (runs .exit)) (now (entries .exit)) (now (work .exit)) (now (other .exit))) ≡ shownOf (linesOutcome (now (tables .entry)) (countsOf stops trips times windows edges) (lineAreas (now (lines .entry)) (now (runs .entry)) (now (entries .entry)) (now (work .entry)) (now (other .entry)))) ⌝ }
 {
     let c = sizes::counts(stops, trips, times, windows, edges);
-    lines_answer(lines::compute_line_groups(tables, c, lines, runs, entries, work, other))
+    lines_answer(lines_call::compute_line_groups(tables, c, lines, runs, entries, work, other))
 }
 
 // Each trip's position in its line (4,294,967,295: in none) and each line's FIFO flag (1: no trip overtakes another), of any
@@ -511,7 +513,7 @@ pub extern "C" fn savoiky_compute_trip_transfers(
     ensures { λ r. ⌜ shownTransfers r (transferAreas (now (area .exit)) (now («transfer_runs» .exit))) ≡ shownTransfersOf (transfersOutcome (lent (now (tables .entry)) (countsOf stops trips times windows edges) «line_count» (now (lines .entry)) departures (now (runs .entry)) (now (rows .entry)) 120) (transferAreas (now (area .entry)) (now («transfer_runs» .entry)))) ⌝ }
 {
     let c = sizes::counts(stops, trips, times, windows, edges);
-    transfers_answer(transfers::compute_trip_transfers(
+    transfers_answer(transfers_call::compute_trip_transfers(
         tables,
         c,
         line_count as usize,

@@ -15,7 +15,7 @@ use lib.Ieee.{Float}
 use borrow.Author.Tests.{ltb-true, ltb-false, eqb-true, eqb-false}
 use Rattle.loops.specs.Iter.{Hit}
 use Rattle.signed.specs.Signed.{bitsOf}
-use Rattle.walk.proofs.Laws.{rounds-most}
+use Rattle.walk_time.proofs.Laws.{rounds-most}
 use Rattle.frequency.specs.declared.Boarding.{Boarding}
 use Rattle.frequency.specs.declared.FreqBoard.{FreqBoard}
 use Rattle.frequency.specs.declared.FreqBoard.the-variants.{Nothing, Board}

@@ -4,3 +4,4 @@ pub mod Group
 pub mod Parts
 pub mod Lists
 pub mod Tally
+pub mod Laws

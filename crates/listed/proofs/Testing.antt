@@ -13,7 +13,7 @@ use Rattle.frequency.specs.declared.FreqBoard.the-variants.{Nothing, Board}
 use Rattle.tables.specs.declared.Counts.{Counts}
 use Rattle.tables.specs.Tables.{timeOf, firstOf}
 use Rattle.tables.specs.Timetable.{timetable}
-use Rattle.delay_tables.specs.declared.Found.{Found}
+use Rattle.delay_rows.specs.declared.Found.{Found}
 use Rattle.boarding.specs.Reads.{hitOf, Agree}
 use Rattle.model.specs.Tables.{Tables, Query, permitted, noPickup}
 use Rattle.model.specs.Search.{Boardings, State, skipped, boardAt, pruned, passedOver, boarding}

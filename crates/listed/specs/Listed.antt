@@ -7,7 +7,7 @@ use lib.ListN.{length}
 use Rattle.frequency.specs.declared.Boarding.{Boarding}
 use Rattle.frequency.specs.declared.FreqBoard.{FreqBoard}
 use Rattle.frequency.specs.declared.FreqBoard.the-variants.{Board}
-use Rattle.delay_tables.specs.declared.Found.{Found}
+use Rattle.delay_rows.specs.declared.Found.{Found}
 use Rattle.tables.specs.declared.Counts.{Counts}
 use Rattle.tables.specs.Timetable.{timetable}
 use Rattle.departures.specs.Departures.{rowAt, rowDeparture}

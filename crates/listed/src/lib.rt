@@ -21,7 +21,7 @@ ghost use Rattle.asking.specs.Sane.{Limits};
 ghost use Rattle.listed.specs.Listed.{RoundChains, RowsOrdered, AsBoarded};
 use asking::QueryCounts;
 use boarding::Terms;
-use delay_tables::Found;
+use delay_rows::Found;
 use frequency::FreqBoard;
 use scratch::Lay;
 use tables::Counts;

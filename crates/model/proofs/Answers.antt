@@ -9,7 +9,7 @@ use native.Mathlib.Omega.{arith}
 use lib.Dec.{eqb}
 use borrow.Author.Tests.{eqb-true, eqb-false, eq-eqb, ne-eqb}
 use Rattle.loops.proofs.Search.{split}
-use Rattle.walk.proofs.Laws.{rounds-most}
+use Rattle.walk_time.proofs.Laws.{rounds-most}
 use Rattle.label.specs.declared.Label.the-variants.{Empty}
 use Rattle.model.specs.Tables.{Tables, Query, roundsOf, never, stops}
 use Rattle.model.specs.Search.{Arrivals, at, reachedBy, useArcFlags, flagsInUse, bestTarget, candidatesFrom, final, answer, runTbr, query}

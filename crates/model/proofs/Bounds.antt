@@ -12,9 +12,9 @@ use lib.Dec.{ltb, eqb}
 use borrow.Author.Tests.{eqb-true}
 use Rattle.door.specs.Door.{timeLimit}
 use Rattle.loops.proofs.Iter.{and-left}
-use Rattle.walk.proofs.Laws.{rounds-most}
+use Rattle.walk_time.proofs.Laws.{rounds-most}
 use Rattle.frequency.specs.declared.Boarding.{Boarding}
-use Rattle.realtime.specs.Times.{sizeOf}
+use Rattle.stop_delay.specs.Times.{sizeOf}
 use Rattle.label.specs.declared.Label.{Label}
 use Rattle.model.specs.Tables.{Tables, Query, roundsOf, isEgress, egressWalk, never, stops, trips, stopCount, permitted}
 use Rattle.model.specs.Search.{Segment, Arrivals, Boardings, at, reachedBy, bestAfter, delayOf, prunable, board, emptied, final}

@@ -7,7 +7,7 @@ use mathlib.Core.Bool.{true}
 use native.Mathlib.Omega.{arith}
 use lib.Dec.{ltb, eqb}
 use Rattle.line_numbers.specs.Lines.{lineOf}
-use Rattle.lines.proofs.Laws.{line-counts, line-stops}
+use Rattle.line_numbers.proofs.Laws.{line-counts, line-stops}
 use Rattle.line_layout.specs.Layout.{fifoLine, positionIn}
 use Rattle.line_layout.specs.Claims.{NotLater}
 use Rattle.built.proofs.Laws.{built-fifo}

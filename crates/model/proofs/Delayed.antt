@@ -10,11 +10,11 @@ use Rattle.door.specs.Door.{timeLimit}
 use Rattle.loops.specs.Iter.{Hit, hit, miss}
 use Rattle.loops.proofs.Iter.{first-found}
 use Rattle.loops.proofs.Search.{hit-below}
-use Rattle.realtime.specs.declared.StopDelay.{StopDelay}
-use Rattle.realtime.specs.Times.{departureGiven, arrivalGiven, sizeOf, shifted}
-use Rattle.realtime.proofs.Times.{shifted-near}
-use Rattle.delay_tables.specs.Delays.{stopRow, besideTrip}
-use Rattle.delays.proofs.Largest.{Covered, margin-trip, margin-departure}
+use Rattle.stop_delay.specs.declared.StopDelay.{StopDelay}
+use Rattle.stop_delay.specs.Times.{departureGiven, arrivalGiven, sizeOf, shifted}
+use Rattle.stop_delay.proofs.Times.{shifted-near}
+use Rattle.delay_rows.specs.Delays.{stopRow, besideTrip}
+use Rattle.delay_lookup.proofs.Largest.{Covered, margin-trip, margin-departure}
 use Rattle.model.specs.Tables.{Tables, Query, stops, trips, stopCount, arrival, departure, sequence}
 use Rattle.model.specs.Search.{delayOf, undelayed, delayAt, skipped, marginOf}
 use Rattle.model.specs.Door.{Door}

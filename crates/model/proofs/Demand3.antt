@@ -1,5 +1,5 @@
 -- Demand 3, whole: on every steady day, and so on every plain one, of every answered query.
-use Prim.Native.Nat.{ℕ, zero, suc, _+_, _*_, _-_, _≤_, _<_}
+use Prim.Native.Nat.{ℕ, zero, suc, _+_, _*_, _≤_, _<_}
 use mathlib.Core.Path.{_≡_, refl, sym, ap, subst, fun-ext, _∙_}
 use mathlib.Core.Bool.{Bool, true, false, cond, _&&_, _||_, not}
 use mathlib.Core.List.{List, [], List·Memᴰ, List·Memᴰ·not-nil, Memᴰ·map}
@@ -10,7 +10,7 @@ use borrow.Author.Tests.{not-true, ne-eqb}
 use Rattle.door.specs.Door.{timeLimit}
 use Rattle.loops.specs.Iter.{Hit, miss}
 use Rattle.loops.proofs.Search.{first-isnt}
-use Rattle.walk.specs.Walk.{effectiveDuration, stairsOrEscalator, roundCount}
+use Rattle.walk_time.specs.Walk.{effectiveDuration, stairsOrEscalator, roundCount}
 use Rattle.model.specs.Tables.{never, Tables, Query, roundsOf, changeBefore, egressWalk, stops, trips, stopAt, arrival, departure, edgeTo, walkTime}
 use Rattle.model.specs.Search.{Answer, delayOf, undelayed, departureNow, bestTarget, final, answer, useArcFlags, runTbr, query}
 use Rattle.model.specs.Door.{Door}

@@ -8,8 +8,8 @@ use lib.Dec.{eqb}
 use lib.Ieee.{Float}
 use borrow.Author.Tests.{eqb-true}
 use Rattle.door.specs.Door.{timeLimit}
-use Rattle.walk.proofs.Laws.{duration-most}
-use Rattle.realtime.specs.Times.{sizeOf}
+use Rattle.walk_time.proofs.Laws.{duration-most}
+use Rattle.stop_delay.specs.Times.{sizeOf}
 use Rattle.label.specs.declared.Label.{Label}
 use Rattle.label.specs.declared.Label.the-variants.{Empty, Access, Transit, Walk}
 use Rattle.label_table.specs.Table.{recordOf}
@@ -17,7 +17,6 @@ use Rattle.model.specs.Tables.{Tables, Query, never, stops, trips, edges
 use Rattle.model.specs.Search.{Segment, Arrivals}
 use Rattle.model.specs.Door.{Door}
 use Rattle.model.specs.Lawful.{latest, labelIn, AccessFits, TransitFits, transfer, edge, WalkFits, LabelFits, access, transit, walk, Begins}
-use Rattle.model.specs.Lawful.{Begins}
 use Rattle.model.proofs.Stores.{keep-in, upto-in}
 use Rattle.model.proofs.Steps.{lists-long, Rides, alighted, changed, Why, origin, ride, foot, Kept}
 use Rattle.model.proofs.Sizes.{latestBoarding, arrival-early, boards-soon}

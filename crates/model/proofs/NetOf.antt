@@ -1,5 +1,5 @@
 -- Tables and query as the net of the optimality proof, and the full search's state as the plain search's.
-use Prim.Native.Nat.{ℕ, _-_}
+use Prim.Native.Nat.{ℕ}
 use mathlib.Core.Bool.{true, false, not, _||_}
 use mathlib.Core.List.{map}
 use lib.Dec.{ltb}

@@ -18,10 +18,10 @@ use Rattle.frequency.specs.declared.FreqBoard.{FreqBoard}
 use Rattle.frequency.specs.declared.FreqBoard.the-variants.{Nothing, Board}
 use Rattle.frequency.specs.Gtfs.{Window, runStart, firstRun, boardHit, windowBoard, earlierOf, boardNext, earliestFreqBoard}
 use Rattle.frequency.proofs.Best.{found-says}
-use Rattle.realtime.specs.declared.StopDelay.{StopDelay}
-use Rattle.realtime.specs.Times.{departureGiven, arrivalGiven, sizeOf, shifted}
-use Rattle.realtime.proofs.Times.{shifted-near}
-use Rattle.delay_tables.specs.Delays.{delayRow, stopRow, besideTrip, stopDelay}
+use Rattle.stop_delay.specs.declared.StopDelay.{StopDelay}
+use Rattle.stop_delay.specs.Times.{departureGiven, arrivalGiven, sizeOf, shifted}
+use Rattle.stop_delay.proofs.Times.{shifted-near}
+use Rattle.delay_rows.specs.Delays.{delayRow, stopRow, besideTrip, stopDelay}
 use Rattle.model.specs.Tables.{Tables, Query, trips, stopCount, arrival, departure, sequence, noWindows}
 use Rattle.model.specs.Search.{delayOf, delayAt, departureNow, arrivalNow, boardAt, tripWindow}
 use Rattle.model.specs.Door.{Door}

@@ -14,7 +14,7 @@ use Rattle.label.specs.declared.Label.{Label}
 use Rattle.label.specs.declared.Label.the-variants.{Access, Transit, Walk}
 use Rattle.label.specs.Label.{noDistance}
 use Rattle.label_table.specs.Table.{recordOf}
-use Rattle.model.specs.Tables.{Tables, Origin, Query, stops, stopAt, edgesFrom, edgeTo, walkTime, permitted}
+use Rattle.model.specs.Tables.{Tables, Origin, Query, stopAt, edgesFrom, edgeTo, walkTime, permitted}
 use Rattle.model.specs.Search.{Segment, Arrivals, Boardings, at, reachedBy, delayOf, skipped, bestAfter, emptied, newArrivals, newBoardings, logged, board}
 use Rattle.model.specs.Lawful.{Boarded, Begins, Leaves, leftAt}
 use Rattle.model.proofs.Stores.{set-le, set-hit}

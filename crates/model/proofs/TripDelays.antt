@@ -1,5 +1,5 @@
 -- Delays of whole trips make a steady day: each trip's effective times are its schedule moved by one delay, whatever the boarding.
-use Prim.Native.Nat.{ℕ, suc, _+_, _-_, _≤_, _<_}
+use Prim.Native.Nat.{ℕ, suc, _-_, _≤_, _<_}
 use mathlib.Core.Path.{_≡_, refl, sym, ap, subst, _∙_}
 use mathlib.Core.Logic.{⊎-elim}
 use mathlib.Core.Bool.{Bool, true, false, cond, _&&_, _||_}
@@ -14,9 +14,9 @@ use Rattle.loops.proofs.Iter.{first-found}
 use Rattle.loops.proofs.Search.{split, hit-below}
 use Rattle.signed.specs.Signed.{ofBits, bitsOf, floored}
 use Rattle.signed.proofs.Laws.{of-low, of-high, of-sub, moved-low, moved-high}
-use Rattle.realtime.specs.Times.{departureGiven, arrivalGiven, sizeOf, shifted}
-use Rattle.realtime.proofs.Times.{arrival-shifted, shifted-near}
-use Rattle.delay_tables.specs.Delays.{stopRow, besideTrip}
+use Rattle.stop_delay.specs.Times.{departureGiven, arrivalGiven, sizeOf, shifted}
+use Rattle.stop_delay.proofs.Times.{arrival-shifted, shifted-near}
+use Rattle.delay_rows.specs.Delays.{stopRow, besideTrip}
 use Rattle.model.specs.Tables.{Tables, Query, stops, trips, stopCount, arrival, departure, sequence}
 use Rattle.model.specs.Search.{delayOf, delayAt}
 use Rattle.model.specs.Door.{Door}

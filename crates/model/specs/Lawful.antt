@@ -11,7 +11,7 @@ use lib.Ieee.{Float}
 use Rattle.door.specs.Door.{timeLimit}
 use Rattle.frequency.specs.declared.Boarding.{Boarding}
 use Rattle.frequency.specs.declared.FreqBoard.the-variants.{Board}
-use Rattle.realtime.specs.Times.{sizeOf}
+use Rattle.stop_delay.specs.Times.{sizeOf}
 use Rattle.label.specs.declared.Label.{Label}
 use Rattle.label.specs.declared.Label.the-variants.{Empty, Access, Transit, Walk}
 use Rattle.label.specs.Label.{noDistance}

@@ -9,7 +9,7 @@ use mathlib.Core.List.{List, List·Memᴰ}
 use lib.IntN.{pos, subℕ, _+ℤ_}
 use lib.Signed.{nonNeg}
 use Rattle.signed.specs.Signed.{ofBits, bitsOf}
-use Rattle.realtime.specs.Times.{departureGiven, arrivalGiven, sizeOf, shifted, effectiveDeparture}
+use Rattle.stop_delay.specs.Times.{departureGiven, arrivalGiven, sizeOf, shifted, effectiveDeparture}
 use Rattle.departures.specs.declared.DepartureRow.{DepartureRow}
 use Rattle.line_numbers.specs.Lines.{lineOf, linesOf}
 use Rattle.built.specs.Built.{AsBuilt}

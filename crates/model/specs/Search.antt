@@ -16,8 +16,8 @@ use Rattle.frequency.specs.declared.Boarding.{Boarding}
 use Rattle.frequency.specs.declared.FreqBoard.{FreqBoard}
 use Rattle.frequency.specs.declared.FreqBoard.the-variants.{Nothing, Board}
 use Rattle.frequency.specs.Gtfs.{Window, windowOf, earliestFreqBoard}
-use Rattle.realtime.specs.declared.StopDelay.{StopDelay}
-use Rattle.realtime.specs.Times.{skippedAt, effectiveDeparture, effectiveArrival}
+use Rattle.stop_delay.specs.declared.StopDelay.{StopDelay}
+use Rattle.stop_delay.specs.Times.{skippedAt, effectiveDeparture, effectiveArrival}
 use Rattle.label.specs.declared.Label.{Label}
 use Rattle.label.specs.declared.Label.the-variants.{Empty, Access, Transit, Walk}
 use Rattle.label.specs.Label.{noDistance}
@@ -25,7 +25,7 @@ use Rattle.label_table.specs.Table.{recordOf}
 use Rattle.departures.specs.declared.DepartureRow.{DepartureRow}
 use Rattle.line_layout.specs.Layout.{LineTrips}
 use Rattle.line_transfers.specs.Transfers.{Transfer}
-use Rattle.delay_tables.specs.Delays.{delayRow, stopDelay, margin}
+use Rattle.delay_rows.specs.Delays.{delayRow, stopDelay, margin}
 use Rattle.model.specs.Tables.{never, Tables, Origin, Query, roundsOf, changeBefore, isEgress, egressWalk, stops, trips, stopCount, stopAt, arrival, departure, sequence, noPickup, noDropOff, noWindows, edgesFrom, edgeTo, walkTime, position, fifo, usable, permitted}
 
 -- a segment (`seg_queue`), queued for the next round: trip, boarding offset, boarding stop, time shift

@@ -8,12 +8,12 @@ use lib.Ieee.{Float}
 use Rattle.loops.specs.Count.{upto}
 use Rattle.sorts.specs.Orders.{keep}
 use Rattle.cell_bitset.specs.declared.CellBitSet.{CellBitSet}
-use Rattle.walk.specs.Walk.{effectiveDuration, roundCount}
+use Rattle.walk_time.specs.Walk.{effectiveDuration, roundCount}
 use Rattle.departures.specs.declared.DepartureRow.{DepartureRow}
 use Rattle.tables.specs.Timetable.{Timetable, timeAt}
 use Rattle.line_layout.specs.Layout.{LineTrips, fifoLine, positionIn}
 use Rattle.line_transfers.specs.Transfers.{Transfer}
-use Rattle.delay_tables.specs.Delays.{DelayTables}
+use Rattle.delay_rows.specs.Delays.{DelayTables}
 
 -- four numbers of the Rust: the transfer time of the building calls, how many trips of a line are tried for a transfer, by how much
 -- a candidate may be later than the best total, the cap of the delay margin

@@ -15,7 +15,7 @@ ghost use Rattle.model.specs.Search.{Boardings, lineAt, prunable as mayPrune, d
 ghost use Rattle.scratch.specs.Places.{Sized};
 ghost use Rattle.pruning.specs.Chain.{firstOf, chainFrom, before, someBefore};
 ghost use Rattle.pruning.specs.Books.{Agrees, Chains, Books, Inside};
-use delay_tables::Found;
+use delay_rows::Found;
 use scratch::Lay;
 
 // Has the trip no delay row?

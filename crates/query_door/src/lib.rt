@@ -15,7 +15,7 @@ ghost use Rattle.asking.specs.Lent.{marksAt, transferRunsAt, querySize, delaysO
 ghost use Rattle.asking.specs.Door.{columnAt, lineNumbers, queryNumbers, question4, markRanges, transferRanges, settingRanges, walkRanges, question5, partOrder, departureOrder, columnRises, question6, verdict};
 ghost use Rattle.asking.specs.Sane.{Limits, ReadSized, Placed};
 ghost use Rattle.asking.specs.Once.{Leaving, RunRight, InTurn, queryOk, tablesOk, Passed};
-ghost use Rattle.delay_tables.specs.Asked.{rowsAsked};
+ghost use Rattle.delay_rows.specs.Asked.{rowsAsked};
 use asking::Lengths;
 use asking::QueryCounts;
 use departures::DepartureRow;
@@ -48,7 +48,7 @@ fn delays_ok(question: u32, q: &[u32], n: QueryCounts) -> bool
     requires { ⌜ Limits n ⌝ ∗ ⌜ querySize n ≤ length (now q) ⌝ }
     ensures { λ r. ⌜ r ≡ rowsAsked question (n .timetable .trips) (delaysOf (now (q .entry)) n) ⌝ }
 {
-    delay_tables::rows_asked(
+    delay_rows::rows_asked(
         question,
         n.timetable.trips as u32,
         asking::delay_rows(q, n),

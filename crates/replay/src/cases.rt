@@ -12,8 +12,8 @@ use crate::words::part;
 use crate::words::rest;
 use crate::words::same_words;
 use cell_bitset::CellBitSet;
-use delay_tables::DelayAt;
 use door::Answer;
+use leaf_calls::DelayAt;
 
 fn answered(a: Answer, code: u32, value: u32) -> bool {
     both(a.code == code, a.value == value)
@@ -160,7 +160,7 @@ fn stored(n: Nine, m: Nine, labels: &mut [u32], distances: &mut [f64]) -> u32 {
 }
 
 // Are these the code of storing and, after it, the label of the words?
-fn label_right(code: u32, l: label_calls::LabelAnswer, w: &[u32]) -> bool {
+fn label_right(code: u32, l: label_call::LabelAnswer, w: &[u32]) -> bool {
     let r = l.row;
     let got = [
         r.kind,

@@ -10,8 +10,8 @@ use lib.Ieee.{Float}
 use borrow.Author.Tests.{eq-eqb, ne-eqb}
 use Rattle.loops.specs.Count.{tabFrom}
 use Rattle.loops.proofs.Count.{length-tabFrom}
-use Rattle.walk.specs.Walk.{roundCount}
-use Rattle.walk.proofs.Laws.{rounds-most}
+use Rattle.walk_time.specs.Walk.{roundCount}
+use Rattle.walk_time.proofs.Laws.{rounds-most}
 use Rattle.model.specs.Tables.{Tables, Query, roundsOf, never}
 use Rattle.model.specs.Search.{Arrivals, bestTarget, candidatesFrom}
 use Rattle.flags.specs.Flags.{egressRows}

@@ -1,6 +1,6 @@
 -- What the inner functions of the two calls are given, and what they leave. Definitions only.
 -- Inner: nobody has to believe this.
-use Prim.Native.Nat.{ℕ, suc, _+_, _*_, _-_, _≤_}
+use Prim.Native.Nat.{ℕ, suc, _+_, _*_, _≤_}
 use mathlib.Core.Path.{_≡_}
 use mathlib.Core.Bool.{Bool, true, false, cond}
 use mathlib.Core.List.{List, []}
@@ -9,7 +9,7 @@ use lib.Dec.{eqb}
 use lib.Ieee.{Float}
 use Rattle.tables.specs.Timetable.{timetable}
 use Rattle.tables.specs.Sane.{Sane}
-use Rattle.walk.specs.Walk.{roundCount}
+use Rattle.walk_time.specs.Walk.{roundCount}
 use Rattle.line_transfers.specs.Transfers.{eventsBefore}
 use Rattle.model.specs.Tables.{Tables, Query, roundsOf, never}
 use Rattle.model.specs.Search.{Arrivals, Answer, useArcFlags, flagsInUse, bestTarget, candidatesFrom, answer}

@@ -45,7 +45,7 @@ fn reply_of(
             candidates: 0,
         };
     }
-    let rounds = walk::tbr_max_rounds(q[2], q[3]);
+    let rounds = walk_time::tbr_max_rounds(q[2], q[3]);
     let m = totals::candidates(
         labels,
         label_distances,

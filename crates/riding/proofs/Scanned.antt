@@ -7,11 +7,11 @@ use native.Mathlib.Omega.{arith}
 use lib.ListN.{length}
 use lib.Ieee.{Float}
 use Rattle.loops.specs.Iter.{Hit}
-use Rattle.realtime.specs.Times.{sizeOf}
+use Rattle.stop_delay.specs.Times.{sizeOf}
 use Rattle.door.specs.Door.{timeLimit}
 use Rattle.tables.specs.Timetable.{Timetable}
-use Rattle.delay_tables.specs.declared.Found.{Found}
-use Rattle.delay_tables.specs.Flat.{delayTables}
+use Rattle.delay_rows.specs.declared.Found.{Found}
+use Rattle.delay_rows.specs.Flat.{delayTables}
 use Rattle.frequency.specs.declared.Boarding.{Boarding}
 use Rattle.frequency.specs.declared.FreqBoard.{FreqBoard}
 use Rattle.frequency.specs.declared.FreqBoard.the-variants.{Nothing, Board}

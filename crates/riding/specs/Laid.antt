@@ -5,7 +5,7 @@ use mathlib.Core.Path.{_≡_}
 use mathlib.Core.List.{List}
 use lib.ListN.{length, getD}
 use Rattle.door.specs.Door.{timeLimit}
-use Rattle.realtime.specs.Times.{sizeOf}
+use Rattle.stop_delay.specs.Times.{sizeOf}
 use Rattle.tables.specs.declared.Counts.{Counts}
 use Rattle.departures.specs.Departures.{listedAt}
 use Rattle.departures.specs.Listed.{RowsListed}

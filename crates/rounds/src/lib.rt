@@ -135,7 +135,7 @@ pub fn rounds(
     let rows = asking::delay_rows(q, n);
     let stop_rows = asking::stop_rows(q, n);
     let change = q[1];
-    let limit = walk::tbr_max_rounds(q[2], q[3]);
+    let limit = walk_time::tbr_max_rounds(q[2], q[3]);
     let mut g = h;
     let mut even = true;
     let mut r: u32 = 0;

@@ -9,11 +9,11 @@ use lib.Ieee.{Float}
 use borrow.Author.Tests.{not-true, not-false}
 use Rattle.door.specs.Door.{timeLimit}
 use Rattle.loops.specs.Count.{tabFrom}
-use Rattle.realtime.specs.Times.{sizeOf}
+use Rattle.stop_delay.specs.Times.{sizeOf}
 use Rattle.tables.specs.declared.Counts.{Counts}
 use Rattle.tables.specs.Timetable.{timetable}
-use Rattle.delay_tables.specs.declared.Found.{Found}
-use Rattle.delay_tables.specs.Flat.{delayTables}
+use Rattle.delay_rows.specs.declared.Found.{Found}
+use Rattle.delay_rows.specs.Flat.{delayTables}
 use Rattle.model.specs.Tables.{Tables, Query, permitted}
 use Rattle.model.specs.Search.{Segment, State, delayOf, logged, scanTripForward, rideSegments}
 use Rattle.scratch.specs.declared.Lay.{Lay}
@@ -24,8 +24,7 @@ use Rattle.scratch.specs.Step.{Ready, QueueStep}
 use Rattle.boarding.specs.Reads.{hitOf, Known, Asks}
 use Rattle.asking.specs.declared.QueryCounts.{QueryCounts}
 use Rattle.alighting.specs.declared.Net.{Net}
-use Rattle.alighting.specs.Scan.{Nets}
-use Rattle.alighting.specs.Scan.{Riding}
+use Rattle.alighting.specs.Scan.{Nets, Riding}
 use Rattle.riding.specs.Laid.{Rides, Segments}
 use Rattle.riding.specs.Going.{Going, Rode, rideOf}
 use Rattle.riding.proofs.Keep.{kept-refl}

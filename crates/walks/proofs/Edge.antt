@@ -8,7 +8,7 @@ use lib.ListN.{getD}
 use lib.Ieee.{Float, nan}
 use lib.Dec.{ltb}
 use borrow.Author.Tests.{lt-ltb, le-ltb}
-use Rattle.walk.specs.Walk.{effectiveDuration}
+use Rattle.walk_time.specs.Walk.{effectiveDuration}
 use Rattle.label.specs.declared.Label.{Label}
 use Rattle.label.specs.declared.Label.the-variants.{Walk}
 use Rattle.tables.specs.declared.EdgeRow.{EdgeRow}

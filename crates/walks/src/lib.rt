@@ -91,7 +91,11 @@ fn walk_edge(
     if skips(rules, patterns, row.pattern) {
         return h;
     }
-    let d = walk::effective_duration_s(row.duration as u32, row.pathway as u32, rules.wheelchair);
+    let d = walk_time::effective_duration_s(
+        row.duration as u32,
+        row.pathway as u32,
+        rules.wheelchair,
+    );
     let w = v + d;
     if h.best <= w {
         return h;

@@ -6,7 +6,6 @@ use borrow.Author.Needs.{needs}
 use Rattle.line_layout.specs.Listed.{lineRunsOk}
 use Rattle.asking.proofs.Parts.{line-runs-size, stop-runs-size}
 use lib.ListN.{length}
-use Rattle.delays.proofs.Examples.{entries}
 use native.Mathlib.Omega.{arith}
 use mathlib.Core.Path.{_∙_, ap, ap₂}
 use mathlib.Core.Bool.{_&&_}

@@ -2,7 +2,7 @@ use Rattle.asking.specs.Door.{question2}
 use borrow.Author.Tests.{not-false, not-true}
 use mathlib.Core.Path.{_∙_, ap₂, sym}
 use mathlib.Core.Bool.{_&&_}
-use Rattle.transfers.proofs.Asking.{lent-no, lent-yes}
+use Rattle.door.proofs.Laws.{lent-no, lent-yes}
 use Rattle.tables.proofs.Yes.{slices-yes}
 use borrow.Author.Needs.{needs}
 use Rattle.asking.proofs.sizes_ok.Statement.{statement}

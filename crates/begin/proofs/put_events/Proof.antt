@@ -3,7 +3,7 @@ use denote.Ref.{now}
 use borrow.Author.Needs.{needs}
 use native.Mathlib.Omega.{arith}
 use mathlib.Core.Path.{ap, refl}
-use Rattle.transfers.proofs.Packing.{all-of-them}
+use Rattle.event_transfers.proofs.Counting.{all-of-them}
 use Prim.Native.Nat.{_-_}
 use Rattle.begin.proofs.Sections.{Running, running-again, running-none}
 use Rattle.begin.proofs.put_events.Statement.{statement}

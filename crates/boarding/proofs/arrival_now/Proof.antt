@@ -3,7 +3,7 @@ use Rattle.tables.proofs.Yes.{sane}
 use denote.Ref.{now}
 use Rattle.tables.specs.Tables.{firstOf}
 use Rattle.boarding.proofs.Laws.{arrival-now-is, event-time}
-use Rattle.realtime.proofs.Times.{arrival-bound}
+use Rattle.stop_delay.proofs.Times.{arrival-bound}
 use Rattle.model.specs.Tables.{arrival}
 use native.Mathlib.Omega.{arith}
 use Prim.Native.Nat.{_+_}

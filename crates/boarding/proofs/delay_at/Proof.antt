@@ -1,7 +1,7 @@
 use denote.Ref.{now}
-use Rattle.delays.proofs.Rows.{no-delay-bounded, row-bounded}
+use Rattle.delay_lookup.proofs.Rows.{no-delay-bounded, row-bounded}
 use Rattle.loops.specs.Iter.{hit, miss}
-use Rattle.delay_tables.specs.Flat.{delayTables}
+use Rattle.delay_rows.specs.Flat.{delayTables}
 use Rattle.boarding.proofs.Laws.{delay-at-is}
 use borrow.Author.Needs.{needs}
 use Rattle.boarding.proofs.delay_at.Statement.{statement}

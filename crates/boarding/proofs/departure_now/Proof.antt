@@ -3,7 +3,7 @@ use Rattle.tables.proofs.Yes.{sane}
 use denote.Ref.{now}
 use Rattle.tables.specs.Tables.{firstOf}
 use Rattle.boarding.proofs.Laws.{departure-now-is, event-time}
-use Rattle.realtime.proofs.Times.{departure-bound}
+use Rattle.stop_delay.proofs.Times.{departure-bound}
 use Rattle.model.specs.Tables.{departure}
 use native.Mathlib.Omega.{arith}
 use Prim.Native.Nat.{_+_}

@@ -1,5 +1,5 @@
-use Rattle.realtime.specs.declared.StopDelay.{StopDelay}
-use Rattle.realtime.specs.Times.{skippedAt}
+use Rattle.stop_delay.specs.declared.StopDelay.{StopDelay}
+use Rattle.stop_delay.specs.Times.{skippedAt}
 use mathlib.Core.Path.{_∙_, ap}
 use borrow.Author.Needs.{needs}
 use Rattle.boarding.proofs.skipped.Statement.{statement}

@@ -1,5 +1,5 @@
 use mathlib.Core.Path.{_∙_, ap, sym}
-use Rattle.lines.specs.Call.{answerOf}
+use Rattle.lines_call.specs.Call.{answerOf}
 use borrow.Author.Needs.{needs}
 use Rattle.exports.proofs.lines_answer.Statement.{statement}
 use Rattle.exports.proofs.lines_answer.Tie as tie

@@ -2,7 +2,7 @@ use Rattle.exports.proofs.Shows.{shows}
 use denote.Ref.{now}
 use mathlib.Core.Path.{_∙_, ap}
 use Rattle.tables.specs.declared.Counts.{Counts}
-use Rattle.lines.specs.Call.{areas, outcome}
+use Rattle.lines_call.specs.Call.{areas, outcome}
 use borrow.Author.Needs.{needs}
 use Rattle.exports.proofs.savoiky_compute_line_groups.Statement.{statement}
 use Rattle.exports.proofs.savoiky_compute_line_groups.Tie as tie

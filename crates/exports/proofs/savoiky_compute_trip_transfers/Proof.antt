@@ -2,7 +2,7 @@ use Rattle.exports.proofs.Shows.{shows-transfers}
 use denote.Ref.{now}
 use mathlib.Core.Path.{_∙_, ap}
 use Rattle.tables.specs.declared.Counts.{Counts}
-use Rattle.transfers.specs.Call.{areas, lent, outcome}
+use Rattle.transfers_call.specs.Call.{areas, lent, outcome}
 use borrow.Author.Needs.{needs}
 use Rattle.exports.proofs.savoiky_compute_trip_transfers.Statement.{statement}
 use Rattle.exports.proofs.savoiky_compute_trip_transfers.Tie as tie

@@ -1,4 +1,4 @@
-use Rattle.departure_sorting.specs.Call.{areas, outcome}
+use Rattle.departures_call.specs.Call.{areas, outcome}
 use denote.Ref.{now}
 use mathlib.Core.Path.{_∙_, ap}
 use Rattle.tables.specs.declared.Counts.{Counts}

@@ -1,5 +1,5 @@
 use mathlib.Core.Path.{_∙_, ap, sym}
-use Rattle.transfers.specs.Call.{answerOf}
+use Rattle.transfers_call.specs.Call.{answerOf}
 use borrow.Author.Needs.{needs}
 use Rattle.exports.proofs.transfers_answer.Statement.{statement}
 use Rattle.exports.proofs.transfers_answer.Tie as tie

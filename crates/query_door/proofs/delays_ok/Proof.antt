@@ -2,8 +2,8 @@ use Prim.Native.Nat.{ℕ}
 use Rattle.tables.specs.Timetable.{timetable}
 use mathlib.Core.Path.{_∙_, ap₂}
 use mathlib.Core.List.{List}
-use Rattle.delay_tables.specs.Asked.{rowsAsked}
-use Rattle.delay_tables.specs.Flat.{delayTables}
+use Rattle.delay_rows.specs.Asked.{rowsAsked}
+use Rattle.delay_rows.specs.Flat.{delayTables}
 use borrow.Author.Needs.{needs}
 use Rattle.query_door.proofs.delays_ok.Statement.{statement}
 use Rattle.query_door.proofs.delays_ok.Tie as tie

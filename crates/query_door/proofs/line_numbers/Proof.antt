@@ -5,7 +5,6 @@ use Rattle.asking.specs.Door.{lineNumbers}
 use lib.ListN.{length}
 use Rattle.line_layout.specs.Listed.{entriesOk}
 use Rattle.asking.proofs.Parts.{entries-size}
-use Rattle.delays.proofs.Examples.{entries}
 use native.Mathlib.Omega.{arith}
 use mathlib.Core.Path.{_∙_, ap, ap₂}
 use mathlib.Core.Bool.{_&&_}

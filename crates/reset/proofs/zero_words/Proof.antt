@@ -1,4 +1,3 @@
-use Prim.Native.Nat.{_-_}
 use denote.Ref.{now}
 use Rattle.reset.proofs.Filling.{filled-all}
 use borrow.Author.Needs.{needs}

@@ -1,4 +1,4 @@
-use Rattle.walk.proofs.Laws.{rounds-most}
+use Rattle.walk_time.proofs.Laws.{rounds-most}
 use Prim.Native.Nat.{_-_}
 use mathlib.Core.Path.{refl, sym, _∙_}
 use Rattle.asking.specs.Lent.{lent, queryOf, tablesOf}

@@ -1,10 +1,9 @@
 use Rattle.tables.proofs.Rows.{rises}
 use lib.Dec.{leb}
-use mathlib.Core.Path.{ap₂, _∙_}
+use mathlib.Core.Path.{ap₂, _∙_, ap, sym}
 use denote.Ref.{now}
 use Rattle.tables.specs.Door.{edgeRises}
-use mathlib.Core.Path.{ap, sym}
-use Prim.Native.Nat.{_-_, ℕ}
+use Prim.Native.Nat.{ℕ}
 use borrow.Author.Needs.{needs}
 use Rattle.tables.proofs.edge_rises.Statement.{statement}
 use Rattle.tables.proofs.edge_rises.Tie as tie

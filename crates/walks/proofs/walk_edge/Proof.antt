@@ -1,7 +1,7 @@
 use denote.Ref.{now}
 use mathlib.Core.Path.{refl}
 use native.Mathlib.Omega.{arith}
-use Rattle.walk.proofs.Laws.{duration-most}
+use Rattle.walk_time.proofs.Laws.{duration-most}
 use Rattle.walks.proofs.Edge.{row-ok, edge-skipped, edge-late, edge-walked}
 use Rattle.walks.proofs.Falling.{relaxed-falls}
 use borrow.Author.Needs.{needs}

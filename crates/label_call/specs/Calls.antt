@@ -1,0 +1,74 @@
+-- What the calls answer, and what the slices hold then. Definitions only.
+use Prim.Native.Nat.{ℕ, zero, suc}
+use mathlib.Core.Bool.{Bool, true, _&&_}
+use mathlib.Core.List.{List}
+use lib.ListN.{length}
+use lib.Dec.{leb, ltb}
+use lib.Ieee.{Float}
+use Rattle.door.specs.Door.{ask}
+use Rattle.label.specs.declared.Label.{Label}
+use Rattle.label.specs.declared.Label.the-variants.{Empty, Access, Transit, Walk}
+use Rattle.label_call.specs.declared.LabelAnswer.{LabelAnswer}
+use Rattle.label.specs.Label.{rowOf}
+use Rattle.label_table.specs.Table.{recordOf, putWords, putDistance, kindAt, loaded, lengthsRight}
+
+-- question 4 of a label: the stop numbers in it are below the count. (Its times and other numbers are not judged: they are results.)
+abbrev pub stopsBelow : Label → ℕ → Bool
+stopsBelow Empty stops = true
+stopsBelow (Access stop arrival walk distance) stops = ltb stop stops
+stopsBelow (Transit arrival trip boardStop boardOff alightOff prevRound shift) stops = ltb boardStop stops
+stopsBelow (Walk arrival from to duration distance prevRound) stops = ltb from stops && ltb to stops
+
+-- the questions about a row in slices of these lengths: 1 at most 4,096 stops, 2 the slices' lengths, 4 whether the stop numbers
+-- are below the count, 5 the row
+unfoldable pub placeCode : Bool → ℕ → ℕ → ℕ → ℕ → ℕ
+placeCode below stops row words distances =
+    ask 1 (leb stops 4096) (ask 2 (lengthsRight stops words distances) (ask 4 below (ask 5 (leb row 12) 0)))
+
+-- of a store: 4 is of the stop and of the stop numbers in the label
+abbrev pub storeCode : Label → ℕ → ℕ → ℕ → ℕ → ℕ → ℕ
+storeCode x stops stop row words distances = placeCode (ltb stop stops && stopsBelow x stops) stops row words distances
+
+-- of a load: 4 is of the stop
+abbrev pub loadCode : ℕ → ℕ → ℕ → ℕ → ℕ → ℕ
+loadCode stops stop row words distances = placeCode (ltb stop stops) stops row words distances
+
+-- a storing call's code, and both slices as it leaves them
+pub record Outcome : Type 0 where
+  pub code : ℕ
+  pub labels : List ℕ
+  pub distances : List Float
+
+abbrev pub outcome : ℕ → List ℕ → List Float → Outcome
+outcome n l d = record { code = n; labels = l; distances = d }
+
+-- a refusal leaves both slices as they came
+abbrev pub settle : ℕ → Label → ℕ → List ℕ → List Float → Outcome
+settle zero x k l d = outcome 0 (putWords (rowOf x) l k) (putDistance (rowOf x) d k)
+settle (suc n) x k l d = outcome (suc n) l d
+
+-- label x is stored at a stop's row
+unfoldable pub storeOutcome : Label → ℕ → ℕ → ℕ → List ℕ → List Float → Outcome
+storeOutcome x stops stop row l d = settle (storeCode x stops stop row (length l) (length d)) x (recordOf stop row) l d
+
+-- a refused load gives an empty row
+abbrev pub refusedLabel : ℕ → LabelAnswer
+refusedLabel n = record { code = n; row = rowOf Empty }
+
+abbrev pub givenLabel : Label → LabelAnswer
+givenLabel x = record { code = 0; row = rowOf x }
+
+abbrev pub answerLabel : ℕ → Label → LabelAnswer
+answerLabel zero x = givenLabel x
+answerLabel (suc n) x = refusedLabel (suc n)
+
+-- questions asked after those that gave this number
+abbrev pub andThen : ℕ → ℕ → ℕ
+andThen zero later = later
+andThen (suc n) later = suc n
+
+-- the label at a stop's row is loaded. Question 5 is also of its kind.
+unfoldable pub loadAnswer : ℕ → ℕ → ℕ → List ℕ → List Float → LabelAnswer
+loadAnswer stops stop row l d =
+    let k = recordOf stop row in
+    answerLabel (andThen (loadCode stops stop row (length l) (length d)) (ask 5 (leb (kindAt l k) 3) 0)) (loaded l d k)

@@ -1,4 +1,0 @@
-pub mod Entries
-pub mod Outcome
-pub mod Laws
-pub mod Examples

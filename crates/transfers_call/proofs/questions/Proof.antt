@@ -1,0 +1,126 @@
+use Rattle.transfers_call.specs.Call.{Lent, lent, question1, question2, question3, question4, question5}
+use mathlib.Core.Path.{_≡_, refl}
+use mathlib.Core.Bool.{true}
+use denote.Ref.{now}
+use borrow.Author.Tests.{not-false, not-true}
+use Rattle.transfers_call.proofs.Asking.{answer1, answer2, answer3, answer4, answer5, answer6, need2, need3, need4, no1, no2, no3, no4, no5, no6, second, yes}
+use borrow.Author.Needs.{needs}
+use Rattle.transfers_call.proofs.questions.Statement.{statement}
+use Rattle.transfers_call.proofs.questions.Tie as tie
+
+-- what is lent, and that the questions before are answered yes
+abbrev lentAt : tie.Start → Lent
+lentAt s = lent (now (s .args .t)) (s .args .c) (s .args .line-count) (now (s .args .lines)) (s .args .d) (now (s .args .runs)) (now (s .args .rows)) (s .args .time)
+
+q1 : (c : tie.Else1) → question1 (lentAt (c .before .before .before .before .before .before .before .before)) ≡ true
+q1 c = answer1 _ (c .before .both2 .ensures) (c .before .before .before .counts-ok .ensures) (c .before .before .both .ensures) (not-false _ (c .if1 .left))
+
+q2 : (c : tie.Else2) → question2 (lentAt (c .before .before .before .before .before .before .before .before .before .before)) (c .before .before .before .before .before .before .before .before .before .before .args .evs) ≡ true
+q2 c = answer2 _ _ (c .before .lent-ok .ensures) (not-false _ (c .if2 .left))
+
+q3 : (c : tie.Else3) → question3 (lentAt (c .before .before .before .before .before .before .before .before .before .before .before .before .before .before)) ≡ true
+q3 c = answer3 _ (c .before .both3 .ensures) (c .before .before .before .runs-ok .ensures) (c .before .before .stop-runs-ok .ensures) (not-false _ (c .if3 .left))
+
+q4 : (c : tie.Else4) → question4 (lentAt (c .before .before .before .before .before .before .before .before .before .before .before .before .before .before .before .before .before .before .before .before)) ≡ true
+q4 c =
+    let size = second (lentAt (c .before .before .before .before .before .before .before .before .before .before .before .before .before .before .before .before .before .before .before .before)) (c .before .before .before .before .before .before .before .before .before .before .before .before .before .before .before .before .before .before .before .before .args .evs) (q2 (c .before .before .before .before .before .before .before .before .before .before)) .sizes .linesIs in
+    answer4 _ (c .before .both5 .ensures) (c .before .before .before .before .before .numbers-ok .ensures) (c .before .before .both4 .ensures) (c .before .before .before .before .lines-ok .ensures) size (c .before .before .before .listed-ok .ensures) (not-false _ (c .if4 .left))
+
+q5 : (c : tie.Else5) → question5 (lentAt (c .before .before .before .before .before .before .before .before .before .before .before .before .before .before .before .before .before .before .before .before .before .before .before)) ≡ true
+q5 c = answer5 _ (c .before .both6 .ensures) (c .before .before .ranges-ok .ensures) refl (not-false _ (c .if5 .left))
+
+counts-ok-requires : tie.Need-counts-ok-requires
+counts-ok-requires c κs = search needs
+
+both-requires : tie.Need-both-requires
+both-requires c κs = search needs
+
+both-requires-2 : tie.Need-both-requires-2
+both-requires-2 c κs = search needs
+
+returns : tie.Need-returns
+returns c = no1 _ _ (answer1 _ (c .before .both2 .ensures) (c .before .before .before .counts-ok .ensures) (c .before .before .both .ensures) (not-true _ (c .if1 .taken)))
+
+lent-ok-requires : tie.Need-lent-ok-requires
+lent-ok-requires c κs = need2 (lentAt (c .before .before .before .before .before .before .before .before)) (q1 c)
+
+returns-2 : tie.Need-returns-2
+returns-2 c = no2 _ _ (q1 (c .before .before)) (answer2 _ _ (c .before .lent-ok .ensures) (not-true _ (c .if2 .taken)))
+
+runs-ok-requires : tie.Need-runs-ok-requires
+runs-ok-requires c κs = need3 (lentAt (c .before .before .before .before .before .before .before .before .before .before)) (c .before .before .before .before .before .before .before .before .before .before .args .evs) (q1 (c .before .before)) (q2 c)
+
+stop-runs-ok-requires : tie.Need-stop-runs-ok-requires
+stop-runs-ok-requires c κs = second (lentAt (c .before .before .before .before .before .before .before .before .before .before .before)) (c .before .before .before .before .before .before .before .before .before .before .before .args .evs) (q2 (c .before)) .sizes .runsIs
+
+both-requires-3 : tie.Need-both-requires-3
+both-requires-3 c κs = search needs
+
+returns-3 : tie.Need-returns-3
+returns-3 c = no3 _ _ (q1 (c .before .before .before .before .before .before)) (q2 (c .before .before .before .before)) (answer3 _ (c .before .both3 .ensures) (c .before .before .before .runs-ok .ensures) (c .before .before .stop-runs-ok .ensures) (not-true _ (c .if3 .taken)))
+
+numbers-ok-requires : tie.Need-numbers-ok-requires
+numbers-ok-requires c κs = need3 (lentAt (c .before .before .before .before .before .before .before .before .before .before .before .before .before .before)) (c .before .before .before .before .before .before .before .before .before .before .before .before .before .before .args .evs) (q1 (c .before .before .before .before .before .before)) (q2 (c .before .before .before .before))
+
+lines-ok-requires : tie.Need-lines-ok-requires
+lines-ok-requires c κs = search needs
+
+listed-ok-requires : tie.Need-listed-ok-requires
+listed-ok-requires c κs = need4 (lentAt (c .before .before .before .before .before .before .before .before .before .before .before .before .before .before .before .before)) (c .before .before .before .before .before .before .before .before .before .before .before .before .before .before .before .before .args .evs) (q1 (c .before .before .before .before .before .before .before .before)) (q2 (c .before .before .before .before .before .before)) (q3 (c .before .before))
+
+both-requires-4 : tie.Need-both-requires-4
+both-requires-4 c κs = search needs
+
+both-requires-5 : tie.Need-both-requires-5
+both-requires-5 c κs = search needs
+
+returns-4 : tie.Need-returns-4
+returns-4 c =
+    let size = second (lentAt (c .before .before .before .before .before .before .before .before .before .before .before .before .before .before .before .before .before .before .before .before)) (c .before .before .before .before .before .before .before .before .before .before .before .before .before .before .before .before .before .before .before .before .args .evs) (q2 (c .before .before .before .before .before .before .before .before .before .before)) .sizes .linesIs in
+    no4 _ _ (q1 (c .before .before .before .before .before .before .before .before .before .before .before .before)) (q2 (c .before .before .before .before .before .before .before .before .before .before)) (q3 (c .before .before .before .before .before .before))
+    (answer4 _ (c .before .both5 .ensures) (c .before .before .before .before .before .numbers-ok .ensures) (c .before .before .both4 .ensures) (c .before .before .before .before .lines-ok .ensures) size (c .before .before .before .listed-ok .ensures) (not-true _ (c .if4 .taken)))
+
+ranges-ok-requires : tie.Need-ranges-ok-requires
+ranges-ok-requires c κs = need3 (lentAt (c .before .before .before .before .before .before .before .before .before .before .before .before .before .before .before .before .before .before .before .before)) (c .before .before .before .before .before .before .before .before .before .before .before .before .before .before .before .before .before .before .before .before .args .evs) (q1 (c .before .before .before .before .before .before .before .before .before .before .before .before)) (q2 (c .before .before .before .before .before .before .before .before .before .before))
+
+both-requires-6 : tie.Need-both-requires-6
+both-requires-6 c κs = search needs
+
+returns-5 : tie.Need-returns-5
+returns-5 c = no5 _ _ (q1 (c .before .before .before .before .before .before .before .before .before .before .before .before .before .before .before)) (q2 (c .before .before .before .before .before .before .before .before .before .before .before .before .before)) (q3 (c .before .before .before .before .before .before .before .before .before)) (q4 (c .before .before .before)) (answer5 _ (c .before .both6 .ensures) (c .before .before .ranges-ok .ensures) refl (not-true _ (c .if5 .taken)))
+
+order-ok-requires : tie.Need-order-ok-requires
+order-ok-requires c κs = need3 (lentAt (c .before .before .before .before .before .before .before .before .before .before .before .before .before .before .before .before .before .before .before .before .before .before .before)) (c .before .before .before .before .before .before .before .before .before .before .before .before .before .before .before .before .before .before .before .before .before .before .before .args .evs) (q1 (c .before .before .before .before .before .before .before .before .before .before .before .before .before .before .before)) (q2 (c .before .before .before .before .before .before .before .before .before .before .before .before .before))
+
+returns-6 : tie.Need-returns-6
+returns-6 c = no6 _ _ (q1 (c .before .before .before .before .before .before .before .before .before .before .before .before .before .before .before .before .before)) (q2 (c .before .before .before .before .before .before .before .before .before .before .before .before .before .before .before)) (q3 (c .before .before .before .before .before .before .before .before .before .before .before)) (q4 (c .before .before .before .before .before)) (q5 (c .before .before)) (answer6 _ (c .before .order-ok .ensures) (not-true _ (c .if6 .taken)))
+
+returns-7 : tie.Need-returns-7
+returns-7 c = yes _ _ (q1 (c .before .before .before .before .before .before .before .before .before .before .before .before .before .before .before .before .before)) (q2 (c .before .before .before .before .before .before .before .before .before .before .before .before .before .before .before)) (q3 (c .before .before .before .before .before .before .before .before .before .before .before)) (q4 (c .before .before .before .before .before)) (q5 (c .before .before)) (answer6 _ (c .before .order-ok .ensures) (not-false _ (c .if6 .left)))
+
+pub questions-spec : {M : Type 1} → statement M
+questions-spec =
+    tie.close
+    (tie.spec
+    counts-ok-requires
+    both-requires
+    both-requires-2
+    returns
+    lent-ok-requires
+    returns-2
+    runs-ok-requires
+    stop-runs-ok-requires
+    both-requires-3
+    returns-3
+    numbers-ok-requires
+    lines-ok-requires
+    listed-ok-requires
+    both-requires-4
+    both-requires-5
+    returns-4
+    ranges-ok-requires
+    both-requires-6
+    returns-5
+    order-ok-requires
+    returns-6
+    returns-7)
