@@ -7,7 +7,7 @@
 // proofs/Examples the worked examples.
 // Assumes nothing.
 ghost use mathlib.Core.Path.{_≡_};
-ghost use Prim.Native.Nat.{_≤_, min, max};
+ghost use Prim.Native.Nat.{_≤_, min};
 ghost use lib.ListN.{getD};
 ghost use lib.Bits.{bitOr};
 ghost use Rattle.loops.specs.Count.{tab};
@@ -32,18 +32,6 @@ fn reserved_bytes(reserved: u32) -> usize
         return reserved as usize;
     }
     64
-}
-
-fn smaller(a: usize, b: usize) -> usize
-    ensures { λ r. ⌜ r ≡ min a b ⌝ }
-{
-    if a < b { a } else { b }
-}
-
-fn larger(a: usize, b: usize) -> usize
-    ensures { λ r. ⌜ r ≡ max a b ⌝ }
-{
-    if a < b { b } else { a }
 }
 
 // The first n bytes as they are, the others 0.
@@ -95,7 +83,7 @@ impl CellBitSet {
     {
         let a = reserved_bytes(self.reserved);
         let wanted = CellBitSet::new(num_cells);
-        let n = larger(a, wanted.reserved as usize);
+        let n = words::larger(a, wanted.reserved as usize);
         let old = self.bytes;
         let bytes = cleared(old, a);
         self.bytes = bytes;
@@ -132,7 +120,7 @@ impl CellBitSet {
     pub fn intersects(self, other: CellBitSet) -> bool
         ensures { λ r. ⌜ r ≡ meets self other ⌝ }
     {
-        let shorter = smaller(
+        let shorter = words::smaller(
             reserved_bytes(self.reserved),
             reserved_bytes(other.reserved),
         );
@@ -156,7 +144,7 @@ impl CellBitSet {
         let its = other.bytes;
         let bytes = merged(cleared(own, a), its, b);
         self.bytes = bytes;
-        self.reserved = larger(a, b) as u32;
+        self.reserved = words::larger(a, b) as u32;
         self
     }
 

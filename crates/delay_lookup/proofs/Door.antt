@@ -14,7 +14,7 @@ use Rattle.delay_rows.specs.declared.DelayRow.{DelayRow}
 use Rattle.delay_rows.specs.declared.StopRow.{StopRow}
 use Rattle.delay_rows.specs.Delays.{DelayTables, unknownTrip}
 use Rattle.stop_delay.specs.Times.{sizeOf}
-use Rattle.delay_rows.specs.Door.{tripNumbered, tripsRise, stopsRise, inOrder, delayNumbers, delayRanges, delayOrder}
+use Rattle.delay_rows.specs.Door.{tripNumbered, tripsRise, stopsRise, rowInOrder, delayNumbers, delayRanges, delayOrder}
 use Rattle.stop_delay.specs.Door.{sizeOk}
 use Rattle.delay_rows.specs.Asked.{delayAsked, stopAsked}
 use Rattle.delay_lookup.specs.Sane.{DelayRows, StopRows, Delays}
@@ -34,12 +34,12 @@ pairs : (R : ℕ → ℕ → Type 0) (n : ℕ) → ((i j k : ℕ) → k < n → 
 pairs R n t s i j l u = let e : i + 1 + (j - (i + 1)) ≡ j = omega arith in rw e at (chain R n t s i (j - (i + 1)) (omega arith))
 
 -- every row but the first rises from the one before it
-in-order : {R : Type 0} (rise : R → R → Bool) (at : ℕ → R) (n : ℕ) → everyIn (inOrder rise at) 0 n ≡ true → (i : ℕ) → i + 1 < n → rise (at i) (at (i + 1)) ≡ true
+in-order : {R : Type 0} (rise : R → R → Bool) (at : ℕ → R) (n : ℕ) → everyIn (rowInOrder rise at) 0 n ≡ true → (i : ℕ) → i + 1 < n → rise (at i) (at (i + 1)) ≡ true
 in-order rise at n h i l =
     let e : i ≡ i + 1 - 1 = omega arith in
     ap (λ (k : ℕ). rise (at k) (at (i + 1))) e
     ∙ ap (λ (b : Bool). b || rise (at (i + 1 - 1)) (at (i + 1))) (sym (ne-eqb (i + 1) 0 (λ z. omega arith)))
-    ∙ everyIn-at (inOrder rise at) n (i + 1) h l
+    ∙ everyIn-at (rowInOrder rise at) n (i + 1) h l
 
 -- What a yes says of the delay rows
 abbrev TripAfter : (ℕ → DelayRow) → ℕ → ℕ → Type 0

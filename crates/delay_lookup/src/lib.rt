@@ -6,14 +6,14 @@
 // Assumes nothing.
 ghost use mathlib.Core.Path.{_≡_};
 ghost use mathlib.Core.Bool.{cond};
-ghost use Prim.Native.Nat.{_+_, _*_, _<_, min, max};
+ghost use Prim.Native.Nat.{_+_, _*_, _<_};
 ghost use lib.ListN.{length};
 ghost use lib.Dec.{leb};
 ghost use Rattle.loops.specs.Iter.{hit};
 ghost use Rattle.loops.specs.Order.{Halved};
 ghost use Rattle.stop_delay.specs.Times.{sizeOf};
 ghost use Rattle.delay_rows.specs.Delays.{delayRow, stopRow, stopDelay, givenSize, largest, margin};
-ghost use Rattle.delay_rows.specs.Flat.{delayCount, stopCount, delayRowAt, stopRowAt, delayTables, delaysAlone, stopsAlone, foundOf};
+ghost use Rattle.delay_rows.specs.Flat.{delayRowCount, stopRowCount, delayRowAt, stopRowAt, delayTables, delaysAlone, stopsAlone, foundOf};
 ghost use Rattle.delay_lookup.specs.Sane.{DelayRows, StopRows};
 ghost use Rattle.delay_lookup.specs.Halving.{keyAt, Keyed};
 use delay_rows::DelayRow;
@@ -59,7 +59,7 @@ fn first_from(t: &[u32], width: usize, n: usize, key: u64) -> usize
 
 // The delay row of a trip: the first one, by halving.
 pub fn delay_row(rows: &[u32], trip: u32) -> Found
-    requires { ⌜ DelayRows (delayCount (now rows)) (delayRowAt (now rows)) ⌝ }
+    requires { ⌜ DelayRows (delayRowCount (now rows)) (delayRowAt (now rows)) ⌝ }
     ensures { λ r. ⌜ r ≡ foundOf (delayRow (delaysAlone (now (rows .entry))) trip) ⌝ }
 {
     let n = rows.len() / 2;
@@ -74,8 +74,8 @@ pub fn delay_row(rows: &[u32], trip: u32) -> Found
 }
 
 // The stop row of a delay row at a sequence, by halving.
-pub fn stop_row(stop_rows: &[u32], row: u32, sequence: u32) -> Found
-    requires { ⌜ StopRows (stopCount (now «stop_rows»)) (stopRowAt (now «stop_rows»)) ⌝ }
+fn stop_row(stop_rows: &[u32], row: u32, sequence: u32) -> Found
+    requires { ⌜ StopRows (stopRowCount (now «stop_rows»)) (stopRowAt (now «stop_rows»)) ⌝ }
     ensures { λ r. ⌜ r ≡ foundOf (stopRow (stopsAlone (now («stop_rows» .entry))) row sequence) ⌝ }
 {
     let m = stop_rows.len() / 5;
@@ -92,8 +92,8 @@ pub fn stop_row(stop_rows: &[u32], row: u32, sequence: u32) -> Found
 
 // What the tables say of a stop time, of a trip whose delay row is at `row`.
 pub fn stop_delay(rows: &[u32], stop_rows: &[u32], row: usize, sequence: u32) -> StopDelay
-    requires { ⌜ DelayRows (delayCount (now rows)) (delayRowAt (now rows)) ⌝ ∗ ⌜ row < delayCount (now rows) ⌝ }
-    requires { ⌜ StopRows (stopCount (now «stop_rows»)) (stopRowAt (now «stop_rows»)) ⌝ }
+    requires { ⌜ DelayRows (delayRowCount (now rows)) (delayRowAt (now rows)) ⌝ ∗ ⌜ row < delayRowCount (now rows) ⌝ }
+    requires { ⌜ StopRows (stopRowCount (now «stop_rows»)) (stopRowAt (now «stop_rows»)) ⌝ }
     ensures { λ r. ⌜ r ≡ stopDelay (delayTables (now (rows .entry)) (now («stop_rows» .entry))) (hit row) sequence ⌝ }
 {
     let own = delay_rows::delay_row_at(rows, row);
@@ -121,19 +121,6 @@ pub fn stop_delay(rows: &[u32], stop_rows: &[u32], row: usize, sequence: u32) ->
 
 // Margin
 
-// The larger and the smaller of two.
-fn larger(a: u32, b: u32) -> u32
-    ensures { λ r. ⌜ r ≡ max a b ⌝ }
-{
-    if a < b { b } else { a }
-}
-
-fn smaller(a: u32, b: u32) -> u32
-    ensures { λ r. ⌜ r ≡ min a b ⌝ }
-{
-    if a < b { a } else { b }
-}
-
 // The size of a delay that counts, else 0.
 fn size_if(given: bool, bits: u32) -> u32
     ensures { λ r. ⌜ r ≡ cond given (sizeOf bits) 0 ⌝ }
@@ -145,43 +132,43 @@ fn size_if(given: bool, bits: u32) -> u32
 }
 
 // What a delay row counts for the margin, its trip known or not: the size of its delay.
-pub fn trip_size(row: DelayRow) -> u32
+fn trip_size(row: DelayRow) -> u32
     ensures { λ r. ⌜ r ≡ sizeOf (row .delay) ⌝ }
 {
     signed::size(row.delay)
 }
 
 // What a stop row counts for it: the larger size of its given delays.
-pub fn given_size(row: StopRow) -> u32
+fn given_size(row: StopRow) -> u32
     ensures { λ r. ⌜ r ≡ givenSize row ⌝ }
 {
     let departure = size_if(stop_delay::departure_given(row.flags), row.departure_delay);
     let arrival = size_if(stop_delay::arrival_given(row.flags), row.arrival_delay);
-    larger(departure, arrival)
+    words::larger_word(departure, arrival)
 }
 
 // The largest over each table.
 fn largest_trip(rows: &[u32]) -> u32
-    ensures { λ r. ⌜ r ≡ largest (λ i. sizeOf (delayRowAt (now (rows .entry)) i .delay)) (delayCount (now (rows .entry))) ⌝ }
+    ensures { λ r. ⌜ r ≡ largest (λ i. sizeOf (delayRowAt (now (rows .entry)) i .delay)) (delayRowCount (now (rows .entry))) ⌝ }
 {
     let n = rows.len() / 2;
     let mut most: u32 = 0;
     let mut i: usize = 0;
     while i < n {
-        most = larger(most, trip_size(delay_rows::delay_row_at(rows, i)));
+        most = words::larger_word(most, trip_size(delay_rows::delay_row_at(rows, i)));
         i += 1;
     }
     most
 }
 
 fn largest_stop(stop_rows: &[u32]) -> u32
-    ensures { λ r. ⌜ r ≡ largest (λ j. givenSize (stopRowAt (now («stop_rows» .entry)) j)) (stopCount (now («stop_rows» .entry))) ⌝ }
+    ensures { λ r. ⌜ r ≡ largest (λ j. givenSize (stopRowAt (now («stop_rows» .entry)) j)) (stopRowCount (now («stop_rows» .entry))) ⌝ }
 {
     let m = stop_rows.len() / 5;
     let mut most: u32 = 0;
     let mut j: usize = 0;
     while j < m {
-        most = larger(most, given_size(delay_rows::stop_row_at(stop_rows, j)));
+        most = words::larger_word(most, given_size(delay_rows::stop_row_at(stop_rows, j)));
         j += 1;
     }
     most
@@ -191,7 +178,10 @@ fn largest_stop(stop_rows: &[u32]) -> u32
 pub fn rt_margin(rows: &[u32], stop_rows: &[u32], cap: u32) -> u32
     ensures { λ r. ⌜ r ≡ margin (delayTables (now (rows .entry)) (now («stop_rows» .entry))) cap ⌝ }
 {
-    smaller(cap, larger(largest_trip(rows), largest_stop(stop_rows)))
+    words::smaller_word(
+        cap,
+        words::larger_word(largest_trip(rows), largest_stop(stop_rows)),
+    )
 }
 
 // Exported calls

@@ -8,7 +8,7 @@ use Rattle.stop_delay.specs.Door.{sizeOk}
 use Rattle.delay_rows.specs.declared.DelayRow.{DelayRow}
 use Rattle.delay_rows.specs.declared.StopRow.{StopRow}
 use Rattle.delay_rows.specs.Delays.{DelayTables}
-use Rattle.delay_rows.specs.Door.{tripNumbered, rowNumbered, stopInRange, tripsRise, stopsRise, inOrder}
+use Rattle.delay_rows.specs.Door.{tripNumbered, rowNumbered, stopInRange, tripsRise, stopsRise, rowInOrder}
 
 -- the answer to question 4, 5 or, else, 6
 abbrev pub asked : ℕ → Bool → Bool → Bool → Bool
@@ -16,10 +16,10 @@ asked question numbered ranged ordered = cond (eqb question 4) numbered (cond (e
 
 -- of one delay row, and of one stop row where there are n delay rows
 abbrev pub delayAsked : ℕ → ℕ → (ℕ → DelayRow) → ℕ → Bool
-delayAsked question trips delay i = asked question (tripNumbered trips (delay i)) (sizeOk (delay i .delay)) (inOrder tripsRise delay i)
+delayAsked question trips delay i = asked question (tripNumbered trips (delay i)) (sizeOk (delay i .delay)) (rowInOrder tripsRise delay i)
 
 abbrev pub stopAsked : ℕ → ℕ → (ℕ → StopRow) → ℕ → Bool
-stopAsked question n stop j = asked question (rowNumbered n (stop j)) (stopInRange (stop j)) (inOrder stopsRise stop j)
+stopAsked question n stop j = asked question (rowNumbered n (stop j)) (stopInRange (stop j)) (rowInOrder stopsRise stop j)
 
 -- of every row: at 4, 5 and 6 this is `delayNumbers`, `delayRanges` and `delayOrder`
 abbrev pub rowsAsked : ℕ → ℕ → DelayTables → Bool

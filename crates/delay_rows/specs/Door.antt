@@ -35,10 +35,10 @@ abbrev pub stopsRise : StopRow → StopRow → Bool
 stopsRise a b = ltb (a .row) (b .row) || (eqb (a .row) (b .row) && ltb (a .sequence) (b .sequence))
 
 -- row i is the first, or rises from the row before it
-abbrev pub inOrder : {R : Type 0} → (R → R → Bool) → (ℕ → R) → ℕ → Bool
-inOrder rise at i = eqb i 0 || rise (at (i - 1)) (at i)
+abbrev pub rowInOrder : {R : Type 0} → (R → R → Bool) → (ℕ → R) → ℕ → Bool
+rowInOrder rise at i = eqb i 0 || rise (at (i - 1)) (at i)
 
 abbrev pub delayOrder : DelayTables → Bool
-delayOrder D = everyIn (inOrder tripsRise (D .delay)) 0 (D .delays) && everyIn (inOrder stopsRise (D .stopRow)) 0 (D .stopRows)
+delayOrder D = everyIn (rowInOrder tripsRise (D .delay)) 0 (D .delays) && everyIn (rowInOrder stopsRise (D .stopRow)) 0 (D .stopRows)
 
 -- What the calls answer

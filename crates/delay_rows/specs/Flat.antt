@@ -10,12 +10,12 @@ use Rattle.delay_rows.specs.declared.Found.the-variants.{At, Nothing}
 use Rattle.delay_rows.specs.Delays.{DelayTables}
 
 -- how many delay rows: two numbers each
-abbrev pub delayCount : List ℕ → ℕ
-delayCount rows = length rows / 2
+abbrev pub delayRowCount : List ℕ → ℕ
+delayRowCount rows = length rows / 2
 
 -- how many stop rows: five numbers each
-abbrev pub stopCount : List ℕ → ℕ
-stopCount stops = length stops / 5
+abbrev pub stopRowCount : List ℕ → ℕ
+stopRowCount stops = length stops / 5
 
 -- delay row i: trip, signed delay
 abbrev pub delayRowAt : List ℕ → ℕ → DelayRow
@@ -34,7 +34,7 @@ stopRowAt stops j =
 
 -- both tables
 abbrev pub delayTables : List ℕ → List ℕ → DelayTables
-delayTables rows stops = record { delays = delayCount rows; delay = delayRowAt rows; stopRows = stopCount stops; stopRow = stopRowAt stops }
+delayTables rows stops = record { delays = delayRowCount rows; delay = delayRowAt rows; stopRows = stopRowCount stops; stopRow = stopRowAt stops }
 
 -- one of them, where the other is not read
 abbrev pub delaysAlone : List ℕ → DelayTables

@@ -9,7 +9,7 @@
 ghost use mathlib.Core.Path.{_≡_};
 ghost use Prim.Native.Nat.{_-_, _<_};
 ghost use Rattle.loops.specs.Iter.{everyIn};
-ghost use Rattle.delay_rows.specs.Flat.{delayCount, stopCount, delayRowAt, stopRowAt, delayTables};
+ghost use Rattle.delay_rows.specs.Flat.{delayRowCount, stopRowCount, delayRowAt, stopRowAt, delayTables};
 ghost use Rattle.delay_rows.specs.Door.{tripNumbered, rowNumbered, stopInRange, tripsRise, stopsRise};
 ghost use Rattle.delay_rows.specs.Asked.{asked, delayAsked, stopAsked, rowsAsked};
 
@@ -41,7 +41,7 @@ pub enum Found {
 
 // Row i of each table.
 pub fn delay_row_at(rows: &[u32], i: usize) -> DelayRow
-    requires { ⌜ i < delayCount (now rows) ⌝ }
+    requires { ⌜ i < delayRowCount (now rows) ⌝ }
     ensures { λ r. ⌜ r ≡ delayRowAt (now (rows .entry)) i ⌝ }
 {
     DelayRow {
@@ -51,7 +51,7 @@ pub fn delay_row_at(rows: &[u32], i: usize) -> DelayRow
 }
 
 pub fn stop_row_at(stop_rows: &[u32], j: usize) -> StopRow
-    requires { ⌜ j < stopCount (now «stop_rows») ⌝ }
+    requires { ⌜ j < stopRowCount (now «stop_rows») ⌝ }
     ensures { λ r. ⌜ r ≡ stopRowAt (now («stop_rows» .entry)) j ⌝ }
 {
     StopRow {
@@ -66,20 +66,20 @@ pub fn stop_row_at(stop_rows: &[u32], j: usize) -> StopRow
 // Questions at the door
 
 // Question 4 of one delay row, and of one stop row where there are n delay rows.
-pub fn trip_numbered(trips: u32, row: DelayRow) -> bool
+fn trip_numbered(trips: u32, row: DelayRow) -> bool
     ensures { λ r. ⌜ r ≡ tripNumbered trips row ⌝ }
 {
     door::either(row.trip < trips, row.trip == UNKNOWN_TRIP)
 }
 
-pub fn row_numbered(n: usize, row: StopRow) -> bool
+fn row_numbered(n: usize, row: StopRow) -> bool
     ensures { λ r. ⌜ r ≡ rowNumbered n row ⌝ }
 {
     (row.row as usize) < n
 }
 
 // Question 5 of one stop row.
-pub fn stop_in_range(row: StopRow) -> bool
+fn stop_in_range(row: StopRow) -> bool
     ensures { λ r. ⌜ r ≡ stopInRange row ⌝ }
 {
     let sizes = door::both(
@@ -90,14 +90,14 @@ pub fn stop_in_range(row: StopRow) -> bool
 }
 
 // Question 6 of two neighbours, delay rows and stop rows.
-pub fn trips_rise(a: DelayRow, b: DelayRow) -> bool
+fn trips_rise(a: DelayRow, b: DelayRow) -> bool
     ensures { λ r. ⌜ r ≡ tripsRise a b ⌝ }
 {
     let unknown = door::both(a.trip == UNKNOWN_TRIP, b.trip == UNKNOWN_TRIP);
     door::either(a.trip < b.trip, unknown)
 }
 
-pub fn stops_rise(a: StopRow, b: StopRow) -> bool
+fn stops_rise(a: StopRow, b: StopRow) -> bool
     ensures { λ r. ⌜ r ≡ stopsRise a b ⌝ }
 {
     let later = door::both(a.row == b.row, a.sequence < b.sequence);
@@ -126,7 +126,7 @@ fn previous(i: usize) -> usize
 
 // Question 4, 5 or 6 of delay row i.
 fn delay_asked(question: u32, trips: u32, rows: &[u32], i: usize) -> bool
-    requires { ⌜ i < delayCount (now rows) ⌝ }
+    requires { ⌜ i < delayRowCount (now rows) ⌝ }
     ensures { λ r. ⌜ r ≡ delayAsked question trips (delayRowAt (now (rows .entry))) i ⌝ }
 {
     let row = delay_row_at(rows, i);
@@ -142,7 +142,7 @@ fn delay_asked(question: u32, trips: u32, rows: &[u32], i: usize) -> bool
 
 // Question 4, 5 or 6 of stop row j, where there are n delay rows.
 fn stop_asked(question: u32, n: usize, stop_rows: &[u32], j: usize) -> bool
-    requires { ⌜ j < stopCount (now «stop_rows») ⌝ }
+    requires { ⌜ j < stopRowCount (now «stop_rows») ⌝ }
     ensures { λ r. ⌜ r ≡ stopAsked question n (stopRowAt (now («stop_rows» .entry))) j ⌝ }
 {
     let row = stop_row_at(stop_rows, j);
@@ -153,7 +153,7 @@ fn stop_asked(question: u32, n: usize, stop_rows: &[u32], j: usize) -> bool
 
 // Question 4, 5 or 6 of every row of a table.
 fn delays_asked(question: u32, trips: u32, rows: &[u32]) -> bool
-    ensures { λ r. ⌜ r ≡ everyIn (delayAsked question trips (delayRowAt (now (rows .entry)))) 0 (delayCount (now (rows .entry))) ⌝ }
+    ensures { λ r. ⌜ r ≡ everyIn (delayAsked question trips (delayRowAt (now (rows .entry)))) 0 (delayRowCount (now (rows .entry))) ⌝ }
 {
     let n = rows.len() / 2;
     let mut i: usize = 0;
@@ -167,7 +167,7 @@ fn delays_asked(question: u32, trips: u32, rows: &[u32]) -> bool
 }
 
 fn stops_asked(question: u32, n: usize, stop_rows: &[u32]) -> bool
-    ensures { λ r. ⌜ r ≡ everyIn (stopAsked question n (stopRowAt (now («stop_rows» .entry)))) 0 (stopCount (now («stop_rows» .entry))) ⌝ }
+    ensures { λ r. ⌜ r ≡ everyIn (stopAsked question n (stopRowAt (now («stop_rows» .entry)))) 0 (stopRowCount (now («stop_rows» .entry))) ⌝ }
 {
     let m = stop_rows.len() / 5;
     let mut j: usize = 0;

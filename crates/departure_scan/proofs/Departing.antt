@@ -15,14 +15,14 @@ use Rattle.frequency.specs.declared.FreqBoard.{FreqBoard}
 use Rattle.frequency.specs.declared.FreqBoard.the-variants.{Nothing, Board}
 use Rattle.departures.specs.declared.DepartureRow.{DepartureRow}
 use Rattle.departures.specs.Departures.{rowAt, rowsOf}
-use Rattle.boarding.specs.declared.Terms.{Terms}
-use Rattle.boarding.specs.Reads.{Asks}
+use Rattle.query_types.specs.declared.Terms.{Terms}
+use Rattle.trip_boarding.specs.Reads.{Asks}
 use Rattle.model.specs.Tables.{Tables, Query, departure}
 use Rattle.model.specs.Search.{Arrivals, State, delayOf, marginOf, boarding, scanDepartures}
-use Rattle.scratch.specs.declared.Lay.{Lay}
-use Rattle.scratch.specs.View.{Memory}
-use Rattle.riding.specs.Phase.{Seen}
-use Rattle.riding.specs.Going.{takenBy, taken}
+use Rattle.query_types.specs.declared.Lay.{Lay}
+use Rattle.search_state.specs.View.{Memory}
+use Rattle.ride_step.specs.Phase.{Seen}
+use Rattle.ride_step.specs.Going.{takenBy, taken}
 
 -- the test whether a departure is too late, as it is computed
 pub late-is : (T : Tables) (Q : Query) (t : List ℕ) (c : Counts) (w : Terms) (f : Bool) (i o best first d : ℕ) {r : Bool} → T .timetable ≡ timetable t c → Asks Q w

@@ -4,7 +4,7 @@ use mathlib.Core.Path.{_≡_}
 use native.Mathlib.Omega.{arith}
 use native.Mathlib.Numerals.{add-one}
 use Rattle.tables.specs.Timetable.{Timetable}
-use Rattle.line_transfers.specs.Transfers.{eventsBefore}
+use Rattle.event_transfers.specs.Transfers.{eventsBefore}
 
 -- how many stop events
 pub events-step : (T : Timetable) (i : ℕ) → eventsBefore T (i + 1) ≡ eventsBefore T i + T .trip i .count

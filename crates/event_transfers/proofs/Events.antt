@@ -18,10 +18,10 @@ use Rattle.tables.specs.Sane.{Sane}
 use Rattle.departures.specs.declared.StopRun.{StopRun}
 use Rattle.departures.specs.Departures.{runAt, runEnd, runFirst}
 use Rattle.departures.specs.Listed.{RunsListed}
-use Rattle.line_transfers.specs.Packed.{Keys, AreaSoFar, Lines, LinesAfter, Most, Prepared, SortedRuns, EventAt, TripAt, Walk, alightKeys, allKeys, eventKeys, laid, lay, layEvent, layEvents, noted, putRun, targets, tripKeys, walk}
-use Rattle.line_transfers.proofs.Lists.{flatten-append}
-use Rattle.line_transfers.proofs.Grouping.{lines-part}
-use Rattle.line_transfers.proofs.Laying.{events-append, events-n, lay-full, lay-n}
+use Rattle.event_transfers.specs.Packed.{Keys, AreaSoFar, Lines, LinesAfter, Most, Prepared, SortedRuns, EventAt, TripAt, AreaWalk, alightKeys, allKeys, eventKeys, laid, lay, layEvent, layEvents, eventNoted, putRun, targets, tripKeys, areaWalk}
+use Rattle.event_transfers.proofs.Lists.{flatten-append}
+use Rattle.event_transfers.proofs.Grouping.{lines-part}
+use Rattle.event_transfers.proofs.Laying.{events-append, events-n, lay-full, lay-n}
 
 -- getting off where nothing more is counted, and where drop-off is 1
 pub alight-full : (time : ℕ) (p : Prepared) (ti at : ℕ) (s : AreaSoFar) → 65536 < s .n → s ≡ lay time (alightKeys p ti at) s
@@ -89,12 +89,12 @@ lay-grown time l n r a b e h =
     let q : r ≡ min (n + length l) 65537 = ap (λ (s : AreaSoFar). s .n) e ∙ lay-n time l (laid n b) h in
     (omega arith, omega arith)
 
-pub event-is : (time e : ℕ) (l : List ℕ) (n r : ℕ) (a a' v v' : List ℕ) → laid r a' ≡ lay time l (laid n a) → v' ≡ putRun v e n (r - n) → walk r a' v' ≡ layEvent time e l (walk n a v)
+pub event-is : (time e : ℕ) (l : List ℕ) (n r : ℕ) (a a' v v' : List ℕ) → laid r a' ≡ lay time l (laid n a) → v' ≡ putRun v e n (r - n) → areaWalk r a' v' ≡ layEvent time e l (areaWalk n a v)
 unfolding layEvent
-event-is time e l n r a a' v v' p q = ap (walk r a') q ∙ ap (noted e (walk n a v)) p
+event-is time e l n r a a' v v' p q = ap (areaWalk r a') q ∙ ap (eventNoted e (areaWalk n a v)) p
 
 -- the events of a trip: as they begin, one turn, the end
-pub events-start : (time e count n : ℕ) (f : ℕ → List ℕ) (w : Walk) → count ≡ n → layEvents time e (tab f n) w ≡ layEvents time (e + 0) (tabFrom f 0 (count - 0)) w
+pub events-start : (time e count n : ℕ) (f : ℕ → List ℕ) (w : AreaWalk) → count ≡ n → layEvents time e (tab f n) w ≡ layEvents time (e + 0) (tabFrom f 0 (count - 0)) w
 events-start time e count n f w h =
     let i : e ≡ e + 0 = omega arith in
     let m : n ≡ count - 0 = omega arith in
@@ -104,7 +104,7 @@ pub event-at : (t : List ℕ) (c : Counts) (ti off e m n time count : ℕ) → S
 event-at t c ti off e m n time count s a k h u =
     record { trip = a .trip; offset = omega arith; event = omega (arith, a .event, a .trip, s .counts .trips, s .counts .times, s .runs .run ti (a .trip)); few = u; short = a .short }
 
-pub events-again : (time e off count : ℕ) (f : ℕ → List ℕ) {whole : Walk} (w : Walk) {w' : Walk} → whole ≡ layEvents time (e + off) (tabFrom f off (count - off)) w → w' ≡ layEvent time (e + off) (f off) w
+pub events-again : (time e off count : ℕ) (f : ℕ → List ℕ) {whole : AreaWalk} (w : AreaWalk) {w' : AreaWalk} → whole ≡ layEvents time (e + off) (tabFrom f off (count - off)) w → w' ≡ layEvent time (e + off) (f off) w
     → off < count → whole ≡ layEvents time (e + (off + 1)) (tabFrom f (off + 1) (count - (off + 1))) w'
 unfolding layEvents tabFrom
 events-again time e off count f {whole} w {w'} inv q h =
@@ -115,14 +115,14 @@ events-again time e off count f {whole} w {w'} inv q h =
     ∙ ap₂ (λ (j m : ℕ). layEvents time j (tabFrom f m (count - (off + 1))) (layEvent time (e + off) (f off) w)) i (sym (add-one off))
     ∙ ap (layEvents time (e + (off + 1)) (tabFrom f (off + 1) (count - (off + 1)))) (sym q)
 
-pub events-left : (time e off count : ℕ) (f : ℕ → List ℕ) {whole w : Walk} → whole ≡ layEvents time (e + off) (tabFrom f off (count - off)) w → count ≤ off → w ≡ whole
+pub events-left : (time e off count : ℕ) (f : ℕ → List ℕ) {whole w : AreaWalk} → whole ≡ layEvents time (e + off) (tabFrom f off (count - off)) w → count ≤ off → w ≡ whole
 unfolding layEvents tabFrom
 events-left time e off count f {whole} {w} inv h =
     let n : count - off ≡ 0 = omega arith in
     sym (inv ∙ ap (λ (m : ℕ). layEvents time (e + off) (tabFrom f off m) w) n)
 
 -- all trips
-pub trips-again : (time e ti trips count : ℕ) (g : ℕ → List (List ℕ)) {whole : Walk} (w : Walk) {w' : Walk} → whole ≡ layEvents time e (flatten (tabFrom g ti (trips - ti))) w
+pub trips-again : (time e ti trips count : ℕ) (g : ℕ → List (List ℕ)) {whole : AreaWalk} (w : AreaWalk) {w' : AreaWalk} → whole ≡ layEvents time e (flatten (tabFrom g ti (trips - ti))) w
     → w' ≡ layEvents time e (g ti) w → count ≡ length (g ti) → ti < trips → whole ≡ layEvents time (e + count) (flatten (tabFrom g (ti + 1) (trips - (ti + 1)))) w'
 unfolding flatten tabFrom
 trips-again time e ti trips count g {whole} w {w'} inv q k h =
@@ -133,7 +133,7 @@ trips-again time e ti trips count g {whole} w {w'} inv q k h =
     ∙ ap₂ (λ (j m : ℕ). layEvents time (e + j) (flatten (tabFrom g m (trips - (ti + 1)))) (layEvents time e (g ti) w)) (sym k) (sym (add-one ti))
     ∙ ap (layEvents time (e + count) (flatten (tabFrom g (ti + 1) (trips - (ti + 1))))) (sym q)
 
-pub trips-left : (time e ti trips : ℕ) (g : ℕ → List (List ℕ)) {whole w : Walk} → whole ≡ layEvents time e (flatten (tabFrom g ti (trips - ti))) w → trips ≤ ti → w ≡ whole
+pub trips-left : (time e ti trips : ℕ) (g : ℕ → List (List ℕ)) {whole w : AreaWalk} → whole ≡ layEvents time e (flatten (tabFrom g ti (trips - ti))) w → trips ≤ ti → w ≡ whole
 unfolding flatten layEvents tabFrom
 trips-left time e ti trips g {whole} {w} inv h =
     let n : trips - ti ≡ 0 = omega arith in
@@ -143,12 +143,12 @@ pub trip-length : (p : Prepared) (ti count : ℕ) → count ≡ countOf (p .t) (
 trip-length p ti count e = e ∙ sym (length-tabFrom (eventKeys p ti) 0 (countOf (p .t) (p .c) ti))
 
 -- how many there are
-pub total-is : (time : ℕ) (ls : List (List ℕ)) (r : ℕ) (a b v v' : List ℕ) → walk r a v ≡ layEvents time 0 ls (walk 0 b v') → r ≡ min (length (flatten ls)) 65537
+pub total-is : (time : ℕ) (ls : List (List ℕ)) (r : ℕ) (a b v v' : List ℕ) → areaWalk r a v ≡ layEvents time 0 ls (areaWalk 0 b v') → r ≡ min (length (flatten ls)) 65537
 total-is time ls r a b v v' e =
-    let q : r ≡ min (0 + length (flatten ls)) 65537 = ap (λ (w : Walk). w .n) e ∙ events-n time 0 ls (walk 0 b v') (omega arith) in
+    let q : r ≡ min (0 + length (flatten ls)) 65537 = ap (λ (w : AreaWalk). w .n) e ∙ events-n time 0 ls (areaWalk 0 b v') (omega arith) in
     omega arith
 
-pub trips-start : (time trips : ℕ) (g : ℕ → List (List ℕ)) (w : Walk) → layEvents time 0 (flatten (tab g trips)) w ≡ layEvents time 0 (flatten (tabFrom g 0 (trips - 0))) w
+pub trips-start : (time trips : ℕ) (g : ℕ → List (List ℕ)) (w : AreaWalk) → layEvents time 0 (flatten (tab g trips)) w ≡ layEvents time 0 (flatten (tabFrom g 0 (trips - 0))) w
 trips-start time trips g w =
     let m : trips ≡ trips - 0 = omega arith in
     ap (λ (k : ℕ). layEvents time 0 (flatten (tabFrom g 0 k)) w) m

@@ -1,2 +1,5 @@
+pub mod Laying
+pub mod Lists
+pub mod Grouping
 pub mod Events
 pub mod Counting

@@ -1,17 +1,17 @@
 -- What a caller sees of a call whose answer is an enum inside: document 01's number and value, and the slices. Definitions only.
 use Rattle.door.specs.declared.Answer.{Answer}
-use Rattle.lines_call.specs.Call.{Areas, Outcome, answerOf}
-use Rattle.transfers_call.specs.Call.{Areas as TransferAreas, Outcome as TransferOutcome, answerOf as transferAnswer}
+use Rattle.lines_call.specs.Call.{LineAreas, LinesOutcome, linesAnswer}
+use Rattle.transfers_call.specs.Call.{TransferAreas, TransfersOutcome, transfersAnswer}
 
 pub record Shown : Type 0 where
   pub answer : Answer
-  pub areas : Areas
+  pub areas : LineAreas
 
-abbrev pub shown : Answer → Areas → Shown
+abbrev pub shown : Answer → LineAreas → Shown
 shown a s = record { answer = a; areas = s }
 
-abbrev pub shownOf : Outcome → Shown
-shownOf o = shown (answerOf (o .answer)) (o .areas)
+abbrev pub shownOf : LinesOutcome → Shown
+shownOf o = shown (linesAnswer (o .answer)) (o .areas)
 
 -- the same of the transfers
 pub record ShownTransfers : Type 0 where
@@ -21,5 +21,5 @@ pub record ShownTransfers : Type 0 where
 abbrev pub shownTransfers : Answer → TransferAreas → ShownTransfers
 shownTransfers a s = record { answer = a; areas = s }
 
-abbrev pub shownTransfersOf : TransferOutcome → ShownTransfers
-shownTransfersOf o = shownTransfers (transferAnswer (o .answer)) (o .areas)
+abbrev pub shownTransfersOf : TransfersOutcome → ShownTransfers
+shownTransfersOf o = shownTransfers (transfersAnswer (o .answer)) (o .areas)

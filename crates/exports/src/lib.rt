@@ -12,16 +12,17 @@ ghost use Rattle.walk_time.specs.Walk.{roundCount};
 ghost use Rattle.leaf_calls.specs.FrequencyCall.{freqOutcome};
 ghost use Rattle.leaf_calls.specs.StopDelayCall.{departureOutcome, arrivalOutcome, skippedOutcome};
 ghost use Rattle.leaf_calls.specs.DelayCall.{marginOutcome, delayAtOutcome};
-ghost use Rattle.label_call.specs.Calls.{outcome, storeOutcome, loadAnswer};
+ghost use Rattle.label_call.specs.Calls.{labelOutcome, storeOutcome, loadAnswer};
 ghost use Rattle.label.specs.declared.Label.the-variants.{Access, Transit, Walk};
 ghost use Rattle.leaf_calls.specs.ClockCall.{serviceSecond};
-ghost use Rattle.departures_call.specs.Call.{areas as departureAreas, outcomeOf as departureOutcomeOf, outcome as sortOutcome};
-ghost use Rattle.lines_call.specs.Call.{areas as lineAreas, answerOf as linesAnswer, outcome as linesOutcome};
-ghost use Rattle.layout_call.specs.Call.{areas as layoutAreas, outcomeOf as layoutOutcomeOf, outcome as layoutOutcome};
-ghost use Rattle.transfers_call.specs.Call.{areas as transferAreas, answerOf as transfersAnswer, lent, outcome as transfersOutcome};
-ghost use Rattle.asking.specs.Lent.{lent as lentForQuery};
-ghost use Rattle.asking.specs.Door.{workspaceAnswer};
-ghost use Rattle.replies.specs.Outcome.{areas, runTbrOutcome, queryOutcome};
+ghost use Rattle.departures_call.specs.Call.{sortAreas, sortOutcomeOf, sortOutcome};
+ghost use Rattle.lines_call.specs.Call.{lineAreas, linesAnswer, linesOutcome};
+ghost use Rattle.layout_call.specs.Call.{layoutAreas, layoutOutcomeOf, layoutOutcome};
+ghost use Rattle.transfers_call.specs.Call.{transferAreas, transfersAnswer, transferLent, transfersOutcome};
+ghost use Rattle.query_input.specs.Lent.{lent as lentForQuery};
+ghost use Rattle.query_call.specs.Workspace.{workspaceAnswer};
+ghost use Rattle.query_reply.specs.Outcome.{queryAreas};
+ghost use Rattle.query_call.specs.Call.{runTbrOutcome, queryOutcome};
 ghost use Rattle.sizes.specs.Counts.{countsOf, queryCountsOf};
 ghost use Rattle.exports.specs.Shown.{shown, shownOf, shownTransfers, shownTransfersOf};
 use cell_bitset::CellBitSet;
@@ -31,7 +32,7 @@ use leaf_calls::CellSetAnswer;
 use leaf_calls::DelayAt;
 use leaf_calls::FreqAnswer;
 use lines_call::Grouped;
-use replies::Reply;
+use query_reply::Reply;
 use sizes::QuerySizes;
 use transfers_call::Built;
 
@@ -274,7 +275,7 @@ pub extern "C" fn savoiky_label_store_access(
     labels: &mut [u32],
     distances: &mut [f64],
 ) -> u32
-    ensures { λ r. ⌜ outcome r (now (labels .exit)) (now (distances .exit)) ≡ storeOutcome (Access «stop_idx» «arrival_s» «walk_duration» «walk_distance») stops stop row (now (labels .entry)) (now (distances .entry)) ⌝ }
+    ensures { λ r. ⌜ labelOutcome r (now (labels .exit)) (now (distances .exit)) ≡ storeOutcome (Access «stop_idx» «arrival_s» «walk_duration» «walk_distance») stops stop row (now (labels .entry)) (now (distances .entry)) ⌝ }
 {
     label_call::store_access(
         stops,
@@ -305,7 +306,7 @@ pub extern "C" fn savoiky_label_store_transit(
     labels: &mut [u32],
     distances: &mut [f64],
 ) -> u32
-    ensures { λ r. ⌜ outcome r (now (labels .exit)) (now (distances .exit)) ≡ storeOutcome (Transit «arrival_s» «trip_idx» «board_stop» «board_off» «alight_off» «prev_round» «time_shift_s») stops stop row (now (labels .entry)) (now (distances .entry)) ⌝ }
+    ensures { λ r. ⌜ labelOutcome r (now (labels .exit)) (now (distances .exit)) ≡ storeOutcome (Transit «arrival_s» «trip_idx» «board_stop» «board_off» «alight_off» «prev_round» «time_shift_s») stops stop row (now (labels .entry)) (now (distances .entry)) ⌝ }
 {
     label_call::store_transit(
         stops,
@@ -338,7 +339,7 @@ pub extern "C" fn savoiky_label_store_walk(
     labels: &mut [u32],
     distances: &mut [f64],
 ) -> u32
-    ensures { λ r. ⌜ outcome r (now (labels .exit)) (now (distances .exit)) ≡ storeOutcome (Walk «arrival_s» «from_stop» «to_stop» «duration_s» «distance_m» «prev_round») stops stop row (now (labels .entry)) (now (distances .entry)) ⌝ }
+    ensures { λ r. ⌜ labelOutcome r (now (labels .exit)) (now (distances .exit)) ≡ storeOutcome (Walk «arrival_s» «from_stop» «to_stop» «duration_s» «distance_m» «prev_round») stops stop row (now (labels .entry)) (now (distances .entry)) ⌝ }
 {
     label_call::store_walk(
         stops,
@@ -400,7 +401,7 @@ pub extern "C" fn savoiky_sort_stop_departures(
     work: &mut [u64],
     other: &mut [u64],
 ) -> u32
-    ensures { λ r. ⌜ departureOutcomeOf r (departureAreas (now (rows .exit)) (now (marks .exit)) (now (work .exit)) (now (other .exit))) ≡ sortOutcome (now (tables .entry)) (countsOf stops trips times windows edges) departures (now (runs .entry)) (departureAreas (now (rows .entry)) (now (marks .entry)) (now (work .entry)) (now (other .entry))) ⌝ }
+    ensures { λ r. ⌜ sortOutcomeOf r (sortAreas (now (rows .exit)) (now (marks .exit)) (now (work .exit)) (now (other .exit))) ≡ sortOutcome (now (tables .entry)) (countsOf stops trips times windows edges) departures (now (runs .entry)) (sortAreas (now (rows .entry)) (now (marks .entry)) (now (work .entry)) (now (other .entry))) ⌝ }
 {
     let c = sizes::counts(stops, trips, times, windows, edges);
     departures_call::sort_stop_departures(
@@ -510,7 +511,7 @@ pub extern "C" fn savoiky_compute_trip_transfers(
     area: &mut [u32],
     transfer_runs: &mut [u32],
 ) -> Answer
-    ensures { λ r. ⌜ shownTransfers r (transferAreas (now (area .exit)) (now («transfer_runs» .exit))) ≡ shownTransfersOf (transfersOutcome (lent (now (tables .entry)) (countsOf stops trips times windows edges) «line_count» (now (lines .entry)) departures (now (runs .entry)) (now (rows .entry)) 120) (transferAreas (now (area .entry)) (now («transfer_runs» .entry)))) ⌝ }
+    ensures { λ r. ⌜ shownTransfers r (transferAreas (now (area .exit)) (now («transfer_runs» .exit))) ≡ shownTransfersOf (transfersOutcome (transferLent (now (tables .entry)) (countsOf stops trips times windows edges) «line_count» (now (lines .entry)) departures (now (runs .entry)) (now (rows .entry)) 120) (transferAreas (now (area .entry)) (now («transfer_runs» .entry)))) ⌝ }
 {
     let c = sizes::counts(stops, trips, times, windows, edges);
     transfers_answer(transfers_call::compute_trip_transfers(
@@ -532,7 +533,7 @@ pub extern "C" fn savoiky_compute_trip_transfers(
 pub extern "C" fn savoiky_work_size(sizes: QuerySizes) -> Answer
     ensures { λ r. ⌜ r ≡ workspaceAnswer (queryCountsOf sizes) ⌝ }
 {
-    asking::workspace(sizes::query_counts(sizes))
+    query_call::workspace(sizes::query_counts(sizes))
 }
 
 // A QUERY. Lent to be read:
@@ -574,9 +575,9 @@ pub extern "C" fn savoiky_run_tbr(
     queue_b: &mut [u32],
     candidates: &mut [u32],
 ) -> Reply
-    ensures { λ r. ⌜ record { reply = r; areas = areas (now (labels .exit)) (now («label_distances» .exit)) (now (work .exit)) (now («queue_a» .exit)) (now («queue_b» .exit)) (now (candidates .exit)) } ≡ runTbrOutcome (lentForQuery (queryCountsOf sizes) (now (tables .entry)) (now (built .entry)) (now (transfers .entry)) (now (patterns .entry)) (now (distances .entry)) (now (query .entry))) (areas (now (labels .entry)) (now («label_distances» .entry)) (now (work .entry)) (now («queue_a» .entry)) (now («queue_b» .entry)) (now (candidates .entry))) ⌝ }
+    ensures { λ r. ⌜ record { reply = r; areas = queryAreas (now (labels .exit)) (now («label_distances» .exit)) (now (work .exit)) (now («queue_a» .exit)) (now («queue_b» .exit)) (now (candidates .exit)) } ≡ runTbrOutcome (lentForQuery (queryCountsOf sizes) (now (tables .entry)) (now (built .entry)) (now (transfers .entry)) (now (patterns .entry)) (now (distances .entry)) (now (query .entry))) (queryAreas (now (labels .entry)) (now («label_distances» .entry)) (now (work .entry)) (now («queue_a» .entry)) (now («queue_b» .entry)) (now (candidates .entry))) ⌝ }
 {
-    query::run_tbr(
+    query_call::run_tbr(
         sizes::query_counts(sizes),
         tables,
         built,
@@ -611,9 +612,9 @@ pub extern "C" fn savoiky_query(
     queue_b: &mut [u32],
     candidates: &mut [u32],
 ) -> Reply
-    ensures { λ r. ⌜ record { reply = r; areas = areas (now (labels .exit)) (now («label_distances» .exit)) (now (work .exit)) (now («queue_a» .exit)) (now («queue_b» .exit)) (now (candidates .exit)) } ≡ queryOutcome (lentForQuery (queryCountsOf sizes) (now (tables .entry)) (now (built .entry)) (now (transfers .entry)) (now (patterns .entry)) (now (distances .entry)) (now (query .entry))) (areas (now (labels .entry)) (now («label_distances» .entry)) (now (work .entry)) (now («queue_a» .entry)) (now («queue_b» .entry)) (now (candidates .entry))) ⌝ }
+    ensures { λ r. ⌜ record { reply = r; areas = queryAreas (now (labels .exit)) (now («label_distances» .exit)) (now (work .exit)) (now («queue_a» .exit)) (now («queue_b» .exit)) (now (candidates .exit)) } ≡ queryOutcome (lentForQuery (queryCountsOf sizes) (now (tables .entry)) (now (built .entry)) (now (transfers .entry)) (now (patterns .entry)) (now (distances .entry)) (now (query .entry))) (queryAreas (now (labels .entry)) (now («label_distances» .entry)) (now (work .entry)) (now («queue_a» .entry)) (now («queue_b» .entry)) (now (candidates .entry))) ⌝ }
 {
-    query::query(
+    query_call::query(
         sizes::query_counts(sizes),
         tables,
         built,

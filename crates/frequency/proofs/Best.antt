@@ -8,7 +8,7 @@ use borrow.Author.Tests.{le-leb, lt-leb, lt-ltb, le-ltb, ltb-true}
 use Rattle.loops.specs.Iter.{Hit, hit, miss, range}
 use Rattle.loops.proofs.Iter.{first-found, range-again}
 use Rattle.frequency.specs.declared.Run.{Run}
-use Rattle.frequency.specs.declared.Boarding.{Boarding}
+use Rattle.frequency.specs.declared.BoardedRun.{BoardedRun}
 use Rattle.frequency.specs.declared.FreqBoard.{FreqBoard}
 use Rattle.frequency.specs.declared.FreqBoard.the-variants.{Nothing, Board}
 use Rattle.frequency.specs.Gtfs.{Window, runStart, isBoardable, firstRun, boardStart, boardHit, earlierOf, boardNext, Nominal}
@@ -19,10 +19,10 @@ pub earlier-none : (x : FreqBoard) → x ≡ earlierOf x Nothing
 earlier-none Nothing = refl
 earlier-none (Board a) = refl
 
-pub earlier-old : (a b : Boarding) → a .departure ≤ b .departure → Board a ≡ earlierOf (Board a) (Board b)
+pub earlier-old : (a b : BoardedRun) → a .departure ≤ b .departure → Board a ≡ earlierOf (Board a) (Board b)
 earlier-old a b l = sym (ap (λ (t : Bool). cond t (Board a) (Board b)) (le-leb (a .departure) (b .departure) l))
 
-pub earlier-next : (a b : Boarding) → b .departure < a .departure → Board b ≡ earlierOf (Board a) (Board b)
+pub earlier-next : (a b : BoardedRun) → b .departure < a .departure → Board b ≡ earlierOf (Board a) (Board b)
 earlier-next a b l = sym (ap (λ (t : Bool). cond t (Board a) (Board b)) (lt-leb (a .departure) (b .departure) l))
 
 -- the run that a search found

@@ -14,10 +14,10 @@ use Rattle.signed.proofs.Laws.{of-sub}
 use Rattle.loops.specs.Iter.{Hit, hit, miss}
 use Rattle.loops.proofs.Iter.{and-left, and-right, first-found, first-none, first-before, iter-keeps}
 use Rattle.loops.proofs.Search.{clash, split}
-use Rattle.frequency.specs.declared.Boarding.{Boarding}
+use Rattle.frequency.specs.declared.BoardedRun.{BoardedRun}
 use Rattle.frequency.specs.declared.FreqBoard.{FreqBoard}
 use Rattle.frequency.specs.declared.FreqBoard.the-variants.{Nothing, Board}
-use Rattle.frequency.specs.Gtfs.{Window, runStart, isRun, notBefore, isBoardable, firstRun, boardHit, earlierOf, boardNext, earliestFreqBoard, Nominal}
+use Rattle.frequency.specs.Gtfs.{Window, runStart, isRun, leavesNotBefore, isBoardable, firstRun, boardHit, earlierOf, boardNext, earliestFreqBoard, Nominal}
 use Rattle.frequency.specs.Reading.{Boards, Earliest, Answers, none, earliest}
 use Rattle.frequency.proofs.Runs.{boardable-says, run-number}
 use Rattle.frequency.proofs.Best.{found-says, earlier-none}
@@ -68,7 +68,7 @@ module _ (window : ℕ → Window) (base dep after : ℕ) where
         (last-window n i k b)
 
     -- the earliest before it stays, where it has none that is earlier
-    stay : (a : Boarding) → Earliest n window base dep after a → ((k : ℕ) → Boards (suc n) window base dep after n k → a .departure + base ≤ runStart w k + dep) → Answers (suc n) window base dep after (Board a)
+    stay : (a : BoardedRun) → Earliest n window base dep after a → ((k : ℕ) → Boards (suc n) window base dep after n k → a .departure + base ≤ runStart w k + dep) → Answers (suc n) window base dep after (Board a)
     stay a s f =
         earliest
         (record {
@@ -89,7 +89,7 @@ module _ (window : ℕ → Window) (base dep after : ℕ) where
       abbrev t : ℕ
       t = runStart w m
 
-      new : Boarding
+      new : BoardedRun
       new = record { departure = t + dep - base; «time_shift_s» = bitsOf (subℕ t base); window = n; run = m }
 
       new-departs : t + dep - base + base ≡ t + dep
@@ -97,7 +97,7 @@ module _ (window : ℕ → Window) (base dep after : ℕ) where
 
       new-runs : isRun w m ≡ true
       unfolding firstRun
-      new-runs = and-left (isRun w m) (notBefore base dep after t) (first-found (isBoardable w base dep after) 0 (w .end - w .start - 0) m e)
+      new-runs = and-left (isRun w m) (leavesNotBefore base dep after t) (first-found (isBoardable w base dep after) 0 (w .end - w .start - 0) m e)
 
       -- run m is earlier than all before it
       replace : ((i k : ℕ) → Boards n window base dep after i k → t < runStart (window i) k) → Answers (suc n) window base dep after (Board new)
@@ -137,7 +137,7 @@ module _ (window : ℕ → Window) (base dep after : ℕ) where
       rw z at (iter-keeps (λ m x. Answers m window base dep after x) (boardNext window base dep after) 0 (n - 0) Nothing none-before (λ k x l u p. step k x p))
 
   -- it, taken apart
-  pub board-is : (n : ℕ) (b : Boarding) → earliestFreqBoard n window base dep after ≡ Board b → Earliest n window base dep after b
+  pub board-is : (n : ℕ) (b : BoardedRun) → earliestFreqBoard n window base dep after ≡ Board b → Earliest n window base dep after b
   board-is n b e = of (subst (λ (y : FreqBoard). Answers n window base dep after y) e (answers n))
     where
       of : Answers n window base dep after (Board b) → Earliest n window base dep after b
@@ -158,7 +158,7 @@ size-sub l a b u v = go (ltb a b) refl
     go false e = omega arith
 
 -- What a query asks of the numbers.
-module _ (n : ℕ) (window : ℕ → Window) (base dep after : ℕ) (nominal : Nominal n window base dep after) (b : Boarding) (e : earliestFreqBoard n window base dep after ≡ Board b) where
+module _ (n : ℕ) (window : ℕ → Window) (base dep after : ℕ) (nominal : Nominal n window base dep after) (b : BoardedRun) (e : earliestFreqBoard n window base dep after ≡ Board b) where
   -- the run starts before the largest end
   pub start-bound : runStart (window (b .window)) (b .run) < 1048575
   start-bound =

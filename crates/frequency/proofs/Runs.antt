@@ -11,7 +11,7 @@ use Rattle.loops.specs.Iter.{hit, miss}
 use Rattle.loops.proofs.Iter.{and-left, and-right}
 use Rattle.loops.proofs.Search.{first-is, first-isnt, split}
 use Rattle.frequency.specs.declared.Run.{Run}
-use Rattle.frequency.specs.Gtfs.{Window, runStart, isRun, notBefore, isBoardable, firstRun}
+use Rattle.frequency.specs.Gtfs.{Window, runStart, isRun, leavesNotBefore, isBoardable, firstRun}
 use Rattle.frequency.specs.Found.{noRun, runOf}
 
 -- k headways of h are enough for n seconds, and one less is not: n / h, rounded up
@@ -40,12 +40,12 @@ pub record Boardable (w : Window) (base dep after k : ℕ) : Type 0 where
 
 pub boardable-says : (w : Window) (base dep after k : ℕ) → isBoardable w base dep after k ≡ true → Boardable w base dep after k
 boardable-says w base dep after k e =
-    let r = and-left (isRun w k) (notBefore base dep after (runStart w k)) e in
+    let r = and-left (isRun w k) (leavesNotBefore base dep after (runStart w k)) e in
     let z = eqb-false (w .headway) 0 (not-true (eqb (w .headway) 0) (and-left (not (eqb (w .headway) 0)) (ltb (runStart w k) (w .end)) r)) in
     record {
       spaced = ⊎-elim (λ (q : 0 < w .headway). q) (λ (q : w .headway ≤ 0). absurd (z (omega arith))) (split 0 (w .headway));
       runs = ltb-true (runStart w k) (w .end) (and-right (not (eqb (w .headway) 0)) (ltb (runStart w k) (w .end)) r);
-      wanted = leb-true (after + base) (runStart w k + dep) (and-right (isRun w k) (notBefore base dep after (runStart w k)) e);
+      wanted = leb-true (after + base) (runStart w k + dep) (and-right (isRun w k) (leavesNotBefore base dep after (runStart w k)) e);
     }
 
 -- a run is found among the first end - start, as headways are at least a second

@@ -21,15 +21,15 @@ pub record Window : Type 0 where
   pub end : ℕ
   pub headway : ℕ
 
-abbrev pub windowOf : ℕ → ℕ → ℕ → Window
-windowOf s e h = record { start = s; end = e; headway = h }
+abbrev pub windowFrom : ℕ → ℕ → ℕ → Window
+windowFrom s e h = record { start = s; end = e; headway = h }
 
 -- A trip's part of the windows' table, three words a row: how many windows, and window i
 abbrev pub windowCount : List ℕ → ℕ
 windowCount ws = length ws / 3
 
-abbrev pub windowAt : List ℕ → ℕ → Window
-windowAt ws i = windowOf (getD ws (3 * i) 0) (getD ws (3 * i + 1) 0) (getD ws (3 * i + 2) 0)
+abbrev pub windowIn : List ℕ → ℕ → Window
+windowIn ws i = windowFrom (getD ws (3 * i) 0) (getD ws (3 * i + 1) 0) (getD ws (3 * i + 2) 0)
 
 -- when run k leaves the trip's first stop
 abbrev pub runStart : Window → ℕ → ℕ
@@ -45,12 +45,12 @@ isRun w k = not (eqb (w .headway) 0) && ltb (runStart w k) (w .end)
 
 -- A run that starts at t leaves the boarding stop at t + (dep - base), where the template leaves it at dep. That is not before the
 -- wanted time `after` exactly if after + base ≤ t + dep; so put it is exact in ℕ, also where dep is less than base.
-abbrev pub notBefore : ℕ → ℕ → ℕ → ℕ → Bool
-notBefore base dep after t = leb (after + base) (t + dep)
+abbrev pub leavesNotBefore : ℕ → ℕ → ℕ → ℕ → Bool
+leavesNotBefore base dep after t = leb (after + base) (t + dep)
 
 -- run k can be boarded
 abbrev pub isBoardable : Window → ℕ → ℕ → ℕ → ℕ → Bool
-isBoardable w base dep after k = isRun w k && notBefore base dep after (runStart w k)
+isBoardable w base dep after k = isRun w k && leavesNotBefore base dep after (runStart w k)
 
 -- The first run of a window that can be boarded. Headways are at least a second, so there are at most end - start runs.
 unfoldable pub firstRun : Window → ℕ → ℕ → ℕ → Hit

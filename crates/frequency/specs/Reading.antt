@@ -6,7 +6,7 @@ use mathlib.Core.Path.{_≡_}
 use mathlib.Core.Bool.{true}
 use lib.IntN.{subℕ}
 use Rattle.signed.specs.Signed.{bitsOf}
-use Rattle.frequency.specs.declared.Boarding.{Boarding}
+use Rattle.frequency.specs.declared.BoardedRun.{BoardedRun}
 use Rattle.frequency.specs.declared.FreqBoard.{FreqBoard}
 use Rattle.frequency.specs.declared.FreqBoard.the-variants.{Nothing, Board}
 use Rattle.frequency.specs.Gtfs.{Window, runStart, isRun}
@@ -18,7 +18,7 @@ pub record Boards (n : ℕ) (window : ℕ → Window) (base dep after i k : ℕ)
   pub wanted : after + base ≤ runStart (window i) k + dep
 
 -- b is the earliest boarding of the first n windows
-pub record Earliest (n : ℕ) (window : ℕ → Window) (base dep after : ℕ) (b : Boarding) : Type 0 where
+pub record Earliest (n : ℕ) (window : ℕ → Window) (base dep after : ℕ) (b : BoardedRun) : Type 0 where
   -- it is a run that leaves at the wanted time or later
   pub boards : Boards n window base dep after (b .window) (b .run)
   -- its departure and its shift are that run's
@@ -32,4 +32,4 @@ pub record Earliest (n : ℕ) (window : ℕ → Window) (base dep after : ℕ) (
 -- the answer is the earliest boarding, or there is none to board
 pub data Answers (n : ℕ) (window : ℕ → Window) (base dep after : ℕ) : FreqBoard → Type 0 where
   none : ((i k : ℕ) → Boards n window base dep after i k → ⊥) → Answers n window base dep after Nothing
-  earliest : {b : Boarding} → Earliest n window base dep after b → Answers n window base dep after (Board b)
+  earliest : {b : BoardedRun} → Earliest n window base dep after b → Answers n window base dep after (Board b)

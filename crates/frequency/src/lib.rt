@@ -8,12 +8,12 @@
 // Assumes nothing.
 ghost use mathlib.Core.Path.{_≡_};
 ghost use Prim.Native.Nat.{_≤_, _<_};
-ghost use Rattle.frequency.specs.Gtfs.{windowCount, windowOf, windowAt, earliestFreqBoard, Nominal};
+ghost use Rattle.frequency.specs.Gtfs.{windowCount, windowFrom, windowIn, earliestFreqBoard, Nominal};
 ghost use Rattle.frequency.specs.Found.{noRun, windowRun, boardOf, Fair};
 
 // A run that is boarded: its departure at the boarding stop, its shift from the template (an i32's bits), and which run of
 // which window of the trip it is, both counted from 0.
-pub struct Boarding {
+pub struct BoardedRun {
     pub departure: u32,
     pub time_shift_s: u32,
     pub window: u32,
@@ -23,7 +23,7 @@ pub struct Boarding {
 // What a search for a boarding finds.
 pub enum FreqBoard {
     Nothing,
-    Board(Boarding),
+    Board(BoardedRun),
 }
 
 // A run by its start and its number. A window that has none gives NO_RUN, which is later than every run.
@@ -47,7 +47,7 @@ fn no_run() -> Run
 fn first_run(start: u32, end: u32, headway: u32, base: u32, dep: u32, after: u32) -> Run
     requires { ⌜ (start ≤ 1048575) × (end ≤ 1048575) × (headway ≤ 1048575) ⌝ }
     requires { ⌜ (base ≤ 1048575) × (dep < 4194304) × (after < 134217728) ⌝ }
-    ensures { λ r. ⌜ r ≡ windowRun (windowOf start end headway) base dep after ⌝ }
+    ensures { λ r. ⌜ r ≡ windowRun (windowFrom start end headway) base dep after ⌝ }
 {
     if headway == 0 {
         return no_run();
@@ -78,8 +78,8 @@ fn first_run(start: u32, end: u32, headway: u32, base: u32, dep: u32, after: u32
 
 // The first run of window i.
 fn run_at(windows: &[u32], base: u32, dep: u32, after: u32, i: usize) -> Run
-    requires { ⌜ Nominal (windowCount (now windows)) (windowAt (now windows)) base dep after ⌝ ∗ ⌜ i < windowCount (now windows) ⌝ }
-    ensures { λ r. ⌜ r ≡ windowRun (windowAt (now (windows .entry)) i) base dep after ⌝ }
+    requires { ⌜ Nominal (windowCount (now windows)) (windowIn (now windows)) base dep after ⌝ ∗ ⌜ i < windowCount (now windows) ⌝ }
+    ensures { λ r. ⌜ r ≡ windowRun (windowIn (now (windows .entry)) i) base dep after ⌝ }
 {
     let start = windows[3 * i];
     let end = windows[3 * i + 1];
@@ -96,7 +96,7 @@ fn board_at(t: u32, window: u32, base: u32, dep: u32, run: u32) -> FreqBoard
     if NO_RUN <= t {
         return FreqBoard::Nothing;
     }
-    FreqBoard::Board(Boarding {
+    FreqBoard::Board(BoardedRun {
         departure: t + dep - base,
         time_shift_s: signed::difference(t, base),
         window: window,
@@ -108,8 +108,8 @@ fn board_at(t: u32, window: u32, base: u32, dep: u32, run: u32) -> FreqBoard
 // base: the template's first departure; dep: its departure where one boards; after: the wanted time.
 // The earliest departure is that of the earliest run, as each run leaves the stop equally long after its start.
 pub fn earliest_freq_board(windows: &[u32], base: u32, dep: u32, after: u32) -> FreqBoard
-    requires { ⌜ Nominal (windowCount (now windows)) (windowAt (now windows)) base dep after ⌝ }
-    ensures { λ r. ⌜ r ≡ earliestFreqBoard (windowCount (now (windows .entry))) (windowAt (now (windows .entry))) base dep after ⌝ }
+    requires { ⌜ Nominal (windowCount (now windows)) (windowIn (now windows)) base dep after ⌝ }
+    ensures { λ r. ⌜ r ≡ earliestFreqBoard (windowCount (now (windows .entry))) (windowIn (now (windows .entry))) base dep after ⌝ }
 {
     let mut best = NO_RUN;
     let mut window: u32 = 0;

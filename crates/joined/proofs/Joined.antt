@@ -16,7 +16,7 @@ use borrow.Author.Tests.{ltb-true, ltb-false, eqb-true, eqb-false}
 use Rattle.loops.specs.Iter.{Hit}
 use Rattle.signed.specs.Signed.{bitsOf}
 use Rattle.walk_time.proofs.Laws.{rounds-most}
-use Rattle.frequency.specs.declared.Boarding.{Boarding}
+use Rattle.frequency.specs.declared.BoardedRun.{BoardedRun}
 use Rattle.frequency.specs.declared.FreqBoard.{FreqBoard}
 use Rattle.frequency.specs.declared.FreqBoard.the-variants.{Nothing, Board}
 use Rattle.frequency.specs.Gtfs.{earliestFreqBoard}
@@ -24,11 +24,11 @@ use Rattle.frequency.proofs.Reading.{board-is}
 use Rattle.label.specs.declared.Label.{Label}
 use Rattle.label.specs.declared.Label.the-variants.{Empty, Access, Transit, Walk}
 use Rattle.label.specs.Label.{noDistance}
-use Rattle.label_table.specs.Table.{recordOf}
+use Rattle.label.specs.Table.{recordOf}
 use Rattle.departures.specs.declared.DepartureRow.{DepartureRow}
-use Rattle.line_transfers.specs.Transfers.{Transfer}
+use Rattle.event_transfers.specs.Transfers.{Transfer}
 use Rattle.model.specs.Tables.{Tables, Origin, Query, roundsOf, changeBefore, never, stops, stopCount, stopAt, departure, noPickup, noDropOff, noWindows, edgesFrom, edgeTo, walkTime, permitted}
-use Rattle.model.specs.Search.{Segment, Arrivals, State, at, reachedBy, delayOf, skipped, boardAt, departureNow, arrivalNow, tripWindow, marginOf, holdsTarget, departuresAt, markAt, notBefore, bestAfter, improve, relax, resolve, enqueue, takeTransfers, alightings, transferring, scanTripForward, logged, rideSegments, pruned, passedOver, boarding, board, scanDepartures, scanStops, walkFrom, walkAll, emptied, roundStart, ridePhase, walkPhase, idle, rounds, setOut, access, newArrivals, begin, final, answer, useArcFlags, flagsInUse, runTbr, query}
+use Rattle.model.specs.Search.{Segment, Arrivals, State, at, reachedBy, delayOf, skipped, boardAt, departureNow, arrivalNow, tripWindow, marginOf, holdsTarget, departuresAt, markAt, notBefore, bestAfter, improve, relax, resolve, enqueue, takeTransfers, alightings, transferring, scanTripForward, logged, rideSegments, pruned, passedOver, boarding, board, scanDepartures, scanStops, walkFrom, walkAll, emptied, roundStart, ridePhase, walkPhase, idle, rounds, setOut, access, newArrivals, begin, final, searchAnswer, useArcFlags, flagsInUse, runTbr, query}
 use Rattle.model.specs.Door.{Door}
 use Rattle.joined.specs.Joined.{InTime, BoardedFrom, Joined, BoardedBy, JoinedByDeparture}
 use Rattle.model.proofs.Stores.{no-both, set-cases, set-there, set-le, lt-getD, getD-replicate, getD-replicate-in}
@@ -74,10 +74,10 @@ module _ (T : Tables) (Q : Query) where
   -- a boarding departs no sooner than a time
   data Since (after : ℕ) : FreqBoard → Type 0 where
     no-boarding : Since after Nothing
-    since : {b : Boarding} → after ≤ b .departure → Since after (Board b)
+    since : {b : BoardedRun} → after ≤ b .departure → Since after (Board b)
 
   -- a trip is boarded no sooner than was asked
-  pub boards-after : (t o after : ℕ) (b : Boarding) → boardAt T Q (delayOf Q t) t o after ≡ Board b → after ≤ b .departure
+  pub boards-after : (t o after : ℕ) (b : BoardedRun) → boardAt T Q (delayOf Q t) t o after ≡ Board b → after ≤ b .departure
   unfolding boardAt
   boards-after t o after b f = of (subst (Since after) f (go (noWindows T t) (ltb dep after) refl))
     where
@@ -388,16 +388,16 @@ module _ (T : Tables) (Q : Query) where
           go (λ c C. takes-on v x es c C) (holdsTarget T Q (e .pattern)) (resolve T Q e (v + e .time) (b .best))
           (resolve-finds T Q e (v + e .time) (b .best))
         where
-          label : (t : ℕ) → Boarding → Label
+          label : (t : ℕ) → BoardedRun → Label
           label t y = Walk (y .departure) x (stopAt T t (e .offset)) (e .time) noDistance (stamp - 1)
 
-          relaxed : (t : ℕ) → Boarding → Arrivals
+          relaxed : (t : ℕ) → BoardedRun → Arrivals
           relaxed t y = relax T Q stamp (stopAt T t (e .offset)) (y .departure) (label t y) b
 
-          next : (t : ℕ) → Boarding → Arrivals
+          next : (t : ℕ) → BoardedRun → Arrivals
           next t y = enqueue T Q t (e .offset) (stopAt T t (e .offset)) (y .«time_shift_s») (relaxed t y)
 
-          go : ((c : Arrivals) → On c → On (takeTransfers T Q stamp v x es c)) → (h : Bool) (z : Option (ℕ × Boarding)) → Found T Q (e .offset) (v + e .time) z
+          go : ((c : Arrivals) → On c → On (takeTransfers T Q stamp v x es c)) → (h : Bool) (z : Option (ℕ × BoardedRun)) → Found T Q (e .offset) (v + e .time) z
               → On (elim h [
                 | false ↦ takeTransfers T Q stamp v x es b
                 | true ↦ elim z [ none ↦ takeTransfers T Q stamp v x es b | some y ↦ takeTransfers T Q stamp v x es (next (y .0) (y .1)) ]
@@ -470,7 +470,7 @@ module _ (T : Tables) (Q : Query) where
     -- how a listed departure is boarded, if it is: as the boarding from `after` on
     data Takes (t o after : ℕ) : FreqBoard → Type 0 where
       passed : Takes t o after Nothing
-      taken : {y : Boarding} → boardAt T Q (delayOf Q t) t o after ≡ Board y → Takes t o after (Board y)
+      taken : {y : BoardedRun} → boardAt T Q (delayOf Q t) t o after ≡ Board y → Takes t o after (Board y)
 
     boarding-takes : (stamp after t o : ℕ) (s : State) → Takes t o after (boarding T Q stamp after (delayOf Q t) t o s)
     unfolding boarding
@@ -478,7 +478,7 @@ module _ (T : Tables) (Q : Query) where
         go (((not (permitted T Q t) || pruned T Q (delayOf Q t) t o (s .boardings)) || noPickup T t o) || skipped T Q (delayOf Q t) t o)
         (boardAt T Q (delayOf Q t) t o after) refl
       where
-        last : (x : Bool) (y : Boarding) → Takes t o after (Board y) → Takes t o after (elim x [ true ↦ Nothing | false ↦ Board y ])
+        last : (x : Bool) (y : BoardedRun) → Takes t o after (Board y) → Takes t o after (elim x [ true ↦ Nothing | false ↦ Board y ])
         last true y k = passed
         last false y k = k
 
@@ -522,7 +522,7 @@ module _ (T : Tables) (Q : Query) where
           (boarding T Q stamp after (delayOf Q (d .trip)) (d .trip) (d .offset) s) (boarding-takes stamp after (d .trip) (d .offset) s)
           (λ z Z. departures-on a hasFreq x after ds (λ e m. I e (List·Memᴰ·tail m)) z Z)
         where
-          next : Boarding → State
+          next : BoardedRun → State
           next b =
               record {
                 arrivals = scanTripForward T Q flagged stamp (delayOf Q (d .trip)) (b .«time_shift_s») (d .trip) x (d .offset) (s .arrivals);
@@ -780,12 +780,12 @@ module _ (T : Tables) (Q : Query) where
       of (rode B) = began B
 
   -- and so of its answer
-  pub answer-joined : Door T Q → Joined T Q (answer T Q false .labels)
-  unfolding answer
+  pub answer-joined : Door T Q → Joined T Q (searchAnswer T Q false .labels)
+  unfolding searchAnswer
   answer-joined D = joined-final D
 
-  pub answer-joined-departures : (flagged : Bool) → Door T Q → JoinedByDeparture T Q (answer T Q flagged .labels)
-  unfolding answer
+  pub answer-joined-departures : (flagged : Bool) → Door T Q → JoinedByDeparture T Q (searchAnswer T Q flagged .labels)
+  unfolding searchAnswer
   answer-joined-departures flagged D = joined-departures flagged D
 
   -- of `run_tbr`, and of the query

@@ -8,7 +8,7 @@
 use Prim.Native.Nat.{ℕ, suc, _+_, _≤_, _<_}
 use mathlib.Core.Path.{_≡_}
 use mathlib.Core.List.{List}
-use Rattle.frequency.specs.declared.Boarding.{Boarding}
+use Rattle.frequency.specs.declared.BoardedRun.{BoardedRun}
 use Rattle.frequency.specs.declared.FreqBoard.the-variants.{Board}
 use Rattle.label.specs.declared.Label.{Label}
 use Rattle.label.specs.declared.Label.the-variants.{Transit}
@@ -32,7 +32,7 @@ pub record InTime (labels : List Label) (row x change time : ℕ) : Type 0 where
 pub record BoardedFrom (T : Tables) (Q : Query) (labels : List Label) (row x t o r shift : ℕ) : Type 0 where
   pub after : ℕ
   pub reaches : InTime labels row x (changeBefore Q r) after
-  pub boarding : Boarding
+  pub boarding : BoardedRun
   pub boards : boardAt T Q (delayOf Q t) t o after ≡ Board boarding
   pub shift-is : shift ≡ boarding .«time_shift_s»
   pub departs : after ≤ boarding .departure
@@ -46,7 +46,7 @@ pub record Joined (T : Tables) (Q : Query) (labels : List Label) : Type 0 where
 -- reached no later than the trip departs there
 pub record BoardedBy (T : Tables) (Q : Query) (labels : List Label) (row x t o shift : ℕ) : Type 0 where
   pub after : ℕ
-  pub boarding : Boarding
+  pub boarding : BoardedRun
   pub boards : boardAt T Q (delayOf Q t) t o after ≡ Board boarding
   pub shift-is : shift ≡ boarding .«time_shift_s»
   pub reaches : InTime labels row x 0 (boarding .departure)

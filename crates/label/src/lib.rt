@@ -1,11 +1,17 @@
-// label: how a stop was reached in a row of a query's labels (`TbrReach` of tbr.rs, `Empty` for its `None`): an enum that carries its
-// distance, made and read by value (document 01, item 10, "Label rows").
-// A row is eight numbers, kind first (0 empty, 1 Access, 2 Transit, 3 Walk), and a distance.
-// Specs: a label's row and a row's label (Label).
-// Proves: the functions between the two meet their definitions. Where labels lie in the lent tables: crate label_table.
-// Assumes nothing.
+// label: how a stop was reached in a row of a query's labels (`TbrReach` of tbr.rs, `Empty` for its `None`): an enum that carries its distance, and
+// where it lies in the lent tables (document 01, item 10, "Label rows").
+// A row is eight numbers, kind first (0 empty, 1 Access, 2 Transit, 3 Walk), and a distance. A stop has 13 rows. The label of a stop's row is record
+// 13 * stop + row: eight numbers from 8 * record on in `labels`, and one distance at `record` in the labels' distances.
+// Place: a leaf. Its call: `label_call`.
+// Specs (claims): a label's row and a row's label (Label); a record's place, what it holds, the tables with a row put at a record (Table).
+// Proves: each function meets its definition; in proofs/Laws that a label stored and loaded is the same label, its distance with it; that a store
+// changes no other record; that records of different stops or rows are different. Distances are equal as the prover's floats are: it has one NaN.
+// Assumes nothing. (That a record lies in both slices is required of a caller; the call asks it.)
 ghost use mathlib.Core.Path.{_≡_};
-ghost use Rattle.label.specs.Label.{rowOf, labelOf};
+ghost use Rattle.label.specs.Label.{rowOf, labelOf, noDistance};
+ghost use Rattle.label.specs.Table.{InTable, recordOf, labelRowAt, loaded, putWords, putDistance};
+ghost use Prim.Native.Nat.{_<_};
+ghost use lib.ListN.{length, replicate};
 
 // How a stop was reached. `time_shift_s` is the bits of a signed number.
 pub enum Label {
@@ -196,4 +202,74 @@ pub fn label_of(r: LabelRow) -> Label
         };
     }
     Label::Empty
+}
+
+// A row is put at a record.
+fn put_row(r: LabelRow, labels: &mut [u32], distances: &mut [f64], record: usize)
+    requires { ⌜ InTable (now labels) (now distances) «record» ⌝ }
+    ensures { λ _. ⌜ (now (labels .exit) ≡ putWords r (now (labels .entry)) «record») × (now (distances .exit) ≡ putDistance r (now (distances .entry)) «record») ⌝ }
+{
+    let at = 8 * record;
+    labels[at] = r.kind;
+    labels[at + 1] = r.word1;
+    labels[at + 2] = r.word2;
+    labels[at + 3] = r.word3;
+    labels[at + 4] = r.word4;
+    labels[at + 5] = r.word5;
+    labels[at + 6] = r.word6;
+    labels[at + 7] = r.word7;
+    distances[record] = r.distance;
+}
+
+// The row of a record.
+pub fn get_row(labels: &[u32], distances: &[f64], record: usize) -> LabelRow
+    requires { ⌜ InTable (now labels) (now distances) «record» ⌝ }
+    ensures { λ r. ⌜ r ≡ labelRowAt (now (labels .entry)) (now (distances .entry)) «record» ⌝ }
+{
+    let at = 8 * record;
+    LabelRow {
+        kind: labels[at],
+        word1: labels[at + 1],
+        word2: labels[at + 2],
+        word3: labels[at + 3],
+        word4: labels[at + 4],
+        word5: labels[at + 5],
+        word6: labels[at + 6],
+        word7: labels[at + 7],
+        distance: distances[record],
+    }
+}
+
+// The label is put into its record.
+pub fn store_label(label: Label, labels: &mut [u32], distances: &mut [f64], record: usize)
+    requires { ⌜ InTable (now labels) (now distances) «record» ⌝ }
+    ensures { λ _. ⌜ (now (labels .exit) ≡ putWords (rowOf label) (now (labels .entry)) «record») × (now (distances .exit) ≡ putDistance (rowOf label) (now (distances .entry)) «record») ⌝ }
+{
+    put_row(row_of(label), labels, distances, record);
+}
+
+// The label of a record.
+pub fn load_label(labels: &[u32], distances: &[f64], record: usize) -> Label
+    requires { ⌜ InTable (now labels) (now distances) «record» ⌝ }
+    ensures { λ r. ⌜ r ≡ loaded (now (labels .entry)) (now (distances .entry)) «record» ⌝ }
+{
+    label_of(get_row(labels, distances, record))
+}
+
+// The record of a stop's row.
+pub fn record_of(stop: u32, row: u32) -> usize
+    ensures { λ r. ⌜ r ≡ recordOf stop row ⌝ }
+{
+    13 * (stop as usize) + (row as usize)
+}
+
+// All distances become +0.0.
+pub fn zero_distances(distances: &mut [f64])
+    ensures { λ _. ⌜ now (distances .exit) ≡ replicate (length (now (distances .entry))) noDistance ⌝ }
+{
+    let mut i: usize = 0;
+    while i < distances.len() {
+        distances[i] = 0.0;
+        i += 1;
+    }
 }

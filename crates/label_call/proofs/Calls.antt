@@ -14,9 +14,9 @@ use Rattle.label.specs.declared.Label.{Label}
 use Rattle.label.specs.declared.LabelRow.{LabelRow}
 use Rattle.label.specs.declared.Label.the-variants.{Empty, Access, Transit, Walk}
 use Rattle.label.specs.Label.{rowOf, labelOf}
-use Rattle.label_table.specs.Table.{InTable, recordOf, putWords, putDistance, kindAt, rowAt, loaded, lengthsRight}
-use Rattle.label_call.specs.Calls.{stopsBelow, placeCode, storeCode, loadCode, Outcome, outcome, settle, storeOutcome, refusedLabel, givenLabel, answerLabel, andThen, loadAnswer}
-use Rattle.label_table.proofs.Laws.{table-record, load-store, load-other, row-back, other-kind, put-words-length, put-distance-length}
+use Rattle.label.specs.Table.{InTable, recordOf, putWords, putDistance, kindAt, labelRowAt, loaded, lengthsRight}
+use Rattle.label_call.specs.Calls.{stopsBelow, placeCode, storeCode, loadCode, LabelOutcome, labelOutcome, labelSettle, storeOutcome, refusedLabel, givenLabel, answerLabel, andThen, loadAnswer}
+use Rattle.label.proofs.Laws.{table-record, load-store, load-other, row-back, other-kind, put-words-length, put-distance-length}
 
 -- where all questions are answered yes and 4 is of two tests, they are answered yes with the first of the two alone
 pub one-asked : (a b : Bool) (stops row words distances : ℕ) → placeCode (a && b) stops row words distances ≡ 0 → placeCode a stops row words distances ≡ 0
@@ -53,10 +53,10 @@ module _ (stops stop row : ℕ) (l : List ℕ) (d : List Float) where
 
   -- a store that is refused
   pub store-refused : (x : Label) (n : ℕ) → n ≡ storeCode x stops stop row (length l) (length d) → (n ≡ 0 → ⊥)
-      → outcome n l d ≡ storeOutcome x stops stop row l d
+      → labelOutcome n l d ≡ storeOutcome x stops stop row l d
   unfolding storeOutcome
   store-refused x zero e h = absurd (h refl)
-  store-refused x (suc n) e h = ap (λ (m : ℕ). settle m x (recordOf stop row) l d) e
+  store-refused x (suc n) e h = ap (λ (m : ℕ). labelSettle m x (recordOf stop row) l d) e
 
   -- a load that is refused for its place
   pub load-refused : (n : ℕ) → n ≡ loadCode stops stop row (length l) (length d) → (n ≡ 0 → ⊥)
@@ -69,12 +69,12 @@ module _ (stops stop row : ℕ) (l : List ℕ) (d : List Float) where
   -- a store that is made
   pub store-made : (x : Label) → storeCode x stops stop row (length l) (length d) ≡ 0 → (k : ℕ) → k ≡ recordOf stop row
       → (l' : List ℕ) (d' : List Float) → l' ≡ putWords (rowOf x) l k → d' ≡ putDistance (rowOf x) d k
-      → outcome 0 l' d' ≡ storeOutcome x stops stop row l d
+      → labelOutcome 0 l' d' ≡ storeOutcome x stops stop row l d
   unfolding storeOutcome
   store-made x ok k at l' d' p q =
-      ap₂ (outcome 0) p q
-      ∙ ap (λ (j : ℕ). outcome 0 (putWords (rowOf x) l j) (putDistance (rowOf x) d j)) at
-      ∙ ap (λ (m : ℕ). settle m x (recordOf stop row) l d) (sym ok)
+      ap₂ (labelOutcome 0) p q
+      ∙ ap (λ (j : ℕ). labelOutcome 0 (putWords (rowOf x) l j) (putDistance (rowOf x) d j)) at
+      ∙ ap (λ (m : ℕ). labelSettle m x (recordOf stop row) l d) (sym ok)
 
   module _ (ok : loadCode stops stop row (length l) (length d) ≡ 0) (k : ℕ) (at : k ≡ recordOf stop row) where
     -- a load at a place that is there, by whether the kind is one
@@ -86,10 +86,10 @@ module _ (stops stop row : ℕ) (l : List ℕ) (d : List Float) where
         ∙ ap (λ (m : ℕ). answerLabel (andThen m (ask 5 (leb (kindAt l (recordOf stop row)) 3) 0)) (loaded l d (recordOf stop row))) (sym ok)
 
     -- a load that is refused for the kind found, and one that is made
-    pub load-no-kind : (r : LabelRow) → r ≡ rowAt l d k → 3 < r .kind → refusedLabel 5 ≡ loadAnswer stops stop row l d
+    pub load-no-kind : (r : LabelRow) → r ≡ labelRowAt l d k → 3 < r .kind → refusedLabel 5 ≡ loadAnswer stops stop row l d
     load-no-kind r e h = at-place false (sym (ap (λ (s : LabelRow). leb (s .kind) 3) e) ∙ lt-leb _ _ h)
 
-    pub load-made : (r : LabelRow) → r ≡ rowAt l d k → r .kind ≤ 3 → givenLabel (labelOf r) ≡ loadAnswer stops stop row l d
+    pub load-made : (r : LabelRow) → r ≡ labelRowAt l d k → r .kind ≤ 3 → givenLabel (labelOf r) ≡ loadAnswer stops stop row l d
     unfolding loaded
     load-made r e h =
         ap (λ (s : LabelRow). givenLabel (labelOf s)) e ∙ at-place true (sym (ap (λ (s : LabelRow). leb (s .kind) 3) e) ∙ le-leb _ _ h)
@@ -115,9 +115,9 @@ module _ (x : Label) (stops stop row : ℕ) (l : List ℕ) (d : List Float) wher
       let back = row-back (rowOf x) l d k there in
       let ok' : loadCode stops stop row (length l') (length d') ≡ 0 =
       ap₂ (loadCode stops stop row) (put-words-length (rowOf x) l k) (put-distance-length (rowOf x) d k) ∙ asked in
-      let small : rowAt l' d' k .kind ≤ 3 = omega (arith, ap (λ (r : LabelRow). r .kind) back, kind-small x) in
-      ap (λ (o : Outcome). loadAnswer stops stop row (o .labels) (o .distances)) (sym (store-made stops stop row l d x ok k refl l' d' refl refl))
-      ∙ sym (load-made stops stop row l' d' ok' k refl (rowAt l' d' k) refl small)
+      let small : labelRowAt l' d' k .kind ≤ 3 = omega (arith, ap (λ (r : LabelRow). r .kind) back, kind-small x) in
+      ap (λ (o : LabelOutcome). loadAnswer stops stop row (o .labels) (o .distances)) (sym (store-made stops stop row l d x ok k refl l' d' refl refl))
+      ∙ sym (load-made stops stop row l' d' ok' k refl (labelRowAt l' d' k) refl small)
       ∙ ap givenLabel (load-store x l d k there)
 
   -- a store, made or refused, changes no load of another record
@@ -130,7 +130,7 @@ module _ (x : Label) (stops stop row : ℕ) (l : List ℕ) (d : List Float) wher
       k : ℕ
       k = recordOf stop row
 
-      go : (n : ℕ) → loadAnswer stops stop' row' (settle n x k l d .labels) (settle n x k l d .distances) ≡ loadAnswer stops stop' row' l d
+      go : (n : ℕ) → loadAnswer stops stop' row' (labelSettle n x k l d .labels) (labelSettle n x k l d .distances) ≡ loadAnswer stops stop' row' l d
       go zero =
           cc (put-words-length (rowOf x) l k, put-distance-length (rowOf x) d k, other-kind (rowOf x) l k (recordOf stop' row') h, load-other x l d k (recordOf stop' row') h)
       go (suc n) = refl

@@ -10,7 +10,7 @@ use Rattle.label.specs.declared.Label.{Label}
 use Rattle.label.specs.declared.Label.the-variants.{Empty, Access, Transit, Walk}
 use Rattle.label_call.specs.declared.LabelAnswer.{LabelAnswer}
 use Rattle.label.specs.Label.{rowOf}
-use Rattle.label_table.specs.Table.{recordOf, putWords, putDistance, kindAt, loaded, lengthsRight}
+use Rattle.label.specs.Table.{recordOf, putWords, putDistance, kindAt, loaded, lengthsRight}
 
 -- question 4 of a label: the stop numbers in it are below the count. (Its times and other numbers are not judged: they are results.)
 abbrev pub stopsBelow : Label → ℕ → Bool
@@ -34,22 +34,22 @@ abbrev pub loadCode : ℕ → ℕ → ℕ → ℕ → ℕ → ℕ
 loadCode stops stop row words distances = placeCode (ltb stop stops) stops row words distances
 
 -- a storing call's code, and both slices as it leaves them
-pub record Outcome : Type 0 where
+pub record LabelOutcome : Type 0 where
   pub code : ℕ
   pub labels : List ℕ
   pub distances : List Float
 
-abbrev pub outcome : ℕ → List ℕ → List Float → Outcome
-outcome n l d = record { code = n; labels = l; distances = d }
+abbrev pub labelOutcome : ℕ → List ℕ → List Float → LabelOutcome
+labelOutcome n l d = record { code = n; labels = l; distances = d }
 
 -- a refusal leaves both slices as they came
-abbrev pub settle : ℕ → Label → ℕ → List ℕ → List Float → Outcome
-settle zero x k l d = outcome 0 (putWords (rowOf x) l k) (putDistance (rowOf x) d k)
-settle (suc n) x k l d = outcome (suc n) l d
+abbrev pub labelSettle : ℕ → Label → ℕ → List ℕ → List Float → LabelOutcome
+labelSettle zero x k l d = labelOutcome 0 (putWords (rowOf x) l k) (putDistance (rowOf x) d k)
+labelSettle (suc n) x k l d = labelOutcome (suc n) l d
 
 -- label x is stored at a stop's row
-unfoldable pub storeOutcome : Label → ℕ → ℕ → ℕ → List ℕ → List Float → Outcome
-storeOutcome x stops stop row l d = settle (storeCode x stops stop row (length l) (length d)) x (recordOf stop row) l d
+unfoldable pub storeOutcome : Label → ℕ → ℕ → ℕ → List ℕ → List Float → LabelOutcome
+storeOutcome x stops stop row l d = labelSettle (storeCode x stops stop row (length l) (length d)) x (recordOf stop row) l d
 
 -- a refused load gives an empty row
 abbrev pub refusedLabel : ℕ → LabelAnswer

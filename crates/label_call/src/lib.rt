@@ -4,8 +4,8 @@
 // one is the same label, and that a store, made or refused, changes no load of another record; in proofs/Examples a label of each kind.
 // Assumes nothing.
 ghost use mathlib.Core.Path.{_≡_};
-ghost use Rattle.label_table.specs.Table.{lengthsRight};
-ghost use Rattle.label_call.specs.Calls.{stopsBelow, placeCode, outcome, storeOutcome, refusedLabel, loadAnswer};
+ghost use Rattle.label.specs.Table.{lengthsRight};
+ghost use Rattle.label_call.specs.Calls.{stopsBelow, placeCode, labelOutcome, storeOutcome, refusedLabel, loadAnswer};
 use label::Label;
 use label::LabelRow;
 
@@ -55,14 +55,14 @@ fn store(
     distances: &mut [f64],
 ) -> u32
     requires { ⌜ below ≡ stopsBelow label stops ⌝ }
-    ensures { λ r. ⌜ outcome r (now (labels .exit)) (now (distances .exit)) ≡ storeOutcome label stops stop row (now (labels .entry)) (now (distances .entry)) ⌝ }
+    ensures { λ r. ⌜ labelOutcome r (now (labels .exit)) (now (distances .exit)) ≡ storeOutcome label stops stop row (now (labels .entry)) (now (distances .entry)) ⌝ }
 {
     let known = door::both(stop < stops, below);
     let code = place(known, stops, row, labels.len(), distances.len());
     if code != 0 {
         return code;
     }
-    label_table::store_label(label, labels, distances, label_table::record_of(stop, row));
+    label::store_label(label, labels, distances, label::record_of(stop, row));
     0
 }
 
@@ -78,7 +78,7 @@ pub fn store_access(
     labels: &mut [u32],
     distances: &mut [f64],
 ) -> u32
-    ensures { λ r. ⌜ outcome r (now (labels .exit)) (now (distances .exit)) ≡ storeOutcome (Label.Access «stop_idx» «arrival_s» «walk_duration» «walk_distance») stops stop row (now (labels .entry)) (now (distances .entry)) ⌝ }
+    ensures { λ r. ⌜ labelOutcome r (now (labels .exit)) (now (distances .exit)) ≡ storeOutcome (Label.Access «stop_idx» «arrival_s» «walk_duration» «walk_distance») stops stop row (now (labels .entry)) (now (distances .entry)) ⌝ }
 {
     let label = Label::Access {
         stop_idx,
@@ -104,7 +104,7 @@ pub fn store_transit(
     labels: &mut [u32],
     distances: &mut [f64],
 ) -> u32
-    ensures { λ r. ⌜ outcome r (now (labels .exit)) (now (distances .exit)) ≡ storeOutcome (Label.Transit «arrival_s» «trip_idx» «board_stop» «board_off» «alight_off» «prev_round» «time_shift_s») stops stop row (now (labels .entry)) (now (distances .entry)) ⌝ }
+    ensures { λ r. ⌜ labelOutcome r (now (labels .exit)) (now (distances .exit)) ≡ storeOutcome (Label.Transit «arrival_s» «trip_idx» «board_stop» «board_off» «alight_off» «prev_round» «time_shift_s») stops stop row (now (labels .entry)) (now (distances .entry)) ⌝ }
 {
     let label = Label::Transit {
         arrival_s,
@@ -140,7 +140,7 @@ pub fn store_walk(
     labels: &mut [u32],
     distances: &mut [f64],
 ) -> u32
-    ensures { λ r. ⌜ outcome r (now (labels .exit)) (now (distances .exit)) ≡ storeOutcome (Label.Walk «arrival_s» «from_stop» «to_stop» «duration_s» «distance_m» «prev_round») stops stop row (now (labels .entry)) (now (distances .entry)) ⌝ }
+    ensures { λ r. ⌜ labelOutcome r (now (labels .exit)) (now (distances .exit)) ≡ storeOutcome (Label.Walk «arrival_s» «from_stop» «to_stop» «duration_s» «distance_m» «prev_round») stops stop row (now (labels .entry)) (now (distances .entry)) ⌝ }
 {
     let label = Label::Walk {
         arrival_s,
@@ -169,8 +169,8 @@ pub fn load(stops: u32, stop: u32, row: u32, labels: &[u32], distances: &[f64]) 
     if code != 0 {
         return refused_label(code);
     }
-    let record = label_table::record_of(stop, row);
-    let r = label_table::get_row(labels, distances, record);
+    let record = label::record_of(stop, row);
+    let r = label::get_row(labels, distances, record);
     if 3 < r.kind {
         return refused_label(5);
     }

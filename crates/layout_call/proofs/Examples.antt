@@ -10,8 +10,8 @@ use Rattle.tables.specs.declared.Counts.{Counts}
 use Rattle.tables.specs.Tables.{timeOf, tripOf, windowOf, edgeOf}
 use Rattle.tables.specs.Door.{countsOk, slicesOk, tripRuns, stopTimeNumbers, edgeNumbers, stopTimeRanges, tripRanges, windowRanges, edgeRanges, edgeRises, runsOk, numbersOk, rangesOk, orderOk}
 use Rattle.line_layout.specs.Layout.{inOrder, neighbours, fifoLine, lastIn, positionIn, unlisted}
-use Rattle.line_layout.specs.Listed.{runIn, lineRunsOk, entriesOk}
-use Rattle.layout_call.specs.Call.{areas, sizesOk, verdict, outcome, outcomeOf}
+use Rattle.line_layout.specs.Listed.{lineRunIn, lineRunsOk, entriesOk}
+use Rattle.layout_call.specs.Call.{layoutAreas, layoutSizesOk, layoutVerdict, layoutOutcome, layoutOutcomeOf}
 
 -- two lists of numbers are the same
 unfoldable pub same : List ℕ → List ℕ → Bool
@@ -77,7 +77,7 @@ refusal t lines runs listed entries positions fifo n =
 
 unfoldable pub right : Case → Bool
 right c =
-    let o = outcome (c .t) counts (c .lines) (c .listed) (c .runs) (c .entries) (areas (c .positions) (c .fifo)) in
+    let o = layoutOutcome (c .t) counts (c .lines) (c .listed) (c .runs) (c .entries) (layoutAreas (c .positions) (c .fifo)) in
     eqb (o .answer) (c .answer) && (same (o .areas .positions) (c .positionsAfter) && same (o .areas .fifo) (c .fifoAfter))
 
 unfoldable pub all : List Case → Bool
@@ -142,11 +142,11 @@ cases =
     ∷ []
 
 -- walk edges out of order are refused by 6, and both slices are as they came
-pub walk-edges-unordered : outcome walked walkedCounts 1 1 (0 ∷ 1 ∷ []) (0 ∷ []) (areas (9 ∷ []) (7 ∷ [])) ≡ outcomeOf 6 (areas (9 ∷ []) (7 ∷ []))
-unfolding walked walkedCounts time trip every timeOf tripOf windowOf edgeOf countsOk slicesOk tripRuns stopTimeNumbers edgeNumbers stopTimeRanges tripRanges windowRanges edgeRanges edgeRises runsOk numbersOk rangesOk orderOk runIn lineRunsOk entriesOk sizesOk verdict
+pub walk-edges-unordered : layoutOutcome walked walkedCounts 1 1 (0 ∷ 1 ∷ []) (0 ∷ []) (layoutAreas (9 ∷ []) (7 ∷ [])) ≡ layoutOutcomeOf 6 (layoutAreas (9 ∷ []) (7 ∷ []))
+unfolding walked walkedCounts time trip every timeOf tripOf windowOf edgeOf countsOk slicesOk tripRuns stopTimeNumbers edgeNumbers stopTimeRanges tripRanges windowRanges edgeRanges edgeRises runsOk numbersOk rangesOk orderOk lineRunIn lineRunsOk entriesOk layoutSizesOk layoutVerdict
 walk-edges-unordered = refl
 
 -- every case is right
 pub worked : all cases ≡ true
-unfolding all cases right laid refusal timetableK table time trip counts runsK entriesK nines sevens same every tabFrom timeOf tripOf windowOf edgeOf countsOk slicesOk tripRuns stopTimeNumbers edgeNumbers stopTimeRanges tripRanges windowRanges edgeRanges edgeRises runsOk numbersOk rangesOk orderOk inOrder neighbours fifoLine lastIn positionIn runIn lineRunsOk entriesOk sizesOk verdict
+unfolding all cases right laid refusal timetableK table time trip counts runsK entriesK nines sevens same every tabFrom timeOf tripOf windowOf edgeOf countsOk slicesOk tripRuns stopTimeNumbers edgeNumbers stopTimeRanges tripRanges windowRanges edgeRanges edgeRises runsOk numbersOk rangesOk orderOk inOrder neighbours fifoLine lastIn positionIn lineRunIn lineRunsOk entriesOk layoutSizesOk layoutVerdict
 worked = refl

@@ -15,7 +15,7 @@ use Rattle.tables.specs.Sane.{CountsOk, SlicesOk}
 use Rattle.tables.proofs.Yes.{two, counts-yes, slices-yes, sane}
 use Rattle.line_layout.specs.Listed.{lineRunsOk, entriesOk}
 use Rattle.line_layout.proofs.Yes.{lines-listed}
-use Rattle.layout_call.specs.Call.{Areas, areasOk, sizesOk, verdict, made, outcomeOf, settle, Admitted}
+use Rattle.layout_call.specs.Call.{LayoutAreas, layoutAreasOk, layoutSizesOk, layoutVerdict, layoutMade, layoutOutcomeOf, layoutSettle, LayoutAdmitted}
 
 -- 1
 pub record Limits (c : Counts) (lines n : ℕ) : Type 0 where
@@ -37,11 +37,11 @@ pub record Sizes (t : List ℕ) (c : Counts) (lines n runs entries positions fif
   pub positionsIs : positions ≡ c .trips
   pub fifoIs : fifo ≡ lines
 
-pub sizes-yes : (t : List ℕ) (c : Counts) (lines n runs entries positions fifo : ℕ) → slicesOk t c && sizesOk c lines n runs entries positions fifo ≡ true
+pub sizes-yes : (t : List ℕ) (c : Counts) (lines n runs entries positions fifo : ℕ) → slicesOk t c && layoutSizesOk c lines n runs entries positions fifo ≡ true
     → Sizes t c lines n runs entries positions fifo
-unfolding sizesOk
+unfolding layoutSizesOk
 sizes-yes t c lines n runs entries positions fifo h =
-    let x = two (slicesOk t c) (sizesOk c lines n runs entries positions fifo) h in
+    let x = two (slicesOk t c) (layoutSizesOk c lines n runs entries positions fifo) h in
     let y = two (eqb runs (lines * 2) && eqb entries n) (eqb positions (c .trips) && eqb fifo lines) (x .two) in
     let a = two (eqb runs (lines * 2)) (eqb entries n) (y .one) in
     let b = two (eqb positions (c .trips)) (eqb fifo lines) (y .two) in
@@ -54,11 +54,11 @@ sizes-yes t c lines n runs entries positions fifo h =
     }
 
 -- all together
-pub admitted : (t : List ℕ) (c : Counts) (lines n : ℕ) (runs entries : List ℕ) (s : Areas) → verdict t c lines n runs entries (areasOk c lines n runs entries s) ≡ 0
-    → Admitted t c lines runs entries s
-unfolding verdict
+pub admitted : (t : List ℕ) (c : Counts) (lines n : ℕ) (runs entries : List ℕ) (s : LayoutAreas) → layoutVerdict t c lines n runs entries (layoutAreasOk c lines n runs entries s) ≡ 0
+    → LayoutAdmitted t c lines runs entries s
+unfolding layoutVerdict
 admitted t c lines n runs entries s h =
-    let sizes = areasOk c lines n runs entries s in
+    let sizes = layoutAreasOk c lines n runs entries s in
     let r6 = ask 6 (orderOk t c) 0 in
     let r5 = ask 5 (rangesOk t c) r6 in
     let r4 = ask 4 (numbersOk t c && entriesOk c entries n) r5 in
@@ -83,10 +83,10 @@ admitted t c lines n runs entries s h =
     }
 
 -- what the call answers and leaves, by what the questions gave
-module _ (t : List ℕ) (c : Counts) (lines : ℕ) (runs entries : List ℕ) (s : Areas) where
-  pub refused : (v w : ℕ) → v ≡ w → (v ≡ 0 → ⊥) → outcomeOf v s ≡ settle w t c lines runs entries s
+module _ (t : List ℕ) (c : Counts) (lines : ℕ) (runs entries : List ℕ) (s : LayoutAreas) where
+  pub refused : (v w : ℕ) → v ≡ w → (v ≡ 0 → ⊥) → layoutOutcomeOf v s ≡ layoutSettle w t c lines runs entries s
   refused zero w e h = absurd (h refl)
-  refused (suc n) w e h = ap (λ (v : ℕ). settle v t c lines runs entries s) e
+  refused (suc n) w e h = ap (λ (v : ℕ). layoutSettle v t c lines runs entries s) e
 
-  pub answered : (v w : ℕ) (x : Areas) → v ≡ w → v ≡ 0 → x ≡ made t c lines runs entries → outcomeOf v x ≡ settle w t c lines runs entries s
-  answered v w x e z h = ap₂ outcomeOf z h ∙ ap (λ (k : ℕ). settle k t c lines runs entries s) (sym z ∙ e)
+  pub answered : (v w : ℕ) (x : LayoutAreas) → v ≡ w → v ≡ 0 → x ≡ layoutMade t c lines runs entries → layoutOutcomeOf v x ≡ layoutSettle w t c lines runs entries s
+  answered v w x e z h = ap₂ layoutOutcomeOf z h ∙ ap (λ (k : ℕ). layoutSettle k t c lines runs entries s) (sym z ∙ e)

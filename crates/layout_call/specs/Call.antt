@@ -14,24 +14,24 @@ use Rattle.line_layout.specs.Layout.{positionsOf, fifosOf}
 use Rattle.line_layout.specs.Listed.{lineRunsOk, entriesOk, LinesListed}
 
 -- what is lent to be written
-pub record Areas : Type 0 where
+pub record LayoutAreas : Type 0 where
   pub positions : List ℕ
   pub fifo : List ℕ
 
-abbrev pub areas : List ℕ → List ℕ → Areas
-areas p f = record { positions = p; fifo = f }
+abbrev pub layoutAreas : List ℕ → List ℕ → LayoutAreas
+layoutAreas p f = record { positions = p; fifo = f }
 
 -- 2: is every lent slice exactly as long as the counts say?
-unfoldable pub sizesOk : Counts → ℕ → ℕ → ℕ → ℕ → ℕ → ℕ → Bool
-sizesOk c lines n runs entries positions fifo =
+unfoldable pub layoutSizesOk : Counts → ℕ → ℕ → ℕ → ℕ → ℕ → ℕ → Bool
+layoutSizesOk c lines n runs entries positions fifo =
     (eqb runs (lines * 2) && eqb entries n) && (eqb positions (c .trips) && eqb fifo lines)
 
-abbrev pub areasOk : Counts → ℕ → ℕ → List ℕ → List ℕ → Areas → Bool
-areasOk c lines n runs entries s = sizesOk c lines n (length runs) (length entries) (length (s .positions)) (length (s .fifo))
+abbrev pub layoutAreasOk : Counts → ℕ → ℕ → List ℕ → List ℕ → LayoutAreas → Bool
+layoutAreasOk c lines n runs entries s = layoutSizesOk c lines n (length runs) (length entries) (length (s .positions)) (length (s .fifo))
 
 -- THE QUESTIONS 1 to 6: the number of the first that is answered no, or 0. 6 is of the walk edges.
-unfoldable pub verdict : List ℕ → Counts → ℕ → ℕ → List ℕ → List ℕ → Bool → ℕ
-verdict t c lines n runs entries sizes =
+unfoldable pub layoutVerdict : List ℕ → Counts → ℕ → ℕ → List ℕ → List ℕ → Bool → ℕ
+layoutVerdict t c lines n runs entries sizes =
     ask 1 (countsOk c && (leb lines 4096 && leb n 4096))
     (ask 2 (slicesOk t c && sizes)
     (ask 3 (runsOk t c && lineRunsOk runs lines n)
@@ -40,27 +40,27 @@ verdict t c lines n runs entries sizes =
     (ask 6 (orderOk t c) 0)))))
 
 -- WHAT IS WRITTEN: every trip's position, every line's FIFO flag
-abbrev pub made : List ℕ → Counts → ℕ → List ℕ → List ℕ → Areas
-made t c lines runs entries = areas (positionsOf c lines runs entries) (fifosOf (timetable t c) lines runs entries)
+abbrev pub layoutMade : List ℕ → Counts → ℕ → List ℕ → List ℕ → LayoutAreas
+layoutMade t c lines runs entries = layoutAreas (positionsOf c lines runs entries) (fifosOf (timetable t c) lines runs entries)
 
 -- THE OUTCOME: the answer and the slices at exit. A refusal leaves both slices as they came.
-pub record Outcome : Type 0 where
+pub record LayoutOutcome : Type 0 where
   pub answer : ℕ
-  pub areas : Areas
+  pub areas : LayoutAreas
 
-abbrev pub outcomeOf : ℕ → Areas → Outcome
-outcomeOf v s = record { answer = v; areas = s }
+abbrev pub layoutOutcomeOf : ℕ → LayoutAreas → LayoutOutcome
+layoutOutcomeOf v s = record { answer = v; areas = s }
 
-abbrev pub settle : ℕ → List ℕ → Counts → ℕ → List ℕ → List ℕ → Areas → Outcome
-settle zero t c lines runs entries s = outcomeOf 0 (made t c lines runs entries)
-settle (suc v) t c lines runs entries s = outcomeOf (suc v) s
+abbrev pub layoutSettle : ℕ → List ℕ → Counts → ℕ → List ℕ → List ℕ → LayoutAreas → LayoutOutcome
+layoutSettle zero t c lines runs entries s = layoutOutcomeOf 0 (layoutMade t c lines runs entries)
+layoutSettle (suc v) t c lines runs entries s = layoutOutcomeOf (suc v) s
 
-abbrev pub outcome : List ℕ → Counts → ℕ → ℕ → List ℕ → List ℕ → Areas → Outcome
-outcome t c lines n runs entries s =
-    settle (verdict t c lines n runs entries (areasOk c lines n runs entries s)) t c lines runs entries s
+abbrev pub layoutOutcome : List ℕ → Counts → ℕ → ℕ → List ℕ → List ℕ → LayoutAreas → LayoutOutcome
+layoutOutcome t c lines n runs entries s =
+    layoutSettle (layoutVerdict t c lines n runs entries (layoutAreasOk c lines n runs entries s)) t c lines runs entries s
 
 -- what the questions give where all are answered yes
-pub record Admitted (t : List ℕ) (c : Counts) (lines : ℕ) (runs entries : List ℕ) (s : Areas) : Type 0 where
+pub record LayoutAdmitted (t : List ℕ) (c : Counts) (lines : ℕ) (runs entries : List ℕ) (s : LayoutAreas) : Type 0 where
   pub sane : Sane t c
   pub listed : LinesListed c lines runs entries
   pub positions : length (s .positions) ≡ c .trips

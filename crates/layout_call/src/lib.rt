@@ -5,7 +5,7 @@
 ghost use mathlib.Core.Path.{_≡_};
 ghost use Prim.Native.Nat.{_≤_};
 ghost use lib.ListN.{length};
-ghost use Rattle.layout_call.specs.Call.{areas, sizesOk, verdict, made, outcome, outcomeOf, Admitted};
+ghost use Rattle.layout_call.specs.Call.{layoutAreas, layoutSizesOk, layoutVerdict, layoutMade, layoutOutcome, layoutOutcomeOf, LayoutAdmitted};
 use tables::Counts;
 
 // Question 2: is each slice as long as the counts say?
@@ -19,7 +19,7 @@ fn sizes_ok(
     fifo: usize,
 ) -> bool
     requires { ⌜ lines ≤ 4096 ⌝ }
-    ensures { λ r. ⌜ r ≡ sizesOk c lines n runs entries positions fifo ⌝ }
+    ensures { λ r. ⌜ r ≡ layoutSizesOk c lines n runs entries positions fifo ⌝ }
 {
     let a = door::both(runs == lines * 2, entries == n);
     door::both(a, door::both(positions == c.trips, fifo == lines))
@@ -36,7 +36,7 @@ fn questions(
     positions: usize,
     fifo: usize,
 ) -> u32
-    ensures { λ r. ⌜ r ≡ verdict (now (t .entry)) c lines n (now (runs .entry)) (now (entries .entry)) (sizesOk c lines n (length (now (runs .entry))) (length (now (entries .entry))) positions fifo) ⌝ }
+    ensures { λ r. ⌜ r ≡ layoutVerdict (now (t .entry)) c lines n (now (runs .entry)) (now (entries .entry)) (layoutSizesOk c lines n (length (now (runs .entry))) (length (now (entries .entry))) positions fifo) ⌝ }
 {
     if !door::both(tables::counts_ok(c), door::both(lines <= 4096, n <= 4096)) {
         return 1;
@@ -76,8 +76,8 @@ fn lay_out(
     positions: &mut [u32],
     fifo: &mut [u32],
 )
-    requires { ⌜ Admitted (now t) c lines (now runs) (now entries) (areas (now positions) (now fifo)) ⌝ }
-    ensures { λ _. ⌜ areas (now (positions .exit)) (now (fifo .exit)) ≡ made (now (t .entry)) c lines (now (runs .entry)) (now (entries .entry)) ⌝ }
+    requires { ⌜ LayoutAdmitted (now t) c lines (now runs) (now entries) (layoutAreas (now positions) (now fifo)) ⌝ }
+    ensures { λ _. ⌜ layoutAreas (now (positions .exit)) (now (fifo .exit)) ≡ layoutMade (now (t .entry)) c lines (now (runs .entry)) (now (entries .entry)) ⌝ }
 {
     line_layout::line_positions(c, lines, runs, entries, positions);
     line_layout::line_fifo(t, c, lines, runs, entries, fifo);
@@ -96,7 +96,7 @@ pub fn line_layout(
     positions: &mut [u32],
     fifo: &mut [u32],
 ) -> u32
-    ensures { λ r. ⌜ outcomeOf r (areas (now (positions .exit)) (now (fifo .exit))) ≡ outcome (now (t .entry)) c lines «entry_count» (now (runs .entry)) (now (entries .entry)) (areas (now (positions .entry)) (now (fifo .entry))) ⌝ }
+    ensures { λ r. ⌜ layoutOutcomeOf r (layoutAreas (now (positions .exit)) (now (fifo .exit))) ≡ layoutOutcome (now (t .entry)) c lines «entry_count» (now (runs .entry)) (now (entries .entry)) (layoutAreas (now (positions .entry)) (now (fifo .entry))) ⌝ }
 {
     let v = questions(
         t,

@@ -13,7 +13,7 @@ use Rattle.door.proofs.Laws.{ask-yes, ask-later}
 use Rattle.door.specs.Door.{ask, answer, refusal, success, timeLimit}
 use Rattle.leaf_calls.specs.declared.DelayAt.{DelayAt}
 use Rattle.delay_rows.specs.Delays.{delayRow, stopDelay, margin}
-use Rattle.delay_rows.specs.Flat.{delayCount, stopCount, delayTables}
+use Rattle.delay_rows.specs.Flat.{delayRowCount, stopRowCount, delayTables}
 use Rattle.stop_delay.specs.Times.{noDelay}
 use Rattle.leaf_calls.specs.DelayCall.{delayCounts, delayLengths, delaysDoor, told, knownOf, delayAnswer, marginOutcome, delayAtOutcome}
 use Rattle.delay_rows.specs.Door.{delayNumbers, delayRanges, delayOrder}
@@ -21,12 +21,12 @@ use Rattle.delay_lookup.specs.Sane.{Delays}
 use Rattle.delay_lookup.proofs.Door.{delays-yes}
 
 -- question 2: the counts handed in are those of the tables
-pub delay-count : (n m : ℕ) (rows stops : List ℕ) → delayLengths n m rows stops ≡ true → delayCount rows ≡ n
+pub delay-count : (n m : ℕ) (rows stops : List ℕ) → delayLengths n m rows stops ≡ true → delayRowCount rows ≡ n
 delay-count n m rows stops h =
     let e : length rows ≡ 2 * n = eqb-true (length rows) (2 * n) (and-left (eqb (length rows) (2 * n)) (eqb (length stops) (5 * m)) h) in
     omega arith
 
-pub stop-count : (n m : ℕ) (rows stops : List ℕ) → delayLengths n m rows stops ≡ true → stopCount stops ≡ m
+pub stop-count : (n m : ℕ) (rows stops : List ℕ) → delayLengths n m rows stops ≡ true → stopRowCount stops ≡ m
 stop-count n m rows stops h =
     let e : length stops ≡ 5 * m = eqb-true (length stops) (5 * m) (and-right (eqb (length rows) (2 * n)) (eqb (length stops) (5 * m)) h) in
     omega arith

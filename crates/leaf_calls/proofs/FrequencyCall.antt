@@ -9,8 +9,8 @@ use borrow.Author.Tests.{eq-eqb, le-leb, leb-true}
 use Rattle.loops.proofs.Iter.{and-left, and-right, everyIn-at}
 use Rattle.frequency.specs.declared.FreqBoard.{FreqBoard}
 use Rattle.leaf_calls.specs.declared.FreqAnswer.{FreqAnswer}
-use Rattle.frequency.specs.Gtfs.{windowCount, windowAt, earliestFreqBoard, Nominal}
-use Rattle.leaf_calls.specs.FrequencyCall.{isTime, areTimes, windowInRange, windowsInRange, freqInRange, freqCode, boardAnswer, answerOf, freqOutcome}
+use Rattle.frequency.specs.Gtfs.{windowCount, windowIn, earliestFreqBoard, Nominal}
+use Rattle.leaf_calls.specs.FrequencyCall.{isTime, areTimes, windowInRange, windowsInRange, freqInRange, freqCode, boardAnswer, freqAnswer, freqOutcome}
 
 -- what a yes says of three times
 record Three (a b c : ℕ) : Type 0 where
@@ -28,11 +28,11 @@ are-times a b c e =
     }
 
 -- the times of window i
-window-times : (ws : List ℕ) → windowsInRange ws ≡ true → (i : ℕ) → i < windowCount ws → Three (windowAt ws i .start) (windowAt ws i .end) (windowAt ws i .headway)
-window-times ws e i u = are-times _ _ _ (everyIn-at (λ j. windowInRange (windowAt ws j)) (windowCount ws) i e u)
+window-times : (ws : List ℕ) → windowsInRange ws ≡ true → (i : ℕ) → i < windowCount ws → Three (windowIn ws i .start) (windowIn ws i .end) (windowIn ws i .headway)
+window-times ws e i u = are-times _ _ _ (everyIn-at (λ j. windowInRange (windowIn ws j)) (windowCount ws) i e u)
 
 pub nominal : (count : ℕ) (ws : List ℕ) (base dep after : ℕ) → freqInRange ws base dep after ≡ true → length ws ≡ 3 * count → count ≤ 65536
-    → Nominal (windowCount ws) (windowAt ws) base dep after
+    → Nominal (windowCount ws) (windowIn ws) base dep after
 nominal count ws base dep after e n c =
     let t = are-times base dep after (and-left (areTimes base dep after) (windowsInRange ws) e) in
     let w = window-times ws (and-right (areTimes base dep after) (windowsInRange ws) e) in
@@ -51,8 +51,8 @@ pub counted : (count : ℕ) (ws : List ℕ) → length ws ≡ 3 * count → wind
 counted count ws n = omega arith
 
 -- all questions are answered yes
-pub answered : (count : ℕ) (ws : List ℕ) (base dep after : ℕ) (b : FreqBoard) {r : FreqAnswer} → r ≡ boardAnswer b → b ≡ earliestFreqBoard (windowCount ws) (windowAt ws) base dep after → freqInRange ws base dep after ≡ true → length ws ≡ 3 * count → count ≤ 65536 → r ≡ freqOutcome count ws base dep after
-answered count ws base dep after b e f i n c = e ∙ ap₂ answerOf (sym yes5) f
+pub answered : (count : ℕ) (ws : List ℕ) (base dep after : ℕ) (b : FreqBoard) {r : FreqAnswer} → r ≡ boardAnswer b → b ≡ earliestFreqBoard (windowCount ws) (windowIn ws) base dep after → freqInRange ws base dep after ≡ true → length ws ≡ 3 * count → count ≤ 65536 → r ≡ freqOutcome count ws base dep after
+answered count ws base dep after b e f i n c = e ∙ ap₂ freqAnswer (sym yes5) f
   where
     yes5 : freqCode count ws base dep after ≡ 0
     yes5 = simp (le-leb count 65536 c, eq-eqb (length ws) (3 * count) n, i)

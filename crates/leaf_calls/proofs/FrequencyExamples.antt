@@ -8,7 +8,7 @@ use Rattle.loops.specs.Iter.{iter, every, first}
 use Rattle.leaf_calls.specs.declared.FreqAnswer.{FreqAnswer}
 use Rattle.frequency.specs.declared.FreqBoard.{FreqBoard}
 use Rattle.frequency.specs.declared.FreqBoard.the-variants.{Nothing, Board}
-use Rattle.frequency.specs.Gtfs.{windowCount, windowAt, firstRun, earliestFreqBoard}
+use Rattle.frequency.specs.Gtfs.{windowCount, windowIn, firstRun, earliestFreqBoard}
 use Rattle.leaf_calls.specs.FrequencyCall.{freqOutcome}
 
 -- what is asked
@@ -39,7 +39,7 @@ pub right : Asked × Told → Bool
 right c =
     let q = c .0 in
     sameAnswer (freqOutcome (q .count) (q .windows) (q .base) (q .dep) (q .after)) (c .1)
-    && sameRun (earliestFreqBoard (windowCount (q .windows)) (windowAt (q .windows)) (q .base) (q .dep) (q .after)) (c .1 .window) (c .1 .run)
+    && sameRun (earliestFreqBoard (windowCount (q .windows)) (windowIn (q .windows)) (q .base) (q .dep) (q .after)) (c .1 .window) (c .1 .run)
 
 pub all : List (Asked × Told) → Bool
 all [] = true

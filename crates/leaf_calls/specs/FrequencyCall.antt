@@ -10,7 +10,7 @@ use Rattle.door.specs.Door.{ask, timeLimit}
 use Rattle.frequency.specs.declared.FreqBoard.{FreqBoard}
 use Rattle.frequency.specs.declared.FreqBoard.the-variants.{Nothing, Board}
 use Rattle.leaf_calls.specs.declared.FreqAnswer.{FreqAnswer}
-use Rattle.frequency.specs.Gtfs.{Window, windowCount, windowAt, earliestFreqBoard}
+use Rattle.frequency.specs.Gtfs.{Window, windowCount, windowIn, earliestFreqBoard}
 
 -- a time, a duration or a headway in its range
 abbrev pub isTime : ℕ → Bool
@@ -25,7 +25,7 @@ abbrev pub windowInRange : Window → Bool
 windowInRange w = areTimes (w .start) (w .end) (w .headway)
 
 abbrev pub windowsInRange : List ℕ → Bool
-windowsInRange ws = everyIn (λ i. windowInRange (windowAt ws i)) 0 (windowCount ws)
+windowsInRange ws = everyIn (λ i. windowInRange (windowIn ws i)) 0 (windowCount ws)
 
 -- question 5: is every time in its range?
 abbrev pub freqInRange : List ℕ → ℕ → ℕ → ℕ → Bool
@@ -50,9 +50,9 @@ boardAnswer Nothing = noBoard 0
 boardAnswer (Board b) = record { code = 0; found = 1; departure = b .departure; «time_shift_s» = b .«time_shift_s» }
 
 -- what the entry answers whose questions gave this number, and whose boarding is b where all are yes
-abbrev pub answerOf : ℕ → FreqBoard → FreqAnswer
-answerOf zero b = boardAnswer b
-answerOf (suc n) b = noBoard (suc n)
+abbrev pub freqAnswer : ℕ → FreqBoard → FreqAnswer
+freqAnswer zero b = boardAnswer b
+freqAnswer (suc n) b = noBoard (suc n)
 
 abbrev pub freqOutcome : ℕ → List ℕ → ℕ → ℕ → ℕ → FreqAnswer
-freqOutcome count ws base dep after = answerOf (freqCode count ws base dep after) (earliestFreqBoard (windowCount ws) (windowAt ws) base dep after)
+freqOutcome count ws base dep after = freqAnswer (freqCode count ws base dep after) (earliestFreqBoard (windowCount ws) (windowIn ws) base dep after)

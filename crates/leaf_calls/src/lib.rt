@@ -13,7 +13,7 @@ ghost use Rattle.leaf_calls.specs.ClockCall.{clockInRange, reading, serv
 ghost use Rattle.leaf_calls.specs.DelayCall.{delayCounts, delayLengths, delaysDoor, marginOutcome, told, delayAtOutcome};
 ghost use Prim.Native.Nat.{_<_};
 ghost use Rattle.delay_rows.specs.Delays.{margin};
-ghost use Rattle.frequency.specs.Gtfs.{windowCount, windowAt};
+ghost use Rattle.frequency.specs.Gtfs.{windowCount, windowIn};
 ghost use Rattle.leaf_calls.specs.FrequencyCall.{areTimes, windowInRange, windowsInRange, freqInRange, freqOutcome, noBoard};
 ghost use Rattle.leaf_calls.specs.StopDelayCall.{timeInRange, departureOutcome, arrivalOutcome, skippedOutcome};
 ghost use Rattle.leaf_calls.specs.WalkCall.{walkInRange, walkDuration};
@@ -60,14 +60,14 @@ pub fn resize(set: CellBitSet, num_cells: u32) -> CellSetAnswer
 }
 
 // Is this a clock reading?
-pub fn clock_in_range(hour: u32, minute: u32, second: u32) -> bool
+fn clock_in_range(hour: u32, minute: u32, second: u32) -> bool
     ensures { λ r. ⌜ r ≡ clockInRange hour minute second ⌝ }
 {
     door::both(door::both(hour <= 47, minute <= 59), second <= 59)
 }
 
 // The seconds of a clock reading.
-pub fn reading(hour: u32, minute: u32, second: u32) -> u32
+fn reading(hour: u32, minute: u32, second: u32) -> u32
     requires { ⌜ clockInRange hour minute second ≡ true ⌝ }
     ensures { λ r. ⌜ r ≡ reading hour minute second ⌝ }
 {
@@ -96,7 +96,7 @@ pub struct DelayAt {
 }
 
 // Question 1.
-pub fn delay_counts(trips: u32, delay_rows: u32, stop_row_count: u32) -> bool
+fn delay_counts(trips: u32, delay_rows: u32, stop_row_count: u32) -> bool
     ensures { λ r. ⌜ r ≡ delayCounts trips «delay_rows» «stop_row_count» ⌝ }
 {
     let rows = door::both(delay_rows <= 4096, stop_row_count <= 4096);
@@ -104,7 +104,7 @@ pub fn delay_counts(trips: u32, delay_rows: u32, stop_row_count: u32) -> bool
 }
 
 // Question 2.
-pub fn delay_lengths(delay_rows: u32, stop_row_count: u32, rows: &[u32], stop_rows: &[u32]) -> bool
+fn delay_lengths(delay_rows: u32, stop_row_count: u32, rows: &[u32], stop_rows: &[u32]) -> bool
     ensures { λ r. ⌜ r ≡ delayLengths «delay_rows» «stop_row_count» (now (rows .entry)) (now («stop_rows» .entry)) ⌝ }
 {
     let delays = rows.len() == 2 * (delay_rows as usize);
@@ -114,7 +114,7 @@ pub fn delay_lengths(delay_rows: u32, stop_row_count: u32, rows: &[u32], stop_ro
 
 // The door of the delay tables: the number of the first no, or 0. `numbered` and `ranged` are the caller's own part of
 // questions 4 and 5.
-pub fn delays_door(
+fn delays_door(
     trips: u32,
     delay_rows: u32,
     stop_row_count: u32,
@@ -144,7 +144,7 @@ pub fn delays_door(
 }
 
 // Questions 1, 2, 4, 5 (with the cap) and 6, then the margin.
-pub fn margin(
+fn margin(
     trips: u32,
     delay_rows: u32,
     stop_row_count: u32,
@@ -244,7 +244,7 @@ pub fn capped_margin(
 }
 
 // The most windows.
-pub const WINDOW_LIMIT: u32 = 65536;
+const WINDOW_LIMIT: u32 = 65536;
 
 // What the entry answers: the code; then found 1 with the departure and the shift, or found 0 and zeros.
 #[repr(C)]
@@ -283,7 +283,7 @@ fn are_times(a: u32, b: u32, c: u32) -> bool
 // The start, the end and the headway of window i?
 fn window_in_range(windows: &[u32], i: usize) -> bool
     requires { ⌜ i < windowCount (now windows) ⌝ }
-    ensures { λ r. ⌜ r ≡ windowInRange (windowAt (now (windows .entry)) i) ⌝ }
+    ensures { λ r. ⌜ r ≡ windowInRange (windowIn (now (windows .entry)) i) ⌝ }
 {
     are_times(windows[3 * i], windows[3 * i + 1], windows[3 * i + 2])
 }

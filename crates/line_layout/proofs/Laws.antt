@@ -17,7 +17,7 @@ use Rattle.tables.specs.declared.Counts.{Counts}
 use Rattle.tables.specs.declared.StopTimeRow.{StopTimeRow}
 use Rattle.tables.specs.Timetable.{Timetable, timeAt}
 use Rattle.tables.proofs.Yes.{two}
-use Rattle.line_layout.specs.Layout.{LineTrips, inOrder, neighbours, fifoLine, lastPlace, positionIn, lineAt, fifoOf, positionsOf, fifosOf}
+use Rattle.line_layout.specs.Layout.{LineTrips, inOrder, neighbours, fifoLine, lastPlace, positionIn, lineTripsIn, fifoOf, positionsOf, fifosOf}
 use Rattle.line_layout.specs.Claims.{NotLater, Unlisted, ListedLast, Listed, ListedOnce}
 use Rattle.line_layout.proofs.Last.{last-is, last-none, last-found, last-missed}
 
@@ -209,15 +209,15 @@ module _ (trips lines : ℕ) (line : ℕ → LineTrips) (lineOf placeOf : ℕ �
       (subst (λ (k : ℕ). NotLater T (line (lineOf a) .trip (placeOf a)) k) z (fifo-line T (line (lineOf a)) f (placeOf a) (placeOf b) x y))
 
 -- what stands in the lists that the call writes
-pub position-at : (c : Counts) (lines : ℕ) (runs entries : List ℕ) (a : ℕ) → a < c .trips → getD (positionsOf c lines runs entries) a 0 ≡ positionIn (lineAt runs entries) lines a
-position-at c lines runs entries a u = getD-tab (positionIn (lineAt runs entries) lines) (c .trips) a 0 u
+pub position-at : (c : Counts) (lines : ℕ) (runs entries : List ℕ) (a : ℕ) → a < c .trips → getD (positionsOf c lines runs entries) a 0 ≡ positionIn (lineTripsIn runs entries) lines a
+position-at c lines runs entries a u = getD-tab (positionIn (lineTripsIn runs entries) lines) (c .trips) a 0 u
 
 pub flag-at : (T : Timetable) (lines : ℕ) (runs entries : List ℕ) (l : ℕ) → l < lines → getD (fifosOf T lines runs entries) l 0 ≡ fifoOf T runs entries l
 flag-at T lines runs entries l u = getD-tab (fifoOf T runs entries) lines l 0 u
 
 -- a flag of 1 says that the line is FIFO
-pub flag-says : (T : Timetable) (runs entries : List ℕ) (l : ℕ) → fifoOf T runs entries l ≡ 1 → fifoLine T (lineAt runs entries l) ≡ true
-flag-says T runs entries l h = go (fifoLine T (lineAt runs entries l)) h
+pub flag-says : (T : Timetable) (runs entries : List ℕ) (l : ℕ) → fifoOf T runs entries l ≡ 1 → fifoLine T (lineTripsIn runs entries l) ≡ true
+flag-says T runs entries l h = go (fifoLine T (lineTripsIn runs entries l)) h
   where
     go : (b : Bool) → one b ≡ 1 → b ≡ true
     go true h = refl

@@ -55,23 +55,23 @@ positionIn line (suc l) a = foundOr (lastPlace (line l) a) (positionIn line l a)
 abbrev pub run : ℕ → ℕ → LineRun
 run first count = record { first = first; count = count }
 
-abbrev pub runAt : List ℕ → ℕ → LineRun
-runAt runs l = run (getD runs (l * 2) 0) (getD runs (l * 2 + 1) 0)
+abbrev pub lineRunAt : List ℕ → ℕ → LineRun
+lineRunAt runs l = run (getD runs (l * 2) 0) (getD runs (l * 2 + 1) 0)
 
 -- the trips that stand in a run of the entries, and those of line l
 abbrev pub tripsIn : List ℕ → LineRun → LineTrips
 tripsIn entries r = record { count = r .count; trip = λ p. getD entries (r .first + p) 0 }
 
-abbrev pub lineAt : List ℕ → List ℕ → ℕ → LineTrips
-lineAt runs entries l = tripsIn entries (runAt runs l)
+abbrev pub lineTripsIn : List ℕ → List ℕ → ℕ → LineTrips
+lineTripsIn runs entries l = tripsIn entries (lineRunAt runs l)
 
 -- line l's FIFO flag: 1 or 0
 abbrev pub fifoOf : Timetable → List ℕ → List ℕ → ℕ → ℕ
-fifoOf T runs entries l = one (fifoLine T (lineAt runs entries l))
+fifoOf T runs entries l = one (fifoLine T (lineTripsIn runs entries l))
 
 -- the positions of all trips, and the flags of all lines
 abbrev pub positionsOf : Counts → ℕ → List ℕ → List ℕ → List ℕ
-positionsOf c lines runs entries = tab (positionIn (lineAt runs entries) lines) (c .trips)
+positionsOf c lines runs entries = tab (positionIn (lineTripsIn runs entries) lines) (c .trips)
 
 abbrev pub fifosOf : Timetable → ℕ → List ℕ → List ℕ → List ℕ
 fifosOf T lines runs entries = tab (fifoOf T runs entries) lines

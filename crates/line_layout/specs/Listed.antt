@@ -8,14 +8,14 @@ use lib.Dec.{ltb, leb}
 use Rattle.loops.specs.Iter.{everyIn}
 use Rattle.tables.specs.declared.Counts.{Counts}
 use Rattle.line_layout.specs.declared.LineRun.{LineRun}
-use Rattle.line_layout.specs.Layout.{runAt}
+use Rattle.line_layout.specs.Layout.{lineRunAt}
 
 -- 3: does a line's run lie in the n entries? A run without trips too.
-unfoldable pub runIn : ℕ → LineRun → Bool
-runIn n r = leb (r .first + r .count) n
+unfoldable pub lineRunIn : ℕ → LineRun → Bool
+lineRunIn n r = leb (r .first + r .count) n
 
 unfoldable pub lineRunsOk : List ℕ → ℕ → ℕ → Bool
-lineRunsOk runs lines n = everyIn (λ l. runIn n (runAt runs l)) 0 lines
+lineRunsOk runs lines n = everyIn (λ l. lineRunIn n (lineRunAt runs l)) 0 lines
 
 -- 4: is every entry's trip below the count?
 unfoldable pub entriesOk : Counts → List ℕ → ℕ → Bool
@@ -30,5 +30,5 @@ pub record EntriesListed (c : Counts) (entries : List ℕ) : Type 0 where
 pub record LinesListed (c : Counts) (lines : ℕ) (runs entries : List ℕ) : Type 0 where
   pub few : lines ≤ 4096
   pub size : length runs ≡ lines * 2
-  pub run : (l : ℕ) → l < lines → runAt runs l .first + runAt runs l .count ≤ length entries
+  pub run : (l : ℕ) → l < lines → lineRunAt runs l .first + lineRunAt runs l .count ≤ length entries
   pub known : EntriesListed c entries

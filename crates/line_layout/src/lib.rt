@@ -15,8 +15,8 @@ ghost use Rattle.loops.specs.Iter.{everyIn};
 ghost use Rattle.tables.specs.Tables.{windowsOf, stopTimeAt};
 ghost use Rattle.tables.specs.Timetable.{timetable};
 ghost use Rattle.tables.specs.Sane.{Sane};
-ghost use Rattle.line_layout.specs.Layout.{runAt, tripsIn, inOrder, neighbours, fifoLine, fifoOf, unlisted, placed, positionsOf, fifosOf};
-ghost use Rattle.line_layout.specs.Listed.{runIn, lineRunsOk, entriesOk, EntriesListed, LinesListed};
+ghost use Rattle.line_layout.specs.Layout.{lineRunAt, tripsIn, inOrder, neighbours, fifoLine, fifoOf, unlisted, placed, positionsOf, fifosOf};
+ghost use Rattle.line_layout.specs.Listed.{lineRunIn, lineRunsOk, entriesOk, EntriesListed, LinesListed};
 use tables::Counts;
 use tables::StopTimeRow;
 
@@ -27,20 +27,20 @@ pub struct LineRun {
 }
 
 // The run of line l.
-pub fn line_run(runs: &[u32], l: usize) -> LineRun
+fn line_run(runs: &[u32], l: usize) -> LineRun
     requires { ⌜ l * 2 + 1 < length (now runs) ⌝ }
-    ensures { λ r. ⌜ r ≡ runAt (now (runs .entry)) l ⌝ ∗ ⌜ (r .first < 4294967296) × (r .count < 4294967296) ⌝ }
+    ensures { λ r. ⌜ r ≡ lineRunAt (now (runs .entry)) l ⌝ ∗ ⌜ (r .first < 4294967296) × (r .count < 4294967296) ⌝ }
 {
     LineRun {
-        first: tables::field(runs, l * 2),
-        count: tables::field(runs, l * 2 + 1),
+        first: words::field(runs, l * 2),
+        count: words::field(runs, l * 2 + 1),
     }
 }
 
 // Question 3 of one line: does its run lie in the n entries?
 fn run_in(r: LineRun, n: usize) -> bool
     requires { ⌜ (r .first < 4294967296) × (r .count < 4294967296) ⌝ }
-    ensures { λ b. ⌜ b ≡ runIn n r ⌝ }
+    ensures { λ b. ⌜ b ≡ lineRunIn n r ⌝ }
 {
     r.first + r.count <= n
 }
@@ -68,7 +68,7 @@ pub fn entries_ok(c: Counts, entries: &[u32], n: usize) -> bool
     let trips = c.trips;
     let mut p: usize = 0;
     while p < n {
-        if trips <= tables::field(entries, p) {
+        if trips <= words::field(entries, p) {
             return false;
         }
         p += 1;
@@ -92,7 +92,7 @@ fn place_at(entries: &[u32], first: usize, positions: &mut [u32], p: usize)
     requires { ⌜ first + p < length (now entries) ⌝ ∗ ⌜ getD (now entries) (first + p) 0 < length (now positions) ⌝ ∗ ⌜ p ≤ 4096 ⌝ }
     ensures { λ _. ⌜ now (positions .exit) ≡ set (now (positions .entry)) (getD (now (entries .entry)) (first + p) 0) p ⌝ }
 {
-    let trip = tables::field(entries, first + p);
+    let trip = words::field(entries, first + p);
     positions[trip] = p as u32;
 }
 
@@ -189,8 +189,8 @@ fn run_in_order(t: &[u32], c: Counts, entries: &[u32], first: usize, n: usize) -
 {
     let mut p: usize = 1;
     while p < n {
-        let a = tables::field(entries, first + (p - 1));
-        let b = tables::field(entries, first + p);
+        let a = words::field(entries, first + (p - 1));
+        let b = words::field(entries, first + p);
         if !neighbours_ok(t, c, a, b) {
             return false;
         }
@@ -210,7 +210,7 @@ fn run_fifo(t: &[u32], c: Counts, entries: &[u32], r: LineRun) -> bool
         return true;
     }
     if n == 1 {
-        return no_windows(t, c, tables::field(entries, first));
+        return no_windows(t, c, words::field(entries, first));
     }
     run_in_order(t, c, entries, first, n)
 }

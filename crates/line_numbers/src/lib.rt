@@ -92,7 +92,7 @@ fn find_line(
     let mut l = link(work, b);
     while l != 0 {
         let k = l - 1;
-        if same_stops(t, c, tables::field(leads, k), i) {
+        if same_stops(t, c, words::field(leads, k), i) {
             return k;
         }
         l = link(other, k);
@@ -139,7 +139,7 @@ pub fn number_lines(
     requires { ⌜ Sane (now t) c ⌝ ∗ ⌜ length (now lines) ≡ c .trips ⌝ ∗ ⌜ length (now leads) ≡ c .trips ⌝ ∗ ⌜ length (now work) ≡ c .trips ⌝ ∗ ⌜ length (now other) ≡ c .trips ⌝ }
     ensures { λ r. ⌜ now (lines .exit) ≡ tab (lineOf (timetable (now (t .entry)) c)) (c .trips) ⌝ ∗ ⌜ r ≡ linesOf (timetable (now (t .entry)) c) ⌝ }
 {
-    sorts::clear(work);
+    words::clear_keys(work);
     let trips = c.trips;
     let mut n: usize = 0;
     let mut i: usize = 0;

@@ -12,7 +12,7 @@ use Rattle.tables.specs.declared.Counts.{Counts}
 use Rattle.tables.specs.Tables.{timeOf, tripOf, windowOf, edgeOf}
 use Rattle.tables.specs.Door.{countsOk, slicesOk, tripRuns, stopTimeNumbers, edgeNumbers, stopTimeRanges, tripRanges, windowRanges, edgeRanges, edgeRises, runsOk, numbersOk, rangesOk, orderOk}
 use Rattle.line_numbers.specs.Lines.{same, leadOf, isLead, lineOf, lineTrips, entriesOf, lineCount, lineFirst, runsOf}
-use Rattle.lines_call.specs.Call.{Areas, areas, sizesOk, verdict, made, outcome}
+use Rattle.lines_call.specs.Call.{LineAreas, lineAreas, lineSizesOk, linesVerdict, linesMade, linesOutcome}
 use Rattle.lines_call.specs.declared.Grouped.{Grouped}
 use Rattle.lines_call.specs.declared.Grouped.the-variants.{Lines, Refused}
 
@@ -61,18 +61,18 @@ none = record { stops = 0; trips = 0; times = 0; windows = 0; edges = 0 }
 nines : List ℕ
 nines = 9 ∷ 9 ∷ 9 ∷ []
 
-lent : List ℕ → Areas
-lent runs = areas nines runs nines nines nines
+lent : List ℕ → LineAreas
+lent runs = lineAreas nines runs nines nines nines
 
-left : List ℕ → List ℕ → List ℕ → Areas
-left lines runs entries = areas lines runs entries (0 ∷ 0 ∷ 0 ∷ []) (0 ∷ 0 ∷ 0 ∷ [])
+left : List ℕ → List ℕ → List ℕ → LineAreas
+left lines runs entries = lineAreas lines runs entries (0 ∷ 0 ∷ 0 ∷ []) (0 ∷ 0 ∷ 0 ∷ [])
 
 pub record Case : Type 0 where
   pub table : List ℕ
   pub counts : Counts
-  pub lent : Areas
+  pub lent : LineAreas
   pub answer : Grouped
-  pub left : Areas
+  pub left : LineAreas
 
 sameList : List ℕ → List ℕ → Bool
 sameList [] [] = true
@@ -86,20 +86,20 @@ sameAnswer (Refused m) (Lines n) = false
 sameAnswer (Lines m) (Refused n) = false
 sameAnswer (Lines m) (Lines n) = eqb m n
 
-sameAreas : Areas → Areas → Bool
+sameAreas : LineAreas → LineAreas → Bool
 sameAreas a b =
     sameList (a .lines) (b .lines) && sameList (a .runs) (b .runs) && sameList (a .entries) (b .entries) && sameList (a .work) (b .work) && sameList (a .other) (b .other)
 
 right : Case → Bool
 right k =
-    let o = outcome (k .table) (k .counts) (k .lent) in
+    let o = linesOutcome (k .table) (k .counts) (k .lent) in
     sameAnswer (o .answer) (k .answer) && sameAreas (o .areas) (k .left)
 
 pub all : List Case → Bool
 all [] = true
 all (k ∷ ks) = right k && all ks
 
-given : List ℕ → Counts → Grouped → Areas → Case
+given : List ℕ → Counts → Grouped → LineAreas → Case
 given t c g s = record { table = t; counts = c; lent = lent (nines ++ nines); answer = g; left = s }
 
 refusal : List ℕ → Counts → List ℕ → ℕ → Case
@@ -118,7 +118,7 @@ cases =
     -- T2 first: its line is 0
     ∷ given turned (counts 3) (Lines 2) (left (0 ∷ 1 ∷ 1 ∷ []) (0 ∷ 1 ∷ 1 ∷ 2 ∷ 9 ∷ 9 ∷ []) (0 ∷ 1 ∷ 2 ∷ []))
     -- nothing at all
-    ∷ record { table = []; counts = none; lent = areas [] [] [] [] []; answer = Lines 0; left = areas [] [] [] [] [] }
+    ∷ record { table = []; counts = none; lent = lineAreas [] [] [] [] []; answer = Lines 0; left = lineAreas [] [] [] [] [] }
     -- refused: too many trips; a table or the runs of a wrong length; a trip without stop times; a stop past the stops; a code; a time;
     -- walk edges out of order
     ∷ refusal (table 160 2 2 0) (counts 4097) (nines ++ nines) 1
@@ -133,5 +133,5 @@ cases =
 
 -- every case is right
 pub worked : all cases ≡ true
-unfolding all right cases given refusal two left lent nines none counts turned walked walkedCounts table t0 t1 t2 trip stopTime sameList sameAnswer sameAreas every first count tabFrom insertBy sortBy keep flatMap timeOf tripOf windowOf edgeOf countsOk slicesOk tripRuns stopTimeNumbers edgeNumbers stopTimeRanges tripRanges windowRanges edgeRanges edgeRises runsOk numbersOk rangesOk orderOk same leadOf isLead lineOf lineTrips entriesOf lineCount lineFirst runsOf sizesOk verdict made
+unfolding all right cases given refusal two left lent nines none counts turned walked walkedCounts table t0 t1 t2 trip stopTime sameList sameAnswer sameAreas every first count tabFrom insertBy sortBy keep flatMap timeOf tripOf windowOf edgeOf countsOk slicesOk tripRuns stopTimeNumbers edgeNumbers stopTimeRanges tripRanges windowRanges edgeRanges edgeRises runsOk numbersOk rangesOk orderOk same leadOf isLead lineOf lineTrips entriesOf lineCount lineFirst runsOf lineSizesOk linesVerdict linesMade
 worked = refl

@@ -12,7 +12,7 @@ use Rattle.loops.proofs.Search.{split}
 use Rattle.walk_time.proofs.Laws.{rounds-most}
 use Rattle.label.specs.declared.Label.the-variants.{Empty}
 use Rattle.model.specs.Tables.{Tables, Query, roundsOf, never, stops}
-use Rattle.model.specs.Search.{Arrivals, at, reachedBy, useArcFlags, flagsInUse, bestTarget, candidatesFrom, final, answer, runTbr, query}
+use Rattle.model.specs.Search.{Arrivals, at, reachedBy, useArcFlags, flagsInUse, bestTarget, candidatesFrom, final, searchAnswer, runTbr, query}
 use Rattle.model.specs.Door.{Door}
 use Rattle.model.specs.Lawful.{latestTotal, Candidate, Last, Sinks, none, Lawful}
 use Rattle.model.proofs.Labels.{labelAt}
@@ -84,8 +84,8 @@ module _ (T : Tables) (Q : Query) where
     unfolding best
     early n = sum-early (best-of T Q end n)
 
-    pub answer-lawful : Lawful T Q (answer T Q flagged)
-    unfolding answer best chosen
+    pub answer-lawful : Lawful T Q (searchAnswer T Q flagged)
+    unfolding searchAnswer best chosen
     answer-lawful =
         record {
           long = rows .long .labels;

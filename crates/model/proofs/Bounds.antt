@@ -13,7 +13,7 @@ use borrow.Author.Tests.{eqb-true}
 use Rattle.door.specs.Door.{timeLimit}
 use Rattle.loops.proofs.Iter.{and-left}
 use Rattle.walk_time.proofs.Laws.{rounds-most}
-use Rattle.frequency.specs.declared.Boarding.{Boarding}
+use Rattle.frequency.specs.declared.BoardedRun.{BoardedRun}
 use Rattle.stop_delay.specs.Times.{sizeOf}
 use Rattle.label.specs.declared.Label.{Label}
 use Rattle.model.specs.Tables.{Tables, Query, roundsOf, isEgress, egressWalk, never, stops, trips, stopCount, permitted}
@@ -186,7 +186,7 @@ module _ (T : Tables) (Q : Query) (D : Door T Q) where
       (λ k. S q x p k)
       (List·Memᴰ·cases-cons m)
 
-  boards-on : {b : Boardings} (r stamp t o : ℕ) (y : Boarding) → permitted T Q t ≡ true → Boarded T Q t o y → BoardingsFit T Q (suc r) b
+  boards-on : {b : Boardings} (r stamp t o : ℕ) (y : BoardedRun) → permitted T Q t ≡ true → Boarded T Q t o y → BoardingsFit T Q (suc r) b
       → BoardingsFit T Q (suc r) (board T Q r stamp (delayOf Q t) t o (y .departure) b)
   unfolding board
   boards-on {b} r stamp t o y w B F =

@@ -10,7 +10,7 @@ use Rattle.line_numbers.specs.Lines.{lineOf}
 use Rattle.line_numbers.proofs.Laws.{line-counts, line-stops}
 use Rattle.line_layout.specs.Layout.{fifoLine, positionIn}
 use Rattle.line_layout.specs.Claims.{NotLater}
-use Rattle.built.proofs.Laws.{built-fifo}
+use Rattle.built_lines.proofs.Laws.{built-fifo}
 use Rattle.model.specs.Tables.{Tables, Query, trips, stopCount, stopAt, arrival, noDropOff, position, fifo}
 use Rattle.model.specs.Promise.{CalmDay}
 use Rattle.model.proofs.Base.{split, and-true}

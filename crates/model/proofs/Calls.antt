@@ -16,12 +16,12 @@ use Rattle.label.specs.declared.Label.the-variants.{Empty}
 use Rattle.departures.specs.declared.DepartureRow.{DepartureRow}
 use Rattle.model.specs.Tables.{never, Tables, Origin, Query, roundsOf, changeBefore, stops, usable, permitted}
 use Rattle.model.specs.Door.{Door}
-use Rattle.model.specs.Search.{Segment, Arrivals, State, Answer, at, departuresAt, markAt, notBefore, marginOf, roundStart, targetsFrom, targetCells, holdsTarget, useArcFlags, skipsEdge, skipsTransfer, flagsInUse, boardAt, bestAfter, improve, relax, resolveIn, lineTripsAt, resolve, enqueue, takeTransfers, alightings, transferring, scanTripForward, rideSegments, dominated, pruned, passedOver, boarding, board, scanDepartures, scanStops, walkFrom, walkAll, ridePhase, stamped, walkPhase, idle, rounds, setOut, access, newArrivals, begin, bestTarget, rowTarget, candidatesFrom, final, answer, putOff, runTbr, query}
+use Rattle.model.specs.Search.{Segment, Arrivals, State, SearchAnswer, at, departuresAt, markAt, notBefore, marginOf, roundStart, targetsFrom, targetCells, holdsTarget, useArcFlags, skipsEdge, skipsTransfer, flagsInUse, boardAt, bestAfter, improve, relax, resolveIn, lineTripsAt, resolve, enqueue, takeTransfers, alightings, transferring, scanTripForward, rideSegments, dominated, pruned, passedOver, boarding, board, scanDepartures, scanStops, walkFrom, walkAll, ridePhase, stamped, walkPhase, idle, rounds, setOut, access, newArrivals, begin, bestTarget, rowTarget, candidatesFrom, final, searchAnswer, putOff, runTbr, query}
 use Rattle.model.specs.Queue.{roundOf}
 use Rattle.model.proofs.Moves.{taken, left-out, Goes, any-fits, moves-none, ridePhase-goes, walkAll-moves, access-queue, walksFrom, walksTo, rounds-keep}
 
 -- the answer that a state holds
-abbrev answerOf : Tables → Query → State → Answer
+abbrev answerOf : Tables → Query → State → SearchAnswer
 answerOf T Q s =
     let b = bestTarget T Q (s .arrivals) (Q .egress) (never, never) in
     record {
@@ -122,8 +122,8 @@ module _ (T : Tables) (Q : Query) where
   same-out s = refl
 
   -- THE SWITCH is read where the mode is chosen and nowhere else
-  pub same-answer : (flagged : Bool) → answer T (putOff Q) flagged ≡ answer T Q flagged
-  unfolding answer final
+  pub same-answer : (flagged : Bool) → searchAnswer T (putOff Q) flagged ≡ searchAnswer T Q flagged
+  unfolding searchAnswer final
   same-answer flagged =
       same-out (rounds T (putOff Q) flagged (roundsOf Q) 0 (begin T (putOff Q)))
       ∙ ap (answerOf T Q) (same-rounds flagged (roundsOf Q) 0 (begin T (putOff Q)) ∙ ap (rounds T Q flagged (roundsOf Q) 0) same-begin)
@@ -132,16 +132,16 @@ module _ (T : Tables) (Q : Query) where
   pub query-is-rust : (useArcFlags T Q ≡ false) ⊎ (flagsInUse T Q ≡ true) → query T Q ≡ runTbr T Q
   unfolding query runTbr flagsInUse
   query-is-rust h =
-      ap (answer T Q)
+      ap (searchAnswer T Q)
       (⊎-elim (λ e. ap (λ (b : Bool). b && skips) e ∙ sym e) (λ e. e ∙ sym (and-left (useArcFlags T Q) skips e)) h)
     where
       skips : Bool
       skips = skipsEdge T Q || skipsTransfer T Q
 
   -- `run_tbr` with the switch put off is the search without flags
-  pub put-off : runTbr T (putOff Q) ≡ answer T Q false
+  pub put-off : runTbr T (putOff Q) ≡ searchAnswer T Q false
   unfolding runTbr useArcFlags
-  put-off = ap (answer T (putOff Q)) (off (not (holdsNone (targetCells T (putOff Q))) && not (eqb (T .patterns) 0))) ∙ same-answer false
+  put-off = ap (searchAnswer T (putOff Q)) (off (not (holdsNone (targetCells T (putOff Q))) && not (eqb (T .patterns) 0))) ∙ same-answer false
     where
       off : (b : Bool) → b && false ≡ false
       off true = refl
@@ -150,7 +150,7 @@ module _ (T : Tables) (Q : Query) where
   -- where the flags are not in use, the query is `run_tbr` of the same query with the switch put off
   pub query-put-off : flagsInUse T Q ≡ false → query T Q ≡ runTbr T (putOff Q)
   unfolding query
-  query-put-off h = ap (answer T Q) h ∙ sym put-off
+  query-put-off h = ap (searchAnswer T Q) h ∙ sym put-off
 
 module _ (T : Tables) (Q : Query) where
   -- the best target is as before, or earlier
@@ -173,8 +173,8 @@ module _ (T : Tables) (Q : Query) where
           (λ (q : bestTarget T Q a es (at a (e .0) + e .1, e .0) .0 < at a (e .0) + e .1). omega arith) (r (at a (e .0) + e .1, e .0)))
 
   -- "NO WAY", in either mode: with the total the stop is `never` too, and there is no candidate
-  pub no-way : (flagged : Bool) → answer T Q flagged .total ≡ never → (answer T Q flagged .stop ≡ never) × (answer T Q flagged .candidates ≡ [])
-  unfolding answer
+  pub no-way : (flagged : Bool) → searchAnswer T Q flagged .total ≡ never → (searchAnswer T Q flagged .stop ≡ never) × (searchAnswer T Q flagged .candidates ≡ [])
+  unfolding searchAnswer
   no-way flagged e = (
     ⊎-elim (λ q. ap (λ (c : ℕ × ℕ). c .1) q) (λ (q : b .0 < never). absurd (omega arith)) (target-falls a (Q .egress) (never, never)),
     go (eqb (b .0) never) (eq-eqb (b .0) never e),
@@ -192,7 +192,7 @@ module _ (T : Tables) (Q : Query) where
       go false h = absurd (let z : _≡_ {A = ℕ} 0 1 = cc in omega arith)
 
 -- the answer "no way" on labels that no phase wrote
-abbrev pub nowhere : Tables → Answer
+abbrev pub nowhere : Tables → SearchAnswer
 nowhere T = record { total = never; stop = never; candidates = []; labels = replicate (stops T * 13) Empty; scans = []; queued = [] }
 
 module _ (T : Tables) (Q : Query) where
@@ -258,15 +258,15 @@ module _ (T : Tables) (Q : Query) where
       go false f r = absurd (let z : _≡_ {A = ℕ} 0 1 = cc in omega arith)
 
   -- WHERE NO ORIGIN IS REACHED the answer is "no way", nothing is scanned and nothing queued: what the Rust answers at once
-  pub no-origin : Door T Q → (flagged : Bool) → begin T Q .arrivals .reached ≡ [] → answer T Q flagged ≡ nowhere T
-  unfolding answer final idle
+  pub no-origin : Door T Q → (flagged : Bool) → begin T Q .arrivals .reached ≡ [] → searchAnswer T Q flagged ≡ nowhere T
+  unfolding searchAnswer final idle
   no-origin D flagged e =
       ap (answerOf T Q)
       (idle-rounds flagged (roundsOf Q) 0 (begin T Q) (idle-empty flagged (begin T Q .arrivals) e (access-queue T Q (Q .origins) (newArrivals T Q))))
       ∙ ap (λ (b : ℕ × ℕ). out b (begin T Q .arrivals .labels)) (target-none (begin T Q .arrivals) (Q .egress) (never, never) unreached)
       ∙ ap (out (never, never)) (access-none (Q .origins) (newArrivals T Q) e .0)
     where
-      out : ℕ × ℕ → List Label → Answer
+      out : ℕ × ℕ → List Label → SearchAnswer
       out b l =
           record {
             total = b .0;
@@ -310,8 +310,8 @@ module _ (T : Tables) (Q : Query) where
   unflagged-final = unqueued (roundsOf Q)
 
   -- and in the answer
-  pub unflagged-zeros : All (λ n. n ≡ 0) (answer T Q false .queued)
-  unfolding answer
+  pub unflagged-zeros : All (λ n. n ≡ 0) (searchAnswer T Q false .queued)
+  unfolding searchAnswer
   unflagged-zeros = unflagged-final .zeros
 
   -- and the segment phase, left out there, would change nothing at the start of any round

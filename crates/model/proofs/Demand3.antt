@@ -12,7 +12,7 @@ use Rattle.loops.specs.Iter.{Hit, miss}
 use Rattle.loops.proofs.Search.{first-isnt}
 use Rattle.walk_time.specs.Walk.{effectiveDuration, stairsOrEscalator, roundCount}
 use Rattle.model.specs.Tables.{never, Tables, Query, roundsOf, changeBefore, egressWalk, stops, trips, stopAt, arrival, departure, edgeTo, walkTime}
-use Rattle.model.specs.Search.{Answer, delayOf, undelayed, departureNow, bestTarget, final, answer, useArcFlags, runTbr, query}
+use Rattle.model.specs.Search.{SearchAnswer, delayOf, undelayed, departureNow, bestTarget, final, searchAnswer, useArcFlags, runTbr, query}
 use Rattle.model.specs.Door.{Door}
 use Rattle.model.specs.Promise.{TripTimes, scheduled, effective, PlainDay, SteadyDay, TripDelays, Journey, Way, Arrives, Demand3, Pareto}
 use Rattle.model.proofs.Base.{no-both}
@@ -88,12 +88,12 @@ module _ (T : Tables) (Q : Query) where
       let e = edge-of T Q y y′ d m in
       subst (λ (z : ℕ). Way T Q (effective T Q) L z (w + d) q′) (e .to) (subst (λ (z : ℕ). Way T Q (effective T Q) L (edgeTo T (e .edge)) (w + z) q′) (e .walk) (Way.foot (e .edge) (way-of y w q′ j) (e .member)))
 
-  arrives-of : {n total stop : ℕ} → PlainTotals.Arrives (net T Q) (answer T Q false .scans) n total stop → Arrives T Q (effective T Q) total stop
+  arrives-of : {n total stop : ℕ} → PlainTotals.Arrives (net T Q) (searchAnswer T Q false .scans) n total stop → Arrives T Q (effective T Q) total stop
   arrives-of {stop = stop} a =
       record {
         reached = a .reached;
         lastRound = a .good .last;
-        way = subst (λ (A : Answer). Way T Q (effective T Q) (A .scans) stop (a .reached) (a .good .last)) (sym (put-off T Q)) (way-of stop (a .reached) (a .good .last) (a .good .way));
+        way = subst (λ (A : SearchAnswer). Way T Q (effective T Q) (A .scans) stop (a .reached) (a .good .last)) (sym (put-off T Q)) (way-of stop (a .reached) (a .good .last) (a .good .way));
         walk = a .walk;
         egress = a .egress;
         sum = a .sum;
@@ -115,8 +115,8 @@ calm T Q D S =
           };
     }
 
-unflagged : (T : Tables) (Q : Query) → Door T Q → SteadyDay T Q → Demand3 T Q (effective T Q) (answer T Q false)
-unfolding answer
+unflagged : (T : Tables) (Q : Query) → Door T Q → SteadyDay T Q → Demand3 T Q (effective T Q) (searchAnswer T Q false)
+unfolding searchAnswer
 unflagged T Q D S =
     record {
       lowest = λ v j. let e = egress-is (Q .egress) (D .egress-rising) (j .stop) (j .walk) (j .egress) in
@@ -139,15 +139,15 @@ unflagged T Q D S =
     N-plain : Plain (net T Q)
     N-plain = plain T Q D S
 
-    d : PlainTotals.Demand3 (net T Q) (answer T Q false .scans) (roundsOf Q) (small T Q (final T Q false))
+    d : PlainTotals.Demand3 (net T Q) (searchAnswer T Q false .scans) (roundsOf Q) (small T Q (final T Q false))
     d =
         subst (λ (L : List (ℕ × ℕ × ℕ)). PlainTotals.Demand3 (net T Q) L (roundsOf Q) (small T Q (final T Q false))) (sym (sim-scans T Q N-plain C))
         (subst (λ (z : PlainSearch.Answer (net T Q)). PlainTotals.Demand3 (net T Q) (PlainSearch.run (net T Q) (trips T) (roundsOf Q) .k .log) (roundsOf Q) z) (sym (sim-answer T Q N-plain C))
         (PlainTotals.demand3 (net T Q) N-plain (trips T) (roundsOf Q) (rounds-few Q)))
 
 -- the candidates are Pareto-complete
-unflagged-pareto : (T : Tables) (Q : Query) → Door T Q → SteadyDay T Q → Pareto T Q (effective T Q) (answer T Q false)
-unfolding answer
+unflagged-pareto : (T : Tables) (Q : Query) → Door T Q → SteadyDay T Q → Pareto T Q (effective T Q) (searchAnswer T Q false)
+unfolding searchAnswer
 unflagged-pareto T Q D S =
     record {
       covers = λ k v b j s.
@@ -159,7 +159,7 @@ unflagged-pareto T Q D S =
           subst (λ (z : PlainSearch.Answer (net T Q)). j .reached + egressWalk (Q .egress) (j .stop) ≤ z .total + Q .settings .candidateSlack → Pareto.Covers (net T Q) (z .cand) k (j .reached + egressWalk (Q .egress) (j .stop))) (sym (sim-answer T Q N-plain C))
           (Pareto.pareto (net T Q) N-plain (trips T) (roundsOf Q) k (rounds-few Q) b (j .justRode) (j .rideCount) (j .stop) (j .reached) (omega (arith, j .fits)) (reach-of T Q D (j .justRode) (j .rideCount) (j .stop) (j .reached) (j .journey)) (e .0) (omega (arith, h, g, e .1)))
           (omega (arith, s, j .sum, e .1)) in
-          (c .candidate, subst (λ (z : Bool). List·Memᴰ (c .candidate) (elim z [ true ↦ [] | false ↦ small T Q (final T Q false) .cand ])) (sym (ne-eqb (answer T Q false .total) never (λ z. omega (arith, z, low, j .sum, h, g)))) (c .listed), omega (arith, c .early, j .sum, e .1), c .row);
+          (c .candidate, subst (λ (z : Bool). List·Memᴰ (c .candidate) (elim z [ true ↦ [] | false ↦ small T Q (final T Q false) .cand ])) (sym (ne-eqb (searchAnswer T Q false .total) never (λ z. omega (arith, z, low, j .sum, h, g)))) (c .listed), omega (arith, c .early, j .sum, e .1), c .row);
     }
   where
     C : Calm T Q
@@ -171,21 +171,21 @@ unflagged-pareto T Q D S =
 -- STEADY DAYS: demand 3, of the query's answer
 pub steady : (T : Tables) (Q : Query) → Door T Q → SteadyDay T Q → Demand3 T Q (effective T Q) (query T Q)
 unfolding query
-steady T Q D S = subst (λ (b : Bool). Demand3 T Q (effective T Q) (answer T Q b)) (sym (S .calm .conditions .no-flags)) (unflagged T Q D S)
+steady T Q D S = subst (λ (b : Bool). Demand3 T Q (effective T Q) (searchAnswer T Q b)) (sym (S .calm .conditions .no-flags)) (unflagged T Q D S)
 
 -- and of `run_tbr`'s, wherever the Rust's `use_arc_flags` is false
 pub steady-rust : (T : Tables) (Q : Query) → Door T Q → SteadyDay T Q → useArcFlags T Q ≡ false → Demand3 T Q (effective T Q) (runTbr T Q)
 unfolding runTbr
-steady-rust T Q D S e = subst (λ (b : Bool). Demand3 T Q (effective T Q) (answer T Q b)) (sym e) (unflagged T Q D S)
+steady-rust T Q D S e = subst (λ (b : Bool). Demand3 T Q (effective T Q) (searchAnswer T Q b)) (sym e) (unflagged T Q D S)
 
 -- beyond the request: the candidates are Pareto-complete
 pub steady-pareto : (T : Tables) (Q : Query) → Door T Q → SteadyDay T Q → Pareto T Q (effective T Q) (query T Q)
 unfolding query
-steady-pareto T Q D S = subst (λ (b : Bool). Pareto T Q (effective T Q) (answer T Q b)) (sym (S .calm .conditions .no-flags)) (unflagged-pareto T Q D S)
+steady-pareto T Q D S = subst (λ (b : Bool). Pareto T Q (effective T Q) (searchAnswer T Q b)) (sym (S .calm .conditions .no-flags)) (unflagged-pareto T Q D S)
 
 pub steady-pareto-rust : (T : Tables) (Q : Query) → Door T Q → SteadyDay T Q → useArcFlags T Q ≡ false → Pareto T Q (effective T Q) (runTbr T Q)
 unfolding runTbr
-steady-pareto-rust T Q D S e = subst (λ (b : Bool). Pareto T Q (effective T Q) (answer T Q b)) (sym e) (unflagged-pareto T Q D S)
+steady-pareto-rust T Q D S e = subst (λ (b : Bool). Pareto T Q (effective T Q) (searchAnswer T Q b)) (sym e) (unflagged-pareto T Q D S)
 
 -- PLAIN DAYS. Without delay rows there are no stop rows, and every trip is without a delay row
 pub no-row : (T : Tables) (Q : Query) → PlainDay T Q → (t : ℕ) → delayOf Q t ≡ miss

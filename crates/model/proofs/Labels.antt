@@ -12,7 +12,7 @@ use Rattle.walk_time.proofs.Laws.{duration-most}
 use Rattle.stop_delay.specs.Times.{sizeOf}
 use Rattle.label.specs.declared.Label.{Label}
 use Rattle.label.specs.declared.Label.the-variants.{Empty, Access, Transit, Walk}
-use Rattle.label_table.specs.Table.{recordOf}
+use Rattle.label.specs.Table.{recordOf}
 use Rattle.model.specs.Tables.{Tables, Query, never, stops, trips, edgesFrom, walkTime}
 use Rattle.model.specs.Search.{Segment, Arrivals}
 use Rattle.model.specs.Door.{Door}

@@ -13,16 +13,16 @@ use Rattle.loops.specs.Iter.{Hit}
 use Rattle.loops.specs.Count.{tabFrom, upto}
 use Rattle.loops.proofs.Iter.{and-left, and-right}
 use Rattle.sorts.specs.Orders.{keep}
-use Rattle.frequency.specs.declared.Boarding.{Boarding}
+use Rattle.frequency.specs.declared.BoardedRun.{BoardedRun}
 use Rattle.frequency.specs.declared.FreqBoard.{FreqBoard}
 use Rattle.frequency.specs.declared.FreqBoard.the-variants.{Nothing, Board}
 use Rattle.label.specs.declared.Label.{Label}
 use Rattle.label.specs.declared.Label.the-variants.{Access, Transit, Walk}
-use Rattle.label_table.specs.Table.{recordOf}
+use Rattle.label.specs.Table.{recordOf}
 use Rattle.label.specs.Label.{noDistance}
 use Rattle.departures.specs.declared.DepartureRow.{DepartureRow}
 use Rattle.line_layout.specs.Layout.{LineTrips}
-use Rattle.line_transfers.specs.Transfers.{Transfer}
+use Rattle.event_transfers.specs.Transfers.{Transfer}
 use Rattle.model.specs.Tables.{never, Tables, Origin, Query, changeBefore, stops, trips, stopCount, stopAt, departure, noPickup, noDropOff, noWindows, edgesFrom, edgeTo, walkTime, position, fifo, usable, permitted}
 use Rattle.model.specs.Door.{Door}
 use Rattle.model.specs.Search.{Segment, Arrivals, bestAfter, setOut, access, State, at, holdsTarget, departuresAt, markAt, lineAt, notBefore, delayOf, skipped, arrivalNow, marginOf, boardAt, improve, relax, resolveIn, lineTripsAt, resolve, enqueue, takeTransfers, alightings, transferring, scanTripForward, logged, rideSegments, boarding, board, scanDepartures, scanStops, walkFrom, walkAll, emptied, roundStart, ridePhase, walkPhase, idle, rounds, newArrivals, begin}
@@ -115,9 +115,9 @@ module _ (T : Tables) (Q : Query) where
     pub queued : s' .boardings .queued ≡ s .boardings .queued
 
   -- a resolved target is a trip of the table, boarded at an offset of its
-  pub data Found (o : ℕ) : Option (ℕ × Boarding) → Type 0 where
+  pub data Found (o : ℕ) : Option (ℕ × BoardedRun) → Type 0 where
     nowhere : Found o none
-    there : {b : ℕ × Boarding} → b .0 < trips T → o < stopCount T (b .0) → Found o (some b)
+    there : {b : ℕ × BoardedRun} → b .0 < trips T → o < stopCount T (b .0) → Found o (some b)
 
   resolveIn-found : (isFifo : Bool) (o after best : ℕ) (trip : ℕ → ℕ) (k p : ℕ) → Found o (resolveIn T Q isFifo o after best trip k p)
   unfolding resolveIn
@@ -243,13 +243,13 @@ module _ (T : Tables) (Q : Query) {R J : ℕ → Type 0} where
         go (holdsTarget T Q (e .pattern)) (resolve T Q e (v + e .time) (a .best)) (resolve-found T Q e (v + e .time) (a .best))
         (λ c. takeTransfers-moves stamp v x es c)
       where
-        after : ℕ × Boarding → Arrivals
+        after : ℕ × BoardedRun → Arrivals
         after b =
             let s : ℕ = stopAt T (b .0) (e .offset) in
             let d : ℕ = b .1 .departure in
             enqueue T Q (b .0) (e .offset) s (b .1 .«time_shift_s») (relax T Q stamp s d (Walk d x s (e .time) noDistance (stamp - 1)) a)
 
-        go : (b : Bool) (o : Option (ℕ × Boarding)) → Found T Q (e .offset) o
+        go : (b : Bool) (o : Option (ℕ × BoardedRun)) → Found T Q (e .offset) o
             → ((c : Arrivals) → Moves T Q R J true stamp c (takeTransfers T Q stamp v x es c))
             → Moves T Q R J true stamp a (elim b [
               | false ↦ takeTransfers T Q stamp v x es a
@@ -370,7 +370,7 @@ module _ (T : Tables) (Q : Query) {R J : ℕ → Type 0} where
         (boarding T Q stamp after (delayOf Q (d .trip)) (d .trip) (d .offset) s)
         (λ u. scanDepartures-goes flagged hasFreq round stamp x after ds u (λ h m. I h (List·Memᴰ·tail m)))
       where
-        n : Boarding → State
+        n : BoardedRun → State
         n b =
             record {
               arrivals = scanTripForward T Q flagged stamp (delayOf Q (d .trip)) (b .«time_shift_s») (d .trip) x (d .offset) (s .arrivals);

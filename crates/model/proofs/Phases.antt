@@ -12,15 +12,15 @@ use borrow.Author.Tests.{ltb-true, eqb-true, eqb-false}
 use Rattle.door.specs.Door.{timeLimit}
 use Rattle.loops.specs.Iter.{Hit}
 use Rattle.loops.proofs.Iter.{and-left, and-right}
-use Rattle.frequency.specs.declared.Boarding.{Boarding}
+use Rattle.frequency.specs.declared.BoardedRun.{BoardedRun}
 use Rattle.frequency.specs.declared.FreqBoard.{FreqBoard}
 use Rattle.frequency.specs.declared.FreqBoard.the-variants.{Nothing, Board}
 use Rattle.label.specs.declared.Label.{Label}
 use Rattle.label.specs.declared.Label.the-variants.{Transit, Walk}
 use Rattle.label.specs.Label.{noDistance}
-use Rattle.label_table.specs.Table.{recordOf}
+use Rattle.label.specs.Table.{recordOf}
 use Rattle.line_layout.specs.Layout.{LineTrips}
-use Rattle.line_transfers.specs.Transfers.{Transfer}
+use Rattle.event_transfers.specs.Transfers.{Transfer}
 use Rattle.model.specs.Tables.{Tables, Query, trips, stopCount, stopAt, departure, noPickup, noDropOff, noWindows, position, fifo, usable, permitted}
 use Rattle.model.specs.Search.{Segment, Arrivals, at, reachedBy, delayOf, skipped, boardAt, arrivalNow, bestAfter, marginOf, holdsTarget, lineAt, improve, relax, resolveIn, lineTripsAt, resolve, enqueue, takeTransfers, alightings, transferring, scanTripForward}
 use Rattle.model.specs.Door.{Door}
@@ -88,9 +88,9 @@ module _ (T : Tables) (Q : Query) where
             (record { same = record { labels = refl; earliest = refl; best = refl; stamps = refl; reaches = refl }; reached = refl; queue = refl })
 
   -- what resolving finds is a boarding from that second on
-  pub data Found (o after : ℕ) : Option (ℕ × Boarding) → Type 0 where
+  pub data Found (o after : ℕ) : Option (ℕ × BoardedRun) → Type 0 where
     nowhere : Found o after none
-    found : {t : ℕ} {b : Boarding} (B : Boarded T Q t o b) → B .after ≡ after → Found o after (some (t, b))
+    found : {t : ℕ} {b : BoardedRun} (B : Boarded T Q t o b) → B .after ≡ after → Found o after (some (t, b))
 
   pub resolve-in : (isFifo : Bool) (o after best : ℕ) (trip : ℕ → ℕ) (k p : ℕ) → Found o after (resolveIn T Q isFifo o after best trip k p)
   unfolding resolveIn
@@ -106,7 +106,7 @@ module _ (T : Tables) (Q : Query) where
       Rest : Type 0
       Rest = (f : Bool) → Found o after (resolveIn T Q f o after best trip k (suc p))
 
-      go₃ : Rest → (x f : Bool) (b : Boarding) (B : Boarded T Q t o b) → B .after ≡ after
+      go₃ : Rest → (x f : Bool) (b : BoardedRun) (B : Boarded T Q t o b) → B .after ≡ after
           → Found o after (elim x [ true ↦ some (t, b) | false ↦ elim f [ true ↦ none | false ↦ resolveIn T Q false o after best trip k (suc p) ] ])
       go₃ rest true f b B z = found B z
       go₃ rest false true b B z = nowhere
@@ -200,13 +200,13 @@ module _ (T : Tables) (Q : Query) where
         x : ℕ
         x = stopAt T (g .trip) p
 
-        taken : (t : ℕ) → Boarding → Arrivals
+        taken : (t : ℕ) → BoardedRun → Arrivals
         taken t y =
             enqueue T Q t (e .offset) (stopAt T t (e .offset)) (y .«time_shift_s»)
             (relax T Q stamp (stopAt T t (e .offset)) (y .departure)
             (Walk (y .departure) x (stopAt T t (e .offset)) (e .time) noDistance (stamp - 1)) b)
 
-        go : ((c : Arrivals) → On c → On (takeTransfers T Q stamp v x es c)) → (h : Bool) (z : Option (ℕ × Boarding)) → Found (e .offset) (v + e .time) z
+        go : ((c : Arrivals) → On c → On (takeTransfers T Q stamp v x es c)) → (h : Bool) (z : Option (ℕ × BoardedRun)) → Found (e .offset) (v + e .time) z
             → On (elim h [
               | false ↦ takeTransfers T Q stamp v x es b
               | true ↦ elim z [ none ↦ takeTransfers T Q stamp v x es b | some y ↦ takeTransfers T Q stamp v x es (taken (y .0) (y .1)) ]

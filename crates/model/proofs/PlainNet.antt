@@ -10,7 +10,7 @@ use native.Mathlib.Nat.{eq-or-lt-of-le}
 use borrow.Author.Tests.{ltb-true, eqb-true, eqb-false, lt-ltb, le-ltb, not-true}
 use Rattle.loops.specs.Count.{one}
 use Rattle.departures.specs.declared.DepartureRow.{DepartureRow}
-use Rattle.departures.specs.Departures.{sorted, frequencyListed, rowDeparture}
+use Rattle.departures.specs.Departures.{frequencyListed, rowDeparture}
 use Rattle.model.specs.Tables.{never, Tables, Origin, Query, isEgress, egressWalk, stops, trips, stopCount, departure, noPickup, noDropOff, noWindows, edgesFrom, edgeTo, walkTime, fifo, permitted}
 use Rattle.model.specs.Search.{departuresAt, markAt, lineAt, delayOf, undelayed, skipped, prunable}
 use Rattle.model.specs.Door.{Door, InOrder, EgressRising}

@@ -14,7 +14,7 @@ use borrow.Author.Tests.{ltb-true, eqb-true, eqb-false, ne-eqb}
 use Rattle.loops.specs.Count.{one, tab, tabFrom}
 use Rattle.model.specs.Tables.{Tables, Query, roundsOf, trips, stopCount, noWindows}
 use Rattle.model.specs.Door.{Door}
-use Rattle.model.specs.Search.{Segment, Arrivals, State, improve, enqueue, emptied, ridePhase, walkPhase, idle, rounds, begin, final, answer}
+use Rattle.model.specs.Search.{Segment, Arrivals, State, improve, enqueue, emptied, ridePhase, walkPhase, idle, rounds, begin, final, searchAnswer}
 use Rattle.model.specs.Queue.{added, ofTrip, allStopTimes, NoFrequency, roundOf, timesQueued}
 use Rattle.model.proofs.Moves.{Moves, stay, arrive, queue, pushed, moves-trips, Queues, rides, walks, round-queues, begin-queues}
 
@@ -152,8 +152,8 @@ module _ (T : Tables) (Q : Query) (D : Door T Q) (flagged : Bool) where
           )
 
   -- what an answer says was queued is what its trips were, all together
-  pub queued-adds : added (answer T Q flagged .queued) ≡ added (tab (λ t. timesQueued T Q flagged t (roundsOf Q) 0 (begin T Q)) (trips T))
-  unfolding answer final sum
+  pub queued-adds : added (searchAnswer T Q flagged .queued) ≡ added (tab (λ t. timesQueued T Q flagged t (roundsOf Q) 0 (begin T Q)) (trips T))
+  unfolding searchAnswer final sum
   queued-adds = omega (arith, run-adds (roundsOf Q) 0 (begin T Q) (begin-queues T Q))
 
 module _ (T : Tables) (Q : Query) (none : NoFrequency T) where
@@ -205,7 +205,7 @@ module _ (T : Tables) (Q : Query) (none : NoFrequency T) where
     trip-queued t = omega (arith, run-room t (roundsOf Q) 0 (begin T Q) (begin-queues T Q))
 
     -- over a whole query no more segments are queued than all stop counts together
-    pub queue-total : added (answer T Q flagged .queued) ≤ allStopTimes T
+    pub queue-total : added (searchAnswer T Q flagged .queued) ≤ allStopTimes T
     queue-total =
         omega (
           arith,
@@ -215,5 +215,5 @@ module _ (T : Tables) (Q : Query) (none : NoFrequency T) where
         )
 
     -- T-13: at no round's end is the queue longer than that
-    pub queue-never-fills : (n : ℕ) → List·Memᴰ n (answer T Q flagged .queued) → n ≤ allStopTimes T
-    queue-never-fills n m = omega (arith, queue-total, added-member (answer T Q flagged .queued) n m)
+    pub queue-never-fills : (n : ℕ) → List·Memᴰ n (searchAnswer T Q flagged .queued) → n ≤ allStopTimes T
+    queue-never-fills n m = omega (arith, queue-total, added-member (searchAnswer T Q flagged .queued) n m)

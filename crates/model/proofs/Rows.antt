@@ -11,7 +11,7 @@ use lib.Dec.{eqb}
 use borrow.Author.Tests.{eqb-true, eqb-false}
 use Rattle.label.specs.declared.Label.{Label}
 use Rattle.label.specs.declared.Label.the-variants.{Empty}
-use Rattle.label_table.specs.Table.{recordOf}
+use Rattle.label.specs.Table.{recordOf}
 use Rattle.model.specs.Tables.{Tables, Query, never, stops}
 use Rattle.model.specs.Search.{Arrivals, at, reachedBy, newArrivals}
 use Rattle.model.specs.Door.{Door}

@@ -9,12 +9,12 @@ use native.Mathlib.Omega.{arith}
 use lib.ListN.{length, getD, set, length-append}
 use lib.Dec.{ltb, leb, eqb}
 use borrow.Author.Tests.{ltb-true, ltb-false}
-use Rattle.frequency.specs.declared.Boarding.{Boarding}
+use Rattle.frequency.specs.declared.BoardedRun.{BoardedRun}
 use Rattle.frequency.specs.declared.FreqBoard.{FreqBoard}
 use Rattle.frequency.specs.declared.FreqBoard.the-variants.{Nothing, Board}
 use Rattle.label.specs.declared.Label.{Label}
 use Rattle.label.specs.declared.Label.the-variants.{Access, Walk}
-use Rattle.label_table.specs.Table.{recordOf}
+use Rattle.label.specs.Table.{recordOf}
 use Rattle.departures.specs.declared.DepartureRow.{DepartureRow}
 use Rattle.model.specs.Tables.{Tables, Origin, Query, roundsOf, changeBefore, never, stops, trips, stopCount, stopAt, departure, noPickup, edgesFrom, edgeTo, walkTime, permitted}
 use Rattle.model.specs.Search.{Segment, Arrivals, State, at, delayOf, skipped, boardAt, marginOf, holdsTarget, departuresAt, markAt, notBefore, relax, bestAfter, scanTripForward, logged, rideSegments, pruned, passedOver, boarding, board, scanDepartures, scanStops, walkFrom, walkAll, emptied, roundStart, ridePhase, stamped, walkPhase, idle, rounds, setOut, access, newArrivals, begin, final}
@@ -34,7 +34,7 @@ module _ (T : Tables) (Q : Query) where
   -- how a listed departure is boarded, if it is
   pub data Taken (t o : ℕ) : FreqBoard → Type 0 where
     passed : Taken t o Nothing
-    taken : {y : Boarding} → permitted T Q t ≡ true → Boarded T Q t o y → Taken t o (Board y)
+    taken : {y : BoardedRun} → permitted T Q t ≡ true → Boarded T Q t o y → Taken t o (Board y)
 
   -- THE RUN, after r rounds
   pub record Ran (r : ℕ) (s : State) : Type 0 where
@@ -75,7 +75,7 @@ module _ (T : Tables) (Q : Query) (D : Door T Q) where
       go (((not (permitted T Q t) || pruned T Q (delayOf Q t) t o (s .boardings)) || noPickup T t o) || skipped T Q (delayOf Q t) t o) refl
       (boardAt T Q (delayOf Q t) t o after) refl
     where
-      last : (x : Bool) (y : Boarding) → Taken T Q t o (Board y) → Taken T Q t o (elim x [ true ↦ Nothing | false ↦ Board y ])
+      last : (x : Bool) (y : BoardedRun) → Taken T Q t o (Board y) → Taken T Q t o (elim x [ true ↦ Nothing | false ↦ Board y ])
       last true y k = passed
       last false y k = k
 
@@ -139,7 +139,7 @@ module _ (T : Tables) (Q : Query) (D : Door T Q) where
         L : Listed T Q x d
         L = I d (List·Memᴰ·head refl)
 
-        next : Boarding → State
+        next : BoardedRun → State
         next b =
             record {
               arrivals = scanTripForward T Q flagged stamp (delayOf Q (d .trip)) (b .«time_shift_s») (d .trip) x (d .offset) (s .arrivals);

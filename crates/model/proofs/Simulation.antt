@@ -8,16 +8,16 @@ use native.Mathlib.Omega.{arith}
 use lib.ListN.{length, getD, set, replicate, length-set, length-replicate, List·getD-map}
 use lib.Dec.{ltb, leb, eqb}
 use borrow.Author.Tests.{ltb-true, leb-false, lt-ltb, eqb-true, eq-eqb, ne-eqb}
-use Rattle.frequency.specs.declared.Boarding.{Boarding}
+use Rattle.frequency.specs.declared.BoardedRun.{BoardedRun}
 use Rattle.frequency.specs.declared.FreqBoard.{FreqBoard}
 use Rattle.frequency.specs.declared.FreqBoard.the-variants.{Nothing, Board}
 use Rattle.label.specs.declared.Label.{Label}
 use Rattle.label.specs.declared.Label.the-variants.{Empty, Access, Transit, Walk}
-use Rattle.label_table.specs.Table.{recordOf}
+use Rattle.label.specs.Table.{recordOf}
 use Rattle.departures.specs.declared.DepartureRow.{DepartureRow}
 use Rattle.frequency.specs.Gtfs.{earliestFreqBoard}
 use Rattle.model.specs.Tables.{never, Tables, Origin, Query, roundsOf, changeBefore, isEgress, egressWalk, stops, trips, stopCount, stopAt, departure, noPickup, noDropOff, noWindows, edgesFrom, edgeTo, walkTime, position, permitted}
-use Rattle.model.specs.Search.{reachedBy, Arrivals, Boardings, State, Answer, tripWindow, delayOf, skipped, arrivalNow, marginOf, prunable, boardAt, notBefore, departuresAt, markAt, lineAt, bestAfter, improve, relax, alightings, scanTripForward, dominated, pruned, passedOver, boarding, board, scanDepartures, scanStops, walkFrom, walkAll, stamped, emptied, roundStart, ridePhase, walkPhase, idle, rounds, setOut, access, newArrivals, begin, bestTarget, rowTarget, candidatesFrom, final, answer}
+use Rattle.model.specs.Search.{reachedBy, Arrivals, Boardings, State, tripWindow, delayOf, skipped, arrivalNow, marginOf, prunable, boardAt, notBefore, departuresAt, markAt, lineAt, bestAfter, improve, relax, alightings, scanTripForward, dominated, pruned, passedOver, boarding, board, scanDepartures, scanStops, walkFrom, walkAll, stamped, emptied, roundStart, ridePhase, walkPhase, idle, rounds, setOut, access, newArrivals, begin, bestTarget, rowTarget, candidatesFrom, final, searchAnswer}
 use Rattle.model.specs.Promise.{effective}
 use Rattle.model.proofs.Base.{no-both}
 use Rattle.model.proofs.Net.{Net, Plain}
@@ -105,7 +105,7 @@ module _ (T : Tables) (Q : Query) where
   sim-blocked t o (b ∷ bs) = ap (λ (z : Bool). ((eqb (lineAt T (b .0)) (lineAt T t) && ltb (position T (b .0)) (position T t)) && leb (b .1) o) || z) (sim-blocked t o bs)
 
   -- a boarding
-  abbrev boardedAt : ℕ → ℕ → Boarding
+  abbrev boardedAt : ℕ → ℕ → BoardedRun
   boardedAt t o = record { departure = effective T Q .departs t o; «time_shift_s» = shiftAt T Q t o; window = 0; run = 0 }
 
   calm-board : (t o after : ℕ) → noWindows T t ≡ true → boardAt T Q (delayOf Q t) t o after ≡ elim (ltb (effective T Q .departs t o) after) [ true ↦ Nothing | false ↦ Board (boardedAt t o) ]
@@ -473,6 +473,6 @@ module _ (T : Tables) (Q : Query) where
       t : ℕ × ℕ
       t = PlainSearch.target N (coreOf c) (Q .egress) (never, never)
 
-  pub sim-scans : Plain N → Calm → answer T Q false .scans ≡ PlainSearch.run N (trips T) (roundsOf Q) .k .log
-  unfolding answer
+  pub sim-scans : Plain N → Calm → searchAnswer T Q false .scans ≡ PlainSearch.run N (trips T) (roundsOf Q) .k .log
+  unfolding searchAnswer
   sim-scans P C = sim-final P C .scans

@@ -13,7 +13,7 @@ use Rattle.loops.proofs.Iter.{first-bound, iter-keeps}
 use Rattle.loops.proofs.Search.{split}
 use Rattle.signed.specs.Signed.{bitsOf}
 use Rattle.signed.proofs.Laws.{of-sub, moved-low, moved-high, size-high}
-use Rattle.frequency.specs.declared.Boarding.{Boarding}
+use Rattle.frequency.specs.declared.BoardedRun.{BoardedRun}
 use Rattle.frequency.specs.declared.FreqBoard.{FreqBoard}
 use Rattle.frequency.specs.declared.FreqBoard.the-variants.{Nothing, Board}
 use Rattle.frequency.specs.Gtfs.{Window, runStart, firstRun, boardHit, windowBoard, earlierOf, boardNext, earliestFreqBoard}
@@ -60,13 +60,13 @@ pub record Sized (d : StopDelay) : Type 0 where
   pub arrival : sizeOf (d .«arrival_delay») ≤ timeLimit
 
 -- a boarding is early and its shift small
-pub record Soon (b : Boarding) : Type 0 where
+pub record Soon (b : BoardedRun) : Type 0 where
   pub departs : b .departure ≤ latestBoarding
   pub shift : sizeOf (b .«time_shift_s») ≤ timeLimit
 
 data Soonest : FreqBoard → Type 0 where
   nothing : Soonest Nothing
-  soon : {b : Boarding} → Soon b → Soonest (Board b)
+  soon : {b : BoardedRun} → Soon b → Soonest (Board b)
 
 earlier-soon : (x y : FreqBoard) → Soonest x → Soonest y → Soonest (earlierOf x y)
 earlier-soon Nothing y p q = q
@@ -152,7 +152,7 @@ module _ (T : Tables) (Q : Query) (D : Door T Q) where
         (D .departure-small t 0 u (omega arith)) departure-early))
 
     -- HOW A TRIP IS BOARDED: early, and with a small shift
-    pub boards-soon : (after : ℕ) (b : Boarding) → boardAt T Q (delayOf Q t) t o after ≡ Board b → Soon b
+    pub boards-soon : (after : ℕ) (b : BoardedRun) → boardAt T Q (delayOf Q t) t o after ≡ Board b → Soon b
     unfolding boardAt
     boards-soon after b e =
         of (subst Soonest e (go (noWindows T t) (ltb (departureNow T Q (delayOf Q t) t o) after)))

@@ -9,11 +9,11 @@ use native.Mathlib.Nat.{le-refl, le-trans}
 use native.Mathlib.Omega.{arith}
 use lib.ListN.{length, getD, set, length-set}
 use Rattle.door.specs.Door.{timeLimit}
-use Rattle.frequency.specs.declared.Boarding.{Boarding}
+use Rattle.frequency.specs.declared.BoardedRun.{BoardedRun}
 use Rattle.label.specs.declared.Label.{Label}
 use Rattle.label.specs.declared.Label.the-variants.{Access, Transit, Walk}
 use Rattle.label.specs.Label.{noDistance}
-use Rattle.label_table.specs.Table.{recordOf}
+use Rattle.label.specs.Table.{recordOf}
 use Rattle.model.specs.Tables.{Tables, Origin, Query, stopAt, edgesFrom, edgeTo, walkTime, permitted}
 use Rattle.model.specs.Search.{Segment, Arrivals, Boardings, at, reachedBy, delayOf, skipped, bestAfter, emptied, newArrivals, newBoardings, logged, board}
 use Rattle.model.specs.Lawful.{Boarded, Begins, Leaves, leftAt}
@@ -25,7 +25,7 @@ module _ (T : Tables) (Q : Query) where
   pub data Rides (stamp : ℕ) : ℕ → ℕ → Label → Type 0 where
     alighted : (g : Segment) (p : ℕ) → Begins T Q g → Leaves T Q g p → skipped T Q (delayOf Q (g .trip)) (g .trip) p ≡ false
         → Rides stamp (stopAt T (g .trip) p) (leftAt T Q g p) (Transit (leftAt T Q g p) (g .trip) (g .stop) (g .offset) p (stamp - 2) (g .shift))
-    changed : (g : Segment) (p : ℕ) → Begins T Q g → Leaves T Q g p → (t o time : ℕ) (b : Boarding) (B : Boarded T Q t o b)
+    changed : (g : Segment) (p : ℕ) → Begins T Q g → Leaves T Q g p → (t o time : ℕ) (b : BoardedRun) (B : Boarded T Q t o b)
         → B .after ≡ leftAt T Q g p + time → time ≤ timeLimit
         → Rides stamp (stopAt T t o) (b .departure) (Walk (b .departure) (stopAt T (g .trip) p) (stopAt T t o) time noDistance (stamp - 1))
 
@@ -102,7 +102,7 @@ module _ (T : Tables) (Q : Query) where
   -- BOARDINGS from b on: each a scan of a permitted trip that is boarded so, from the departures or as a segment
   pub data Boards (round stamp : ℕ) (b : Boardings) : Boardings → Type 0 where
     none : Boards round stamp b b
-    listed : {c : Boardings} (t o : ℕ) (y : Boarding) → Boards round stamp b c → permitted T Q t ≡ true → Boarded T Q t o y
+    listed : {c : Boardings} (t o : ℕ) (y : BoardedRun) → Boards round stamp b c → permitted T Q t ≡ true → Boarded T Q t o y
         → Boards round stamp b (board T Q round stamp (delayOf Q t) t o (y .departure) c)
     segment : {c : Boardings} (g : Segment) → Boards round stamp b c → permitted T Q (g .trip) ≡ true → Begins T Q g
         → Boards round stamp b (logged T Q round (g .trip) (g .offset) c)
@@ -140,7 +140,7 @@ module _ (T : Tables) (Q : Query) where
   pub record Books-kept (P : ℕ → Boardings → Type 0) : Type 0 where
     pub new : P 0 (newBoardings T Q)
     pub clears : {b : Boardings} (r : ℕ) → P r b → P (suc r) (cleared b)
-    pub lists : {b : Boardings} (r stamp t o : ℕ) (y : Boarding) → permitted T Q t ≡ true → Boarded T Q t o y → P (suc r) b
+    pub lists : {b : Boardings} (r stamp t o : ℕ) (y : BoardedRun) → permitted T Q t ≡ true → Boarded T Q t o y → P (suc r) b
         → P (suc r) (board T Q r stamp (delayOf Q t) t o (y .departure) b)
     pub segments : {b : Boardings} (r : ℕ) (g : Segment) → permitted T Q (g .trip) ≡ true → Begins T Q g → P (suc r) b
         → P (suc r) (logged T Q r (g .trip) (g .offset) b)

@@ -10,7 +10,7 @@ use lib.ListN.{getD}
 use lib.Dec.{ltb, eqb}
 use borrow.Author.Tests.{ltb-true, ltb-false, eq-eqb, ne-eqb}
 use Rattle.model.specs.Tables.{Tables, Query, isEgress, egressWalk, never, stops}
-use Rattle.model.specs.Search.{Arrivals, at, bestAfter, bestTarget, final, answer}
+use Rattle.model.specs.Search.{Arrivals, at, bestAfter, bestTarget, final, searchAnswer}
 use Rattle.model.specs.Door.{Door, EgressRising, none, more}
 use Rattle.model.specs.Lawful.{latestTotal}
 use Rattle.model.proofs.Stores.{set-cases, set-there, lt-getD, getD-replicate-in, no-both}
@@ -135,8 +135,8 @@ module _ (T : Tables) (Q : Query) (D : Door T Q) where
   pub final-tight : (flagged : Bool) → Tight Q (final T Q flagged .arrivals)
   final-tight flagged = run-keeps T Q tight-kept (final-ran T Q D flagged .2 .arrivals)
 
-  pub best-is-total : (flagged : Bool) → final T Q flagged .arrivals .best ≡ answer T Q flagged .total
-  unfolding answer
+  pub best-is-total : (flagged : Bool) → final T Q flagged .arrivals .best ≡ searchAnswer T Q flagged .total
+  unfolding searchAnswer
   best-is-total flagged = go (answer-lawful T Q D flagged .total) (A .met) (final-best T Q D flagged)
     where
       a : Arrivals

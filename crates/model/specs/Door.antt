@@ -8,7 +8,7 @@ use mathlib.Core.List.{List, [], _∷_, List·Memᴰ}
 use Rattle.door.specs.Door.{timeLimit}
 use Rattle.stop_delay.specs.Times.{sizeOf}
 use Rattle.departures.specs.declared.DepartureRow.{DepartureRow}
-use Rattle.line_transfers.specs.Transfers.{Transfer}
+use Rattle.event_transfers.specs.Transfers.{Transfer}
 use Rattle.model.specs.Tables.{never, Tables, Origin, Query, stops, trips, stopCount, stopAt, arrival, departure}
 
 -- departures in order: none is earlier than one before it

@@ -9,15 +9,15 @@ use mathlib.Core.List.{List, [], _∷_, List·Memᴰ}
 use lib.ListN.{length, getD}
 use lib.Ieee.{Float}
 use Rattle.door.specs.Door.{timeLimit}
-use Rattle.frequency.specs.declared.Boarding.{Boarding}
+use Rattle.frequency.specs.declared.BoardedRun.{BoardedRun}
 use Rattle.frequency.specs.declared.FreqBoard.the-variants.{Board}
 use Rattle.stop_delay.specs.Times.{sizeOf}
 use Rattle.label.specs.declared.Label.{Label}
 use Rattle.label.specs.declared.Label.the-variants.{Empty, Access, Transit, Walk}
 use Rattle.label.specs.Label.{noDistance}
-use Rattle.label_table.specs.Table.{recordOf}
+use Rattle.label.specs.Table.{recordOf}
 use Rattle.model.specs.Tables.{Tables, Origin, Query, roundsOf, never, stops, trips, stopCount, stopAt, noPickup, noDropOff, edgesFrom, edgeTo, walkTime, permitted}
-use Rattle.model.specs.Search.{Segment, Answer, reachedBy, delayOf, skipped, boardAt, arrivalNow}
+use Rattle.model.specs.Search.{Segment, SearchAnswer, reachedBy, delayOf, skipped, boardAt, arrivalNow}
 
 -- the latest arrival at a stop: the latest boarding (a transfer's label), then the longest walk
 abbrev pub latest : ℕ
@@ -34,7 +34,7 @@ labelIn labels s row = getD labels (recordOf s row) Empty
 module _ (T : Tables) (Q : Query) where
   -- BOARDED: trip t at offset o, where pickup is not 1 and the stop is not skipped; b is the boarding that one who is there from second `after` on
   -- finds (a frequency trip's earliest run), if there is one
-  pub record Boarded (t o : ℕ) (b : Boarding) : Type 0 where
+  pub record Boarded (t o : ℕ) (b : BoardedRun) : Type 0 where
     pub trip : t < trips T
     pub inside : o < stopCount T t
     pub pickup : noPickup T t o ≡ false
@@ -44,7 +44,7 @@ module _ (T : Tables) (Q : Query) where
 
   -- A RIDE that begins: trip, offset, stop and time shift are those of a boarding
   pub record Begins (g : Segment) : Type 0 where
-    pub boarding : Boarding
+    pub boarding : BoardedRun
     pub boarded : Boarded (g .trip) (g .offset) boarding
     pub stop : g .stop ≡ stopAt T (g .trip) (g .offset)
     pub shift : g .shift ≡ boarding .«time_shift_s»
@@ -88,7 +88,7 @@ module _ (T : Tables) (Q : Query) where
     pub inside : p < stopCount T t
     pub round : row ≡ suc r
     pub after : ℕ
-    pub boarding : Boarding
+    pub boarding : BoardedRun
     pub leaves : boardAt T Q (delayOf Q t) t o after ≡ Board boarding
     pub shift-is : shift ≡ boarding .«time_shift_s»
     pub arrival : v ≡ arrivalNow T Q (delayOf Q t) shift t p
@@ -106,7 +106,7 @@ module _ (T : Tables) (Q : Query) where
     pub from : x ≡ stopAt T (ride .trip) left
     pub trip : ℕ
     pub offset : ℕ
-    pub boarding : Boarding
+    pub boarding : BoardedRun
     pub boarded : Boarded trip offset boarding
     pub in-time : boarded .after ≡ leftAt ride left + d
     pub to : s ≡ stopAt T trip offset
@@ -165,7 +165,7 @@ pub record Candidate (Q : Query) (labels : List Label) (top total stop row : ℕ
   pub near : total ≤ top + Q .settings .candidateSlack
 
 -- WHAT EVERY ADMITTED ANSWER KEEPS
-pub record Lawful (T : Tables) (Q : Query) (A : Answer) : Type 0 where
+pub record Lawful (T : Tables) (Q : Query) (A : SearchAnswer) : Type 0 where
   -- LABELS: 13 rows a stop; each says what it should; rows above the round count are empty; arrivals fall strictly with the row
   pub long : length (A .labels) ≡ stops T * 13
   pub fits : (s row : ℕ) → s < stops T → row < 13 → LabelFits T Q s row (labelIn (A .labels) s row)

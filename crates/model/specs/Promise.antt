@@ -12,15 +12,15 @@ use Rattle.signed.specs.Signed.{ofBits, bitsOf}
 use Rattle.stop_delay.specs.Times.{departureGiven, arrivalGiven, sizeOf, shifted, effectiveDeparture}
 use Rattle.departures.specs.declared.DepartureRow.{DepartureRow}
 use Rattle.line_numbers.specs.Lines.{lineOf, linesOf}
-use Rattle.built.specs.Built.{AsBuilt}
-use Rattle.departures.specs.Departures.{sorted, markOf}
-use Rattle.line_transfers.specs.Transfers.{Input, builtTransfers}
+use Rattle.built_lines.specs.Built.{AsBuilt}
+use Rattle.departures.specs.Departures.{byDeparture, markOf}
+use Rattle.event_transfers.specs.Transfers.{Input, builtTransfers}
 use Rattle.model.specs.Tables.{never, Tables, Origin, Query, roundsOf, changeBefore, stops, trips, stopCount, stopAt, arrival, departure, noPickup, noDropOff, noWindows, edgesFrom, edgeTo, walkTime, permitted}
-use Rattle.model.specs.Search.{Answer, flagsInUse, delayOf, delayAt, skipped, arrivalNow, putOff, runTbr}
+use Rattle.model.specs.Search.{SearchAnswer, flagsInUse, delayOf, delayAt, skipped, arrivalNow, putOff, runTbr}
 
 -- LINES AND DEPARTURES AS BUILT: what the lines call and the departure sorting call write, from a caller's list of departures for each stop
 pub record LinesBuilt (T : Tables) (listed : ℕ → List DepartureRow) : Type 0 where
-  pub departures-built : (s : ℕ) → s < stops T → T .departures s ≡ sorted (T .timetable) (listed s)
+  pub departures-built : (s : ℕ) → s < stops T → T .departures s ≡ byDeparture (T .timetable) (listed s)
   pub marks-built : (s : ℕ) → s < stops T → T .mark s ≡ markOf (T .timetable) (listed s)
   pub lines-built : T .lines ≡ linesOf (T .timetable)
   pub line-built : (t : ℕ) → t < trips T → T .lineOf t ≡ lineOf (T .timetable) t
@@ -147,7 +147,7 @@ module _ (T : Tables) (Q : Query) (W : TripTimes) where
     pub sum : total ≡ reached + walk
 
   -- DEMAND 3
-  pub record Demand3 (A : Answer) : Type 0 where
+  pub record Demand3 (A : SearchAnswer) : Type 0 where
     -- "every journey that tables and query permit arrives at the query's best total or later"
     pub lowest : (v : ℕ) → WholeJourney v → A .total ≤ v
     -- ""no way" is given only if no journey exists"
@@ -158,7 +158,7 @@ module _ (T : Tables) (Q : Query) (W : TripTimes) where
 
   -- beyond the request: for every journey of at most k rides that arrives within the slack of the best total, a candidate of row k or
   -- lower arrives no later
-  pub record Pareto (A : Answer) : Type 0 where
+  pub record Pareto (A : SearchAnswer) : Type 0 where
     pub covers : (k v : ℕ) → k ≤ roundsOf Q → JourneyOf k v → v ≤ A .total + Q .settings .candidateSlack
         → (c : ℕ × ℕ × ℕ) × (List·Memᴰ c (A .candidates)) × (c .0 ≤ v) × (c .2 ≤ k)
 

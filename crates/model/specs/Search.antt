@@ -12,19 +12,19 @@ use Rattle.loops.specs.Iter.{Hit, hit, miss, someIn}
 use Rattle.signed.specs.Signed.{bitsOf}
 use Rattle.cell_bitset.specs.declared.CellBitSet.{CellBitSet}
 use Rattle.cell_bitset.specs.CellSet.{emptySet, withCell, meets, holdsNone}
-use Rattle.frequency.specs.declared.Boarding.{Boarding}
+use Rattle.frequency.specs.declared.BoardedRun.{BoardedRun}
 use Rattle.frequency.specs.declared.FreqBoard.{FreqBoard}
 use Rattle.frequency.specs.declared.FreqBoard.the-variants.{Nothing, Board}
-use Rattle.frequency.specs.Gtfs.{Window, windowOf, earliestFreqBoard}
+use Rattle.frequency.specs.Gtfs.{Window, windowFrom, earliestFreqBoard}
 use Rattle.stop_delay.specs.declared.StopDelay.{StopDelay}
 use Rattle.stop_delay.specs.Times.{skippedAt, effectiveDeparture, effectiveArrival}
 use Rattle.label.specs.declared.Label.{Label}
 use Rattle.label.specs.declared.Label.the-variants.{Empty, Access, Transit, Walk}
 use Rattle.label.specs.Label.{noDistance}
-use Rattle.label_table.specs.Table.{recordOf}
+use Rattle.label.specs.Table.{recordOf}
 use Rattle.departures.specs.declared.DepartureRow.{DepartureRow}
 use Rattle.line_layout.specs.Layout.{LineTrips}
-use Rattle.line_transfers.specs.Transfers.{Transfer}
+use Rattle.event_transfers.specs.Transfers.{Transfer}
 use Rattle.delay_rows.specs.Delays.{delayRow, stopDelay, margin}
 use Rattle.model.specs.Tables.{never, Tables, Origin, Query, roundsOf, changeBefore, isEgress, egressWalk, stops, trips, stopCount, stopAt, arrival, departure, sequence, noPickup, noDropOff, noWindows, edgesFrom, edgeTo, walkTime, position, fifo, usable, permitted}
 
@@ -63,7 +63,7 @@ pub record State : Type 0 where
 
 -- an answer: total and stop (`never` both for "no way"), candidates (total, stop, row), labels; the scans; the segments queued at each
 -- round's end
-pub record Answer : Type 0 where
+pub record SearchAnswer : Type 0 where
   pub total : ℕ
   pub stop : ℕ
   pub candidates : List (ℕ × ℕ × ℕ)
@@ -128,7 +128,7 @@ lineAt T t = elim (ltb t (trips T)) [ true ↦ T .lineOf t | false ↦ never ]
 abbrev pub tripWindow : Tables → ℕ → ℕ → Window
 tripWindow T t i =
     let w = T .timetable .window (T .timetable .trip t .window + i) in
-    windowOf (w .start) (w .end) (w .headway)
+    windowFrom (w .start) (w .end) (w .headway)
 
 -- the departures from the first on that is not before a time (`partition_point`)
 unfoldable pub notBefore : Tables → ℕ → List DepartureRow → List DepartureRow
@@ -195,7 +195,7 @@ module _ (T : Tables) (Q : Query) where
   relax stamp s v l a = cond (ltb v (at a s)) (improve stamp s v l a) a
 
   -- resolve_transfer_target: over k places of a line from place p on. A trip past the table is passed over; modes are not tested.
-  unfoldable pub resolveIn : Bool → ℕ → ℕ → ℕ → (ℕ → ℕ) → ℕ → ℕ → Option (ℕ × Boarding)
+  unfoldable pub resolveIn : Bool → ℕ → ℕ → ℕ → (ℕ → ℕ) → ℕ → ℕ → Option (ℕ × BoardedRun)
   resolveIn isFifo o after best trip zero p = none
   resolveIn isFifo o after best trip (suc k) p =
       let t : ℕ = trip p in
@@ -221,7 +221,7 @@ module _ (T : Tables) (Q : Query) where
   lineTripsAt l = elim (ltb l (T .lines)) [ true ↦ T .line l | false ↦ record { count = 0; trip = λ p. never } ]
 
   -- at most `lineScan` trips: the line's from the target's position on, or the target alone where it does not stand there
-  unfoldable pub resolve : Transfer → ℕ → ℕ → Option (ℕ × Boarding)
+  unfoldable pub resolve : Transfer → ℕ → ℕ → Option (ℕ × BoardedRun)
   resolve e after best =
       let l : LineTrips = lineTripsAt (lineAt T (e .target)) in
       let p : ℕ = position T (e .target) in
@@ -573,8 +573,8 @@ module _ (T : Tables) (Q : Query) where
   final flagged = rounds flagged (roundsOf Q) 0 begin
 
   -- "no way" has no candidates
-  unfoldable pub answer : Bool → Answer
-  answer flagged =
+  unfoldable pub searchAnswer : Bool → SearchAnswer
+  searchAnswer flagged =
       let s = final flagged in
       let b = bestTarget (s .arrivals) (Q .egress) (never, never) in
       record {
@@ -609,9 +609,9 @@ putOff Q =
     }
 
 -- `run_tbr` as the Rust has it
-unfoldable pub runTbr : Tables → Query → Answer
-runTbr T Q = answer T Q (useArcFlags T Q)
+unfoldable pub runTbr : Tables → Query → SearchAnswer
+runTbr T Q = searchAnswer T Q (useArcFlags T Q)
 
 -- THE QUERY: `run_tbr` with the switch put off where the flags would skip nothing
-unfoldable pub query : Tables → Query → Answer
-query T Q = answer T Q (flagsInUse T Q)
+unfoldable pub query : Tables → Query → SearchAnswer
+query T Q = searchAnswer T Q (flagsInUse T Q)

@@ -12,7 +12,7 @@ use Rattle.walk_time.specs.Walk.{effectiveDuration, roundCount}
 use Rattle.departures.specs.declared.DepartureRow.{DepartureRow}
 use Rattle.tables.specs.Timetable.{Timetable, timeAt}
 use Rattle.line_layout.specs.Layout.{LineTrips, fifoLine, positionIn}
-use Rattle.line_transfers.specs.Transfers.{Transfer}
+use Rattle.event_transfers.specs.Transfers.{Transfer}
 use Rattle.delay_rows.specs.Delays.{DelayTables}
 
 -- four numbers of the Rust: the transfer time of the building calls, how many trips of a line are tried for a transfer, by how much

@@ -6,7 +6,7 @@ use mathlib.Core.List.{List}
 use lib.ListN.{getD}
 use lib.Dec.{leb}
 use native.Mathlib.Omega.{arith}
-use Rattle.asking.specs.Door.{settingRanges}
+use Rattle.query_door.specs.Door.{settingRanges}
 
 -- a no is no yes
 pub never : {A : Type 0} → false ≡ true → A

@@ -1,34 +1,183 @@
-// query_door: the door of a query: questions 4 to 6 (document 01), and all six in order.
-// Proves: `questions` answers the verdict (`asking` specs/Door) on every input. A pass that reads each stop time and each listed departure
-// once (`passed`) admits what is in order; only where it does not is each question asked on its own, for the number.
+// query_door: the door of a query: questions 1 to 6 (document 01), in order.
+// Place: the search; `query_call` asks it.
+// Specs: each question as a test of the lists, and the verdict (Door, a claim); a column of numbers in a list (Columns, inner); questions 4 to 6 asked at
+// once (Once, inner).
+// Proves: `questions` answers the verdict on every input. A pass that reads each stop time and each listed departure once (`passed`) admits what is in
+// order; only where it does not is each question asked on its own, for the number. In proofs/Yes: what each yes gives, and that a verdict of 0 gives the
+// model's door. In proofs/Converse: question 6 finds departures and egress stops in order where the model's door has them so. In proofs/Examples:
+// Timetable K passes, damaged copies are refused.
 // Assumes nothing.
 ghost use mathlib.Core.Path.{_≡_};
-ghost use mathlib.Core.Bool.{true};
-ghost use Prim.Native.Nat.{_+_, _*_, _-_, _≤_, _<_};
+ghost use Prim.Native.Nat.{_+_, _*_, _≤_, _-_, _<_};
 ghost use lib.ListN.{length};
-ghost use lib.Dec.{ltb, leb};
 ghost use Rattle.tables.specs.Timetable.{timetable};
-ghost use Rattle.tables.specs.Sane.{CountsOk, SlicesOk, RunsOk};
+ghost use Rattle.tables.specs.Sane.{SlicesOk, CountsOk, RunsOk};
+ghost use Rattle.query_input.specs.Lent.{transferRunsAt, builtSize, marksAt, querySize, delaysOf, stopRuns, departureRows, lent};
+ghost use Rattle.query_door.specs.Door.{queryQuestion1, readOk, writtenOk, queryQuestion2, transferRunsOk, queryQuestion3, columnBelow, columnAt, lineNumbers, queryNumbers, queryQuestion4, markRanges, transferRanges, settingRanges, walkRanges, queryQuestion5, partOrder, departureOrder, columnRises, queryQuestion6, queryVerdict};
+ghost use Rattle.query_types.specs.Layout.{workSizeOf};
+ghost use Rattle.query_input.specs.Sane.{Limits, ReadSized, Placed};
+ghost use Rattle.query_door.specs.Columns.{Column};
+ghost use mathlib.Core.Bool.{true};
+ghost use lib.Dec.{ltb, leb};
 ghost use Rattle.departures.specs.Departures.{rowAt, rowDeparture, departuresOf, runLength};
 ghost use Rattle.departures.specs.Listed.{RunsListed, RowsKnown, RowsListed};
-ghost use Rattle.asking.specs.Lent.{marksAt, transferRunsAt, querySize, delaysOf, stopRuns, departureRows, lent};
-ghost use Rattle.asking.specs.Door.{columnAt, lineNumbers, queryNumbers, question4, markRanges, transferRanges, settingRanges, walkRanges, question5, partOrder, departureOrder, columnRises, question6, verdict};
-ghost use Rattle.asking.specs.Sane.{Limits, ReadSized, Placed};
-ghost use Rattle.asking.specs.Once.{Leaving, RunRight, InTurn, queryOk, tablesOk, Passed};
+ghost use Rattle.query_door.specs.Once.{Leaving, RunRight, InTurn, queryOk, tablesOk, Passed};
 ghost use Rattle.delay_rows.specs.Asked.{rowsAsked};
-use asking::Lengths;
-use asking::QueryCounts;
 use departures::DepartureRow;
 use door::both;
+use query_types::Lengths;
+use query_types::QueryCounts;
 use tables::Counts;
+
+pub fn work_size(n: QueryCounts) -> usize
+    requires { ⌜ Limits n ⌝ }
+    ensures { λ r. ⌜ r ≡ workSizeOf n ⌝ }
+{
+    n.timetable.stops * 5 + n.timetable.trips * 8 + n.lines * 3 + 128
+}
+
+// Question 1.
+pub fn counts_ok(n: QueryCounts) -> bool
+    ensures { λ r. ⌜ r ≡ queryQuestion1 n ⌝ }
+{
+    let a = both(
+        tables::counts_ok(n.timetable),
+        both(n.cells <= 512, n.patterns <= 4096),
+    );
+    let b = both(
+        both(n.lines <= 4096, n.entries <= 4096),
+        both(n.departures <= 65536, n.transfers <= 65536),
+    );
+    let c = both(
+        both(n.delays <= 4096, n.stop_rows <= 4096),
+        both(n.origins <= 64, n.egress <= 64),
+    );
+    both(a, both(b, c))
+}
+
+// Question 2 of what is read, but for the timetable's slice, whose numbers the others are measured by.
+fn read_ok(
+    t: &[u32],
+    n: QueryCounts,
+    built: usize,
+    patterns: usize,
+    distances: usize,
+    q: usize,
+) -> bool
+    requires { ⌜ Limits n ⌝ ∗ ⌜ SlicesOk (now t) (n .timetable) ⌝ }
+    ensures { λ r. ⌜ r ≡ readOk (now (t .entry)) n built patterns distances q ⌝ }
+{
+    let events = event_transfers::event_count(t, n.timetable);
+    let a = built == query_input::transfer_runs_at(n) + events * 2;
+    let b = distances == n.timetable.edges + n.origins;
+    both(
+        both(a, patterns == n.patterns * 64),
+        both(b, q == query_input::query_size(n)),
+    )
+}
+
+// Question 2 of what is written.
+fn written_ok(n: QueryCounts, l: Lengths) -> bool
+    requires { ⌜ Limits n ⌝ }
+    ensures { λ r. ⌜ r ≡ writtenOk n l ⌝ }
+{
+    let labels = both(
+        l.labels == n.timetable.stops * 13 * 8,
+        l.label_distances == n.timetable.stops * 13,
+    );
+    both(
+        both(labels, l.work == work_size(n)),
+        both(l.queue_a == l.queue_b, l.candidates == 39),
+    )
+}
+
+fn sizes_ok(
+    t: &[u32],
+    n: QueryCounts,
+    built: usize,
+    patterns: usize,
+    distances: usize,
+    q: usize,
+    l: Lengths,
+) -> bool
+    requires { ⌜ Limits n ⌝ }
+    ensures { λ r. ⌜ r ≡ queryQuestion2 (now (t .entry)) n built patterns distances q l ⌝ }
+{
+    if !tables::slices_ok(t, n.timetable) {
+        return false;
+    }
+    both(
+        read_ok(t, n, built, patterns, distances, q),
+        written_ok(n, l),
+    )
+}
+
+// Question 3 of every event's transfer run, no branch between them: kept are all bits of first row and length, and whether each sum is in the
+// rows. Below 2^31 no sum wraps.
+fn transfer_runs_ok(built: &[u32], n: QueryCounts, events: usize, rows: usize) -> bool
+    requires { ⌜ Limits n ⌝ ∗ ⌜ transferRunsAt n + events * 2 ≤ length (now built) ⌝ ∗ ⌜ rows ≤ 65536 ⌝ }
+    ensures { λ r. ⌜ r ≡ transferRunsOk (now (built .entry)) n events rows ⌝ }
+{
+    let from = query_input::transfer_runs_at(n);
+    let limit = rows as u32;
+    let mut inside = true;
+    let mut bits: u32 = 0;
+    let mut e: usize = 0;
+    while e < events {
+        let at = from + e * 2;
+        let first = words::word(built, at);
+        let length = words::word(built, at + 1);
+        inside = both(inside, first % 2147483648 + length % 2147483648 <= limit);
+        bits = bits | (first | length);
+        e += 1;
+    }
+    both(inside, bits <= 2147483647)
+}
+
+// Question 3.
+fn runs_ok(t: &[u32], built: &[u32], n: QueryCounts, rows: usize) -> bool
+    requires { ⌜ Limits n ⌝ ∗ ⌜ SlicesOk (now t) (n .timetable) ⌝ ∗ ⌜ length (now built) ≡ builtSize (now t) n ⌝ ∗ ⌜ rows ≤ 65536 ⌝ }
+    ensures { λ r. ⌜ r ≡ queryQuestion3 (now (t .entry)) (now (built .entry)) n rows ⌝ }
+{
+    let lines = line_layout::line_runs_ok(query_input::line_runs(built, n), n.lines, n.entries);
+    let stops = departures::stop_runs_ok(
+        query_input::stop_runs(built, n),
+        n.timetable,
+        n.departures,
+    );
+    let events = event_transfers::event_count(t, n.timetable);
+    both(
+        both(tables::runs_ok(t, n.timetable), lines),
+        both(stops, transfer_runs_ok(built, n, events, rows)),
+    )
+}
+
+// Are so many numbers of a column below the bound?
+fn column_below(s: &[u32], first: usize, stride: usize, count: usize, bound: usize) -> bool
+    requires { ⌜ Column (length (now s)) first stride count ⌝ }
+    ensures { λ r. ⌜ r ≡ columnBelow (now (s .entry)) first stride count bound ⌝ }
+{
+    let mut i: usize = 0;
+    while i < count {
+        if bound <= words::field(s, first + i * stride) {
+            return false;
+        }
+        i += 1;
+    }
+    true
+}
 
 // Question 4 of the lines.
 fn line_numbers(built: &[u32], n: QueryCounts) -> bool
     requires { ⌜ Limits n ⌝ ∗ ⌜ marksAt n ≤ length (now built) ⌝ }
     ensures { λ r. ⌜ r ≡ lineNumbers (now (built .entry)) n ⌝ }
 {
-    let lines = asking::column_below(built, 0, 1, n.timetable.trips, n.lines);
-    let entries = line_layout::entries_ok(n.timetable, asking::line_entries(built, n), n.entries);
+    let lines = column_below(built, 0, 1, n.timetable.trips, n.lines);
+    let entries = line_layout::entries_ok(
+        n.timetable,
+        query_input::line_entries(built, n),
+        n.entries,
+    );
     both(lines, entries)
 }
 
@@ -38,8 +187,8 @@ fn query_numbers(q: &[u32], n: QueryCounts) -> bool
     ensures { λ r. ⌜ r ≡ queryNumbers (now (q .entry)) n ⌝ }
 {
     let stops = n.timetable.stops;
-    let origins = asking::column_below(q, 7, 2, n.origins, stops);
-    let egress = asking::column_below(q, 7 + n.origins * 2, 2, n.egress, stops);
+    let origins = column_below(q, 7, 2, n.origins, stops);
+    let egress = column_below(q, 7 + n.origins * 2, 2, n.egress, stops);
     both(origins, egress)
 }
 
@@ -51,22 +200,22 @@ fn delays_ok(question: u32, q: &[u32], n: QueryCounts) -> bool
     delay_rows::rows_asked(
         question,
         n.timetable.trips as u32,
-        asking::delay_rows(q, n),
-        asking::stop_rows(q, n),
+        query_input::delay_rows(q, n),
+        query_input::stop_rows(q, n),
     )
 }
 
 // Question 4.
 fn numbers_ok(t: &[u32], built: &[u32], q: &[u32], n: QueryCounts, rows: usize) -> bool
     requires { ⌜ Limits n ⌝ ∗ ⌜ ReadSized (now t) n (length (now built)) (length (now q)) ⌝ ∗ ⌜ Placed (now t) (now built) n rows ⌝ }
-    ensures { λ r. ⌜ r ≡ question4 (now (t .entry)) (now (built .entry)) (now (q .entry)) n ⌝ }
+    ensures { λ r. ⌜ r ≡ queryQuestion4 (now (t .entry)) (now (built .entry)) (now (q .entry)) n ⌝ }
 {
     let c = n.timetable;
     let listed = departures::listed_ok(
         t,
         c,
-        asking::stop_runs(built, n),
-        asking::departure_rows(built, n),
+        query_input::stop_runs(built, n),
+        query_input::departure_rows(built, n),
         n.departures,
     );
     both(
@@ -80,7 +229,7 @@ fn mark_ranges(built: &[u32], n: QueryCounts) -> bool
     requires { ⌜ Limits n ⌝ ∗ ⌜ transferRunsAt n ≤ length (now built) ⌝ }
     ensures { λ r. ⌜ r ≡ markRanges (now (built .entry)) n ⌝ }
 {
-    asking::column_below(built, asking::marks_at(n), 1, n.timetable.stops, 2)
+    column_below(built, query_input::marks_at(n), 1, n.timetable.stops, 2)
 }
 
 // Question 5 of the transfers: all bits of their times are kept.
@@ -91,7 +240,7 @@ fn transfer_ranges(transfers: &[u32], rows: usize) -> bool
     let mut bits: u32 = 0;
     let mut k: usize = 0;
     while k < rows {
-        bits = bits | tables::word(transfers, 2 + k * 4);
+        bits = bits | words::word(transfers, 2 + k * 4);
         k += 1;
     }
     bits <= 1048575
@@ -102,12 +251,9 @@ fn setting_ranges(q: &[u32]) -> bool
     requires { ⌜ 7 ≤ length (now q) ⌝ }
     ensures { λ r. ⌜ r ≡ settingRanges (now (q .entry)) ⌝ }
 {
-    let times = both(
-        tables::field(q, 0) <= 1048575,
-        tables::field(q, 1) <= 1048575,
-    );
-    let switches = both(tables::field(q, 5) <= 1, tables::field(q, 6) <= 1);
-    both(times, both(tables::field(q, 4) <= 127, switches))
+    let times = both(words::field(q, 0) <= 1048575, words::field(q, 1) <= 1048575);
+    let switches = both(words::field(q, 5) <= 1, words::field(q, 6) <= 1);
+    both(times, both(words::field(q, 4) <= 127, switches))
 }
 
 // Question 5 of origins and egress.
@@ -115,8 +261,8 @@ fn walk_ranges(q: &[u32], n: QueryCounts) -> bool
     requires { ⌜ Limits n ⌝ ∗ ⌜ querySize n ≤ length (now q) ⌝ }
     ensures { λ r. ⌜ r ≡ walkRanges (now (q .entry)) n ⌝ }
 {
-    let origins = asking::column_below(q, 8, 2, n.origins, 1048576);
-    let egress = asking::column_below(q, 7 + n.origins * 2 + 1, 2, n.egress, 1048576);
+    let origins = column_below(q, 8, 2, n.origins, 1048576);
+    let egress = column_below(q, 7 + n.origins * 2 + 1, 2, n.egress, 1048576);
     both(origins, egress)
 }
 
@@ -130,7 +276,7 @@ fn ranges_ok(
     rows: usize,
 ) -> bool
     requires { ⌜ Limits n ⌝ ∗ ⌜ ReadSized (now t) n (length (now built)) (length (now q)) ⌝ ∗ ⌜ rows * 4 ≤ length (now transfers) ⌝ }
-    ensures { λ r. ⌜ r ≡ question5 (now (t .entry)) (now (built .entry)) (now (transfers .entry)) (now (q .entry)) n rows ⌝ }
+    ensures { λ r. ⌜ r ≡ queryQuestion5 (now (t .entry)) (now (built .entry)) (now (transfers .entry)) (now (q .entry)) n rows ⌝ }
 {
     let tables = both(
         tables::ranges_ok(t, n.timetable),
@@ -150,7 +296,7 @@ fn departure_at(t: &[u32], c: Counts, rows: &[u32], count: usize, k: usize) -> u
     requires { ⌜ RowsKnown (now t) c (now rows) count ⌝ ∗ ⌜ k < count ⌝ }
     ensures { λ b. ⌜ b ≡ rowDeparture (timetable (now (t .entry)) c) (rowAt (now (rows .entry)) k) ⌝ }
 {
-    asking::row_departure(t, c, departures::departure_row(rows, k))
+    query_input::row_departure(t, c, departures::departure_row(rows, k))
 }
 
 fn in_order(before: usize, after: usize) -> bool
@@ -215,7 +361,7 @@ fn stop_rises(q: &[u32], at: usize, i: usize) -> bool
     requires { ⌜ 0 < i ⌝ ∗ ⌜ at + i * 2 < length (now q) ⌝ }
     ensures { λ r. ⌜ r ≡ ltb (columnAt (now (q .entry)) at 2 (i - 1)) (columnAt (now (q .entry)) at 2 i) ⌝ }
 {
-    tables::field(q, at + (i - 1) * 2) < tables::field(q, at + i * 2)
+    words::field(q, at + (i - 1) * 2) < words::field(q, at + i * 2)
 }
 
 // Of all egress stops.
@@ -236,14 +382,14 @@ fn egress_order(q: &[u32], at: usize, count: usize) -> bool
 // Question 6.
 fn order_ok(t: &[u32], built: &[u32], q: &[u32], n: QueryCounts) -> bool
     requires { ⌜ Limits n ⌝ ∗ ⌜ ReadSized (now t) n (length (now built)) (length (now q)) ⌝ ∗ ⌜ RowsListed (now t) (n .timetable) (stopRuns (now built) n) (departureRows (now built) n) (n .departures) ⌝ }
-    ensures { λ r. ⌜ r ≡ question6 (now (t .entry)) (now (built .entry)) (now (q .entry)) n ⌝ }
+    ensures { λ r. ⌜ r ≡ queryQuestion6 (now (t .entry)) (now (built .entry)) (now (q .entry)) n ⌝ }
 {
     let c = n.timetable;
     let listed = departure_order(
         t,
         c,
-        asking::stop_runs(built, n),
-        asking::departure_rows(built, n),
+        query_input::stop_runs(built, n),
+        query_input::departure_rows(built, n),
         n.departures,
     );
     both(
@@ -357,8 +503,8 @@ fn passed(
     if !tables_ok(t, built, transfers, n, rows) {
         return false;
     }
-    let runs = asking::stop_runs(built, n);
-    let listed = asking::departure_rows(built, n);
+    let runs = query_input::stop_runs(built, n);
+    let listed = query_input::departure_rows(built, n);
     in_turn(t, n.timetable, runs, listed, n.departures)
 }
 
@@ -373,12 +519,12 @@ pub fn questions(
     q: &[u32],
     l: Lengths,
 ) -> u32
-    ensures { λ r. ⌜ r ≡ verdict (lent n (now (t .entry)) (now (built .entry)) (now (transfers .entry)) (now (patterns .entry)) (now (distances .entry)) (now (q .entry))) l ⌝ }
+    ensures { λ r. ⌜ r ≡ queryVerdict (lent n (now (t .entry)) (now (built .entry)) (now (transfers .entry)) (now (patterns .entry)) (now (distances .entry)) (now (q .entry))) l ⌝ }
 {
-    if !asking::counts_ok(n) {
+    if !counts_ok(n) {
         return 1;
     }
-    if !asking::sizes_ok(
+    if !sizes_ok(
         t,
         n,
         built.len(),
@@ -389,8 +535,8 @@ pub fn questions(
     ) {
         return 2;
     }
-    let rows = asking::transfer_rows(n, transfers.len());
-    if !asking::runs_ok(t, built, n, rows) {
+    let rows = query_input::transfer_rows(n, transfers.len());
+    if !runs_ok(t, built, n, rows) {
         return 3;
     }
     if passed(t, built, transfers, q, n, rows) {

@@ -7,7 +7,7 @@ use crate::words::length_at;
 use crate::words::part;
 use crate::words::rest;
 use crate::words::same_words;
-use replies::Reply;
+use query_reply::Reply;
 use sizes::QuerySizes;
 
 fn sizes(w: &[u32]) -> QuerySizes {

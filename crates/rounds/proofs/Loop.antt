@@ -11,18 +11,18 @@ use lib.Ieee.{Float}
 use Rattle.model.specs.Tables.{Tables, Query, roundsOf}
 use Rattle.model.specs.Search.{Arrivals, State, idle, final, overflows}
 use Rattle.model.proofs.Stores.{no-both, or-false}
-use Rattle.scratch.specs.declared.Lay.{Lay}
-use Rattle.scratch.specs.View.{Memory, queueOf}
-use Rattle.scratch.proofs.Part.{part-length}
-use Rattle.scratch.proofs.Queue.{queue-length}
-use Rattle.asking.specs.declared.QueryCounts.{QueryCounts}
-use Rattle.asking.specs.Lent.{Lent, tablesOf, queryOf, delayRows, stopRows}
-use Rattle.asking.proofs.Laws.{door-of}
-use Rattle.alighting.specs.declared.Net.{Net}
-use Rattle.riding.specs.Laid.{Rides, Laid}
-use Rattle.round.specs.Round.{stateAt, idleHead, read, filled, Fed, Between, Holds, Reached, BeforeRound, Round, Running}
-use Rattle.round.specs.Rounds.{Started, Ended}
-use Rattle.round.proofs.States.{overflow-stays, state-ran, onward-start, onward-next, onward-idle, onward-end}
+use Rattle.query_types.specs.declared.Lay.{Lay}
+use Rattle.search_state.specs.View.{Memory, queueOf}
+use Rattle.search_state.proofs.Part.{part-length}
+use Rattle.search_state.proofs.Queue.{queue-length}
+use Rattle.query_types.specs.declared.QueryCounts.{QueryCounts}
+use Rattle.query_input.specs.Lent.{Lent, tablesOf, queryOf, delayRows, stopRows}
+use Rattle.query_input.proofs.Laws.{door-of}
+use Rattle.query_types.specs.declared.Net.{Net}
+use Rattle.ride_step.specs.Laid.{Rides, Laid}
+use Rattle.rounds.specs.Round.{stateAt, idleHead, read, filled, Fed, Between, Holds, Reached, BeforeRound, Round, Running}
+use Rattle.rounds.specs.Rounds.{Started, Ended}
+use Rattle.rounds.proofs.States.{overflow-stays, state-ran, onward-start, onward-next, onward-idle, onward-end}
 
 -- THE HALVES OF THE QUEUE
 halves-of : (even : Bool) (qa qb : List ℕ) (k : ℕ) → length qa ≡ k → length qb ≡ k → length (read even qa qb) ≡ length (filled even qa qb)

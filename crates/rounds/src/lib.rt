@@ -1,19 +1,108 @@
-// rounds: the rounds of a query, one after the other (`round`), the two queue halves and the two lists of stops in turn.
-// Proves: after `rounds` memory holds the model's `final` of the tables and the query that the lent slices say, or question 8 is answered no
-// (`round` specs/Rounds).
+// rounds: the rounds of a query, each a ride phase and a walk phase, one after the other; the two queue halves and the two lists of stops in turn.
+// Place: the search.
+// Specs (inner): one round in memory (Round); question 8, the state after all rounds (Rounds).
+// Proves: `round` is the model's on the state in memory, or a segment does not fit in the queue, and what is read stays as it came; after `rounds`
+// memory holds the model's `final` of the tables and the query that the lent slices say, or question 8 is answered no.
 // Assumes nothing.
 ghost use mathlib.Core.Path.{_≡_};
+ghost use lib.ListN.{length};
+ghost use Rattle.model.specs.Tables.{Query, changeBefore};
+ghost use Rattle.search_state.specs.View.{memory};
+ghost use Rattle.rounds.specs.Round.{BeforeRound, Round, idleHead, read, filled};
 ghost use mathlib.Core.Bool.{_||_};
 ghost use Prim.Native.Nat.{_/_};
-ghost use lib.ListN.{length};
-ghost use Rattle.scratch.specs.View.{memory};
-ghost use Rattle.asking.specs.Lent.{lent};
-ghost use Rattle.round.specs.Round.{idleHead, read, filled, BeforeRound, Round};
-ghost use Rattle.round.specs.Rounds.{Started, Ended};
-use alighting::Net;
-use asking::QueryCounts;
-use scratch::Head;
-use scratch::Lay;
+ghost use Rattle.query_input.specs.Lent.{lent};
+ghost use Rattle.rounds.specs.Rounds.{Started, Ended};
+use query_types::Head;
+use query_types::Lay;
+use query_types::Net;
+use query_types::Phase;
+use query_types::QueryCounts;
+use query_types::Rules;
+
+// The change time before a boarding in round r: none in the first.
+fn change_before(r: u32, change: u32) -> u32
+    ensures { λ x. ⌜ ((Q : Query) → Q .change ≡ change → changeBefore Q r ≡ x) ⌝ }
+{
+    if r == 0 { 0 } else { change }
+}
+
+// ONE ROUND: the segments in `from` are ridden, the stops of lay.other boarded at; then walks. Segments are queued in `to`.
+fn round(
+    n: QueryCounts,
+    t: &[u32],
+    rows: &[u32],
+    stop_rows: &[u32],
+    built: &[u32],
+    bytes: &[u8],
+    area: &[u32],
+    distances: &[f64],
+    net: Net,
+    flagged: bool,
+    change: u32,
+    r: u32,
+    lay: Lay,
+    from: &[u32],
+    work: &mut [u32],
+    labels: &mut [u32],
+    metres: &mut [f64],
+    to: &mut [u32],
+    h: Head,
+) -> Head
+    requires { ⌜ BeforeRound n (now t) (now rows) (now «stop_rows») (now built) (now bytes) (now area) (now distances) net lay flagged change r (memory (now work) (now labels) (now metres) h) (now from) (length (now to)) ⌝ }
+    ensures { λ x. ⌜ Round n (now (t .entry)) (now (rows .entry)) (now («stop_rows» .entry)) (now (built .entry)) (now (bytes .entry)) (now (area .entry)) (now (distances .entry)) net lay flagged change r (memory (now (work .entry)) (now (labels .entry)) (now (metres .entry)) h) (memory (now (work .exit)) (now (labels .exit)) (now (metres .exit)) x) (now (from .entry)) (now (to .entry)) (now (to .exit)) ⌝ }
+{
+    let stamp = r + 2;
+    let before = change_before(r, change);
+    let p = Phase {
+        counts: n,
+        net,
+        lay,
+        flagged,
+        stamp,
+        change: before,
+    };
+    let g = ride_phase::ride_phase(
+        t,
+        rows,
+        stop_rows,
+        built,
+        bytes,
+        area,
+        p,
+        from,
+        work,
+        labels,
+        metres,
+        to,
+        h,
+    );
+    if g.full {
+        return g;
+    }
+    let counts = n.timetable;
+    let targets = net.target;
+    let terms = net.terms;
+    let rules = Rules {
+        counts,
+        patterns: net.patterns,
+        targets,
+        flagged,
+        wheelchair: terms.wheelchair,
+    };
+    walk_phase::walk_phase(
+        lay,
+        rules,
+        stamp,
+        t,
+        distances,
+        bytes,
+        work,
+        labels,
+        metres,
+        g,
+    )
+}
 
 // The same with the halves of the queue in turn: an even round reads the first and fills the second.
 fn turn(
@@ -42,7 +131,7 @@ fn turn(
     ensures { λ x. ⌜ Round n (now (t .entry)) (now (rows .entry)) (now («stop_rows» .entry)) (now (built .entry)) (now (bytes .entry)) (now (area .entry)) (now (distances .entry)) net lay flagged change r (memory (now (work .entry)) (now (labels .entry)) (now (metres .entry)) h) (memory (now (work .exit)) (now (labels .exit)) (now (metres .exit)) x) (read even (now («queue_a» .entry)) (now («queue_b» .entry))) (filled even (now («queue_a» .entry)) (now («queue_b» .entry))) (filled even (now («queue_a» .exit)) (now («queue_b» .exit))) ⌝ }
 {
     if even {
-        return round::round(
+        return round(
             n,
             t,
             rows,
@@ -64,7 +153,7 @@ fn turn(
             h,
         );
     }
-    round::round(
+    round(
         n,
         t,
         rows,
@@ -132,8 +221,8 @@ pub fn rounds(
     requires { ⌜ Started (lent n (now t) (now built) (now transfers) (now patterns) (now distances) (now q)) net lay (memory (now work) (now labels) (now metres) h) (length (now «queue_a»)) (length (now «queue_b»)) ⌝ }
     ensures { λ x. ⌜ Ended (lent n (now (t .entry)) (now (built .entry)) (now (transfers .entry)) (now (patterns .entry)) (now (distances .entry)) (now (q .entry))) flagged (length (now («queue_a» .entry)) / 4) lay (memory (now (work .exit)) (now (labels .exit)) (now (metres .exit)) x) ⌝ }
 {
-    let rows = asking::delay_rows(q, n);
-    let stop_rows = asking::stop_rows(q, n);
+    let rows = query_input::delay_rows(q, n);
+    let stop_rows = query_input::stop_rows(q, n);
     let change = q[1];
     let limit = walk_time::tbr_max_rounds(q[2], q[3]);
     let mut g = h;

@@ -1,7 +1,7 @@
 -- Counts as a caller hands them in, one number each. Definitions only.
 use Prim.Native.Nat.{ℕ}
 use Rattle.tables.specs.declared.Counts.{Counts}
-use Rattle.asking.specs.declared.QueryCounts.{QueryCounts}
+use Rattle.query_types.specs.declared.QueryCounts.{QueryCounts}
 use Rattle.sizes.specs.declared.QuerySizes.{QuerySizes}
 
 abbrev pub countsOf : ℕ → ℕ → ℕ → ℕ → ℕ → Counts

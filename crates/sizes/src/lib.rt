@@ -4,7 +4,7 @@
 // Assumes nothing.
 ghost use mathlib.Core.Path.{_≡_};
 ghost use Rattle.sizes.specs.Counts.{countsOf, gathered, queryCountsOf};
-use asking::QueryCounts;
+use query_types::QueryCounts;
 use tables::Counts;
 
 pub fn counts(stops: u32, trips: u32, times: u32, windows: u32, edges: u32) -> Counts

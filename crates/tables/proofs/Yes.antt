@@ -16,8 +16,8 @@ use Rattle.loops.proofs.Most.{max-most, or-most}
 use Rattle.tables.specs.declared.Counts.{Counts}
 use Rattle.tables.specs.declared.Check.{Check}
 use Rattle.tables.specs.declared.Check.the-variants.{TripRuns, StopTimeNumbers, EdgeNumbers, StopTimeRanges, TripRanges, WindowRanges, EdgeRanges, EdgeOrder}
-use Rattle.tables.specs.Tables.{countOf, firstOf, sizeOf, tripOf, edgeOf, timeOf, windowOf}
-use Rattle.tables.specs.Door.{countsOk, slicesOk, tripRuns, stopTimeNumbers, edgeNumbers, stopTimeRanges, tripRanges, windowRanges, edgeRanges, edgeRises, rowsOf, rowOk, everyRow, runsOk, numbersOk, rangesOk, orderOk}
+use Rattle.tables.specs.Tables.{countOf, firstOf, timetableSize, tripOf, edgeOf, timeOf, windowOf}
+use Rattle.tables.specs.Door.{countsOk, slicesOk, tripRuns, stopTimeNumbers, edgeNumbers, stopTimeRanges, tripRanges, windowRanges, edgeRanges, edgeRises, rowCountOf, rowOk, everyRow, runsOk, numbersOk, rangesOk, orderOk}
 use Rattle.tables.specs.Sane.{CountsOk, SlicesOk, RunsOk, NumbersOk, RangesOk, OrderOk, Sane}
 
 -- two, and four, tests joined
@@ -33,8 +33,8 @@ pub second-no : (a b : Bool) → a && b ≡ false → a ≡ true → b ≡ false
 second-no true b h e = h
 second-no false b h e = let z : _≡_ {A = ℕ} 0 1 = cc in absurd (omega arith)
 
-row : (t : List ℕ) (c : Counts) (k : Check) (i : ℕ) → everyRow t c k ≡ true → i < rowsOf k c → rowOk t c k i ≡ true
-row t c k i h l = everyIn-at (rowOk t c k) (rowsOf k c) i h l
+row : (t : List ℕ) (c : Counts) (k : Check) (i : ℕ) → everyRow t c k ≡ true → i < rowCountOf k c → rowOk t c k i ≡ true
+row t c k i h l = everyIn-at (rowOk t c k) (rowCountOf k c) i h l
 
 pub counts-yes : (c : Counts) → countsOk c ≡ true → CountsOk c
 unfolding countsOk
@@ -53,7 +53,7 @@ counts-yes c h =
 
 pub slices-yes : (t : List ℕ) (c : Counts) → slicesOk t c ≡ true → SlicesOk t c
 unfolding slicesOk
-slices-yes t c h = record { size = eqb-true (length t) (sizeOf c) h }
+slices-yes t c h = record { size = eqb-true (length t) (timetableSize c) h }
 
 pub runs-yes : (t : List ℕ) (c : Counts) → runsOk t c ≡ true → RunsOk t c
 unfolding runsOk tripRuns

@@ -13,7 +13,7 @@ use Rattle.tables.specs.declared.WindowRow.{WindowRow}
 use Rattle.tables.specs.declared.EdgeRow.{EdgeRow}
 use Rattle.tables.specs.declared.Check.{Check}
 use Rattle.tables.specs.declared.Check.the-variants.{TripRuns, StopTimeNumbers, EdgeNumbers, StopTimeRanges, TripRanges, WindowRanges, EdgeRanges, EdgeOrder}
-use Rattle.tables.specs.Tables.{sizeOf, edgeOf, stopTimeAt, tripAt, windowAt, edgeAt}
+use Rattle.tables.specs.Tables.{timetableSize, edgeOf, stopTimeAt, tripAt, windowAt, edgeAt}
 
 -- 1: are all counts within the limits?
 unfoldable pub countsOk : Counts → Bool
@@ -21,7 +21,7 @@ countsOk c = (leb (c .stops) 4096 && leb (c .trips) 4096) && ((leb (c .times) 65
 
 -- 2: is the slice exactly as long as its counts say?
 unfoldable pub slicesOk : List ℕ → Counts → Bool
-slicesOk t c = eqb (length t) (sizeOf c)
+slicesOk t c = eqb (length t) (timetableSize c)
 
 -- 3: has the trip a stop time, and do its runs lie in their tables?
 unfoldable pub tripRuns : Counts → TripRow → Bool
@@ -53,15 +53,15 @@ edgeRises t c zero = true
 edgeRises t c (suc i) = leb (edgeOf t c i 0) (edgeOf t c (suc i) 0)
 
 -- how many rows a check looks at, and what it asks of one
-abbrev pub rowsOf : Check → Counts → ℕ
-rowsOf TripRuns c = c .trips
-rowsOf StopTimeNumbers c = c .times
-rowsOf EdgeNumbers c = c .edges
-rowsOf StopTimeRanges c = c .times
-rowsOf TripRanges c = c .trips
-rowsOf WindowRanges c = c .windows
-rowsOf EdgeRanges c = c .edges
-rowsOf EdgeOrder c = c .edges
+abbrev pub rowCountOf : Check → Counts → ℕ
+rowCountOf TripRuns c = c .trips
+rowCountOf StopTimeNumbers c = c .times
+rowCountOf EdgeNumbers c = c .edges
+rowCountOf StopTimeRanges c = c .times
+rowCountOf TripRanges c = c .trips
+rowCountOf WindowRanges c = c .windows
+rowCountOf EdgeRanges c = c .edges
+rowCountOf EdgeOrder c = c .edges
 
 abbrev pub rowOk : List ℕ → Counts → Check → ℕ → Bool
 rowOk t c TripRuns i = tripRuns c (tripAt t c i)
@@ -74,7 +74,7 @@ rowOk t c EdgeRanges i = edgeRanges (edgeAt t c i)
 rowOk t c EdgeOrder i = edgeRises t c i
 
 abbrev pub everyRow : List ℕ → Counts → Check → Bool
-everyRow t c k = everyIn (rowOk t c k) 0 (rowsOf k c)
+everyRow t c k = everyIn (rowOk t c k) 0 (rowCountOf k c)
 
 -- the questions of the whole timetable
 unfoldable pub runsOk : List ℕ → Counts → Bool

@@ -4,7 +4,7 @@ use mathlib.Core.Path.{_≡_}
 use mathlib.Core.List.{List}
 use lib.ListN.{length}
 use Rattle.tables.specs.declared.Counts.{Counts}
-use Rattle.tables.specs.Tables.{sizeOf, timeOf, tripOf, windowOf, edgeOf, firstOf, countOf}
+use Rattle.tables.specs.Tables.{timetableSize, timeOf, tripOf, windowOf, edgeOf, firstOf, countOf}
 
 pub record CountsOk (c : Counts) : Type 0 where
   pub stops : c .stops ≤ 4096
@@ -14,7 +14,7 @@ pub record CountsOk (c : Counts) : Type 0 where
   pub edges : c .edges ≤ 65536
 
 pub record SlicesOk (t : List ℕ) (c : Counts) : Type 0 where
-  pub size : length t ≡ sizeOf c
+  pub size : length t ≡ timetableSize c
 
 pub record RunsOk (t : List ℕ) (c : Counts) : Type 0 where
   pub some : (i : ℕ) → i < c .trips → 0 < countOf t c i

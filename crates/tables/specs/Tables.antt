@@ -21,8 +21,8 @@ edgesAt c = c .times * 6 + c .trips * 8 + c .windows * 3
 abbrev pub stopsAt : Counts → ℕ
 stopsAt c = c .times * 6 + c .trips * 8 + c .windows * 3 + c .edges * 5
 
-abbrev pub sizeOf : Counts → ℕ
-sizeOf c = c .times * 6 + c .trips * 8 + c .windows * 3 + c .edges * 5 + c .stops
+abbrev pub timetableSize : Counts → ℕ
+timetableSize c = c .times * 6 + c .trips * 8 + c .windows * 3 + c .edges * 5 + c .stops
 
 -- field k of stop time i: 0 stop, 1 arrival, 2 departure, 3 sequence, 4 pickup, 5 drop-off
 unfoldable pub timeOf : List ℕ → ℕ → ℕ → ℕ

@@ -6,10 +6,9 @@
 // Assumes nothing.
 ghost use mathlib.Core.Path.{_≡_};
 ghost use mathlib.Core.Bool.{_&&_};
-ghost use Prim.Native.Nat.{_+_, _*_, _<_, max};
-ghost use lib.ListN.{length, getD};
+ghost use Prim.Native.Nat.{_+_, _*_, _<_};
 ghost use Rattle.tables.specs.Tables.{timeOf, tripOf, edgeOf, windowOf, stopTimeAt, tripAt, windowAt, edgeAt};
-ghost use Rattle.tables.specs.Door.{countsOk, slicesOk, tripRuns, stopTimeNumbers, edgeNumbers, stopTimeRanges, tripRanges, windowRanges, edgeRanges, edgeRises, rowsOf, rowOk, everyRow, runsOk, numbersOk, rangesOk, orderOk};
+ghost use Rattle.tables.specs.Door.{countsOk, slicesOk, tripRuns, stopTimeNumbers, edgeNumbers, stopTimeRanges, tripRanges, windowRanges, edgeRanges, edgeRises, rowCountOf, rowOk, everyRow, runsOk, numbersOk, rangesOk, orderOk};
 ghost use Rattle.tables.specs.Sane.{CountsOk, SlicesOk};
 use door::both;
 
@@ -69,28 +68,12 @@ pub enum Check {
     EdgeOrder,
 }
 
-// One number of a table.
-pub fn field(s: &[u32], i: usize) -> usize
-    requires { ⌜ i < length (now s) ⌝ }
-    ensures { λ r. ⌜ r ≡ getD (now (s .entry)) i 0 ⌝ ∗ ⌜ r < 4294967296 ⌝ }
-{
-    s[i] as usize
-}
-
-// The same as it is lent.
-pub fn word(s: &[u32], i: usize) -> u32
-    requires { ⌜ i < length (now s) ⌝ }
-    ensures { λ r. ⌜ r ≡ getD (now (s .entry)) i 0 ⌝ }
-{
-    s[i]
-}
-
 // Field k of stop time i: stop, arrival, departure, sequence, pickup, drop-off.
 pub fn time(t: &[u32], c: Counts, i: usize, k: usize) -> usize
     requires { ⌜ CountsOk c ⌝ ∗ ⌜ SlicesOk (now t) c ⌝ ∗ ⌜ i < c .times ⌝ ∗ ⌜ k < 6 ⌝ }
     ensures { λ r. ⌜ r ≡ timeOf (now (t .entry)) i k ⌝ ∗ ⌜ r < 4294967296 ⌝ }
 {
-    field(t, i * 6 + k)
+    words::field(t, i * 6 + k)
 }
 
 // Field k of trip i: first stop time, count, mode, wheelchair, first window, window count, active, excluded.
@@ -98,15 +81,15 @@ pub fn trip(t: &[u32], c: Counts, i: usize, k: usize) -> usize
     requires { ⌜ CountsOk c ⌝ ∗ ⌜ SlicesOk (now t) c ⌝ ∗ ⌜ i < c .trips ⌝ ∗ ⌜ k < 8 ⌝ }
     ensures { λ r. ⌜ r ≡ tripOf (now (t .entry)) c i k ⌝ ∗ ⌜ r < 4294967296 ⌝ }
 {
-    field(t, c.times * 6 + i * 8 + k)
+    words::field(t, c.times * 6 + i * 8 + k)
 }
 
 // Field k of window i: start, end, headway.
-pub fn window(t: &[u32], c: Counts, i: usize, k: usize) -> usize
+fn window(t: &[u32], c: Counts, i: usize, k: usize) -> usize
     requires { ⌜ CountsOk c ⌝ ∗ ⌜ SlicesOk (now t) c ⌝ ∗ ⌜ i < c .windows ⌝ ∗ ⌜ k < 3 ⌝ }
     ensures { λ r. ⌜ r ≡ windowOf (now (t .entry)) c i k ⌝ ∗ ⌜ r < 4294967296 ⌝ }
 {
-    field(t, c.times * 6 + c.trips * 8 + i * 3 + k)
+    words::field(t, c.times * 6 + c.trips * 8 + i * 3 + k)
 }
 
 // Field k of walk edge i: from, to, duration, mode, pattern.
@@ -114,7 +97,7 @@ pub fn edge(t: &[u32], c: Counts, i: usize, k: usize) -> usize
     requires { ⌜ CountsOk c ⌝ ∗ ⌜ SlicesOk (now t) c ⌝ ∗ ⌜ i < c .edges ⌝ ∗ ⌜ k < 5 ⌝ }
     ensures { λ r. ⌜ r ≡ edgeOf (now (t .entry)) c i k ⌝ ∗ ⌜ r < 4294967296 ⌝ }
 {
-    field(t, c.times * 6 + c.trips * 8 + c.windows * 3 + i * 5 + k)
+    words::field(t, c.times * 6 + c.trips * 8 + c.windows * 3 + i * 5 + k)
 }
 
 // Rows by value.
@@ -132,7 +115,7 @@ pub fn stop_time_row(t: &[u32], c: Counts, i: usize) -> StopTimeRow
     }
 }
 
-pub fn trip_row(t: &[u32], c: Counts, i: usize) -> TripRow
+fn trip_row(t: &[u32], c: Counts, i: usize) -> TripRow
     requires { ⌜ CountsOk c ⌝ ∗ ⌜ SlicesOk (now t) c ⌝ ∗ ⌜ i < c .trips ⌝ }
     ensures { λ r. ⌜ r ≡ tripAt (now (t .entry)) c i ⌝ ∗ ⌜ (r .first < 4294967296) × (r .count < 4294967296) × (r .window < 4294967296) × (r .windows < 4294967296) ⌝ }
 {
@@ -148,7 +131,7 @@ pub fn trip_row(t: &[u32], c: Counts, i: usize) -> TripRow
     }
 }
 
-pub fn window_row(t: &[u32], c: Counts, i: usize) -> WindowRow
+fn window_row(t: &[u32], c: Counts, i: usize) -> WindowRow
     requires { ⌜ CountsOk c ⌝ ∗ ⌜ SlicesOk (now t) c ⌝ ∗ ⌜ i < c .windows ⌝ }
     ensures { λ r. ⌜ r ≡ windowAt (now (t .entry)) c i ⌝ }
 {
@@ -190,7 +173,7 @@ pub fn slices_ok(t: &[u32], c: Counts) -> bool
 }
 
 // Question 3 of one trip.
-pub fn trip_runs(r: TripRow, c: Counts) -> bool
+fn trip_runs(r: TripRow, c: Counts) -> bool
     requires { ⌜ (r .first < 4294967296) × (r .count < 4294967296) × (r .window < 4294967296) × (r .windows < 4294967296) ⌝ }
     ensures { λ b. ⌜ b ≡ tripRuns c r ⌝ }
 {
@@ -204,34 +187,34 @@ pub fn trip_runs(r: TripRow, c: Counts) -> bool
 }
 
 // Question 4 of one stop time and of one walk edge.
-pub fn stop_time_numbers(r: StopTimeRow, c: Counts) -> bool
+fn stop_time_numbers(r: StopTimeRow, c: Counts) -> bool
     ensures { λ b. ⌜ b ≡ stopTimeNumbers c r ⌝ }
 {
     r.stop < c.stops
 }
 
-pub fn edge_numbers(r: EdgeRow, c: Counts) -> bool
+fn edge_numbers(r: EdgeRow, c: Counts) -> bool
     ensures { λ b. ⌜ b ≡ edgeNumbers c r ⌝ }
 {
     both(r.from < c.stops, r.to < c.stops)
 }
 
 // Question 5 of one row of each table.
-pub fn stop_time_ranges(r: StopTimeRow) -> bool
+fn stop_time_ranges(r: StopTimeRow) -> bool
     ensures { λ b. ⌜ b ≡ stopTimeRanges r ⌝ }
 {
     let a = both(r.arrival <= 1048575, r.departure <= 1048575);
     both(a, both(r.pickup <= 3, r.drop_off <= 3))
 }
 
-pub fn trip_ranges(r: TripRow) -> bool
+fn trip_ranges(r: TripRow) -> bool
     ensures { λ b. ⌜ b ≡ tripRanges r ⌝ }
 {
     let a = both(r.mode <= 6, r.wheelchair <= 2);
     both(a, both(r.active <= 1, r.excluded <= 1))
 }
 
-pub fn window_ranges(r: WindowRow) -> bool
+fn window_ranges(r: WindowRow) -> bool
     ensures { λ b. ⌜ b ≡ windowRanges r ⌝ }
 {
     both(
@@ -240,7 +223,7 @@ pub fn window_ranges(r: WindowRow) -> bool
     )
 }
 
-pub fn edge_ranges(r: EdgeRow) -> bool
+fn edge_ranges(r: EdgeRow) -> bool
     ensures { λ b. ⌜ b ≡ edgeRanges r ⌝ }
 {
     both(r.duration <= 1048575, r.pathway <= 7)
@@ -259,7 +242,7 @@ fn edge_rises(t: &[u32], c: Counts, i: usize) -> bool
 
 // How many rows a check looks at.
 fn rows_of(k: Check, c: Counts) -> usize
-    ensures { λ r. ⌜ r ≡ rowsOf k c ⌝ }
+    ensures { λ r. ⌜ r ≡ rowCountOf k c ⌝ }
 {
     match k {
         Check::TripRuns => c.trips,
@@ -275,7 +258,7 @@ fn rows_of(k: Check, c: Counts) -> usize
 
 // A check of one row.
 fn row_ok(t: &[u32], c: Counts, k: Check, i: usize) -> bool
-    requires { ⌜ CountsOk c ⌝ ∗ ⌜ SlicesOk (now t) c ⌝ ∗ ⌜ i < rowsOf k c ⌝ }
+    requires { ⌜ CountsOk c ⌝ ∗ ⌜ SlicesOk (now t) c ⌝ ∗ ⌜ i < rowCountOf k c ⌝ }
     ensures { λ b. ⌜ b ≡ rowOk (now (t .entry)) c k i ⌝ }
 {
     match k {
@@ -334,12 +317,6 @@ pub fn ranges_ok(t: &[u32], c: Counts) -> bool
     both(both(a, b), both(d, e))
 }
 
-fn larger(a: usize, b: usize) -> usize
-    ensures { λ r. ⌜ r ≡ max a b ⌝ }
-{
-    if a < b { b } else { a }
-}
-
 // Questions 4 and 5 of every stop time, each read once and no branch between them: kept are the greatest stop plus one, and all bits of the
 // times and of the codes.
 fn stop_times_ok(t: &[u32], c: Counts) -> bool
@@ -353,9 +330,9 @@ fn stop_times_ok(t: &[u32], c: Counts) -> bool
     let mut i: usize = 0;
     while i < n {
         let at = i * 6;
-        stops = larger(stops, field(t, at) + 1);
-        times = times | (word(t, at + 1) | word(t, at + 2));
-        codes = codes | (word(t, at + 4) | word(t, at + 5));
+        stops = words::larger(stops, words::field(t, at) + 1);
+        times = times | (words::word(t, at + 1) | words::word(t, at + 2));
+        codes = codes | (words::word(t, at + 4) | words::word(t, at + 5));
         i += 1;
     }
     both(stops <= c.stops, both(times <= 1048575, codes <= 3))

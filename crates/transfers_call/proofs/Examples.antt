@@ -13,8 +13,8 @@ use Rattle.tables.specs.declared.Counts.{Counts}
 use Rattle.tables.specs.Tables.{edgeOf, timeOf, tripOf, windowOf}
 use Rattle.tables.specs.Door.{countsOk, edgeNumbers, edgeRanges, edgeRises, numbersOk, orderOk, rangesOk, runsOk, slicesOk, stopTimeNumbers, stopTimeRanges, tripRanges, tripRuns, windowRanges}
 use Rattle.departures.specs.Listed.{atStopsOk, listedOk, rowAtStop, rowNumbers, rowsOk, runIn, stopRowsOk, stopRunsOk}
-use Rattle.line_transfers.specs.Transfers.{departuresOfLine, eventsBefore, eventsOf, firstNotBefore, runsFrom, transferTo, transfersOf, wordsOf}
-use Rattle.transfers_call.specs.Call.{Lent, answerOf, areaWith, areas, lent, linesOk, outcome, question1, question2, question3, question4, question5, question6, roomOk, settled, sizesOk, verdict}
+use Rattle.event_transfers.specs.Transfers.{departuresOfLine, eventsBefore, eventsOf, firstNotBefore, runsFrom, transferTo, transfersOf, transferWords}
+use Rattle.transfers_call.specs.Call.{TransferLent, transfersAnswer, areaWith, transferAreas, transferLent, linesOk, transfersOutcome, transfersQuestion1, transfersQuestion2, transfersQuestion3, transfersQuestion4, transfersQuestion5, transfersQuestion6, roomOk, transfersSettled, transferSizesOk, transfersVerdict}
 
 -- two lists of numbers are the same
 same : List ℕ → List ℕ → Bool
@@ -25,7 +25,7 @@ same (x ∷ xs) (y ∷ ys) = eqb x y && same xs ys
 
 -- what is handed in, and the answer and the slices that must come out
 pub record Case : Type 0 where
-  pub given : Lent
+  pub given : TransferLent
   pub area : List ℕ
   pub transferRuns : List ℕ
   pub code : ℕ
@@ -35,8 +35,8 @@ pub record Case : Type 0 where
 
 right : Case → Bool
 right x =
-    let o = outcome (x .given) (areas (x .area) (x .transferRuns)) in
-    (eqb (answerOf (o .answer) .code) (x .code) && eqb (answerOf (o .answer) .value) (x .value)) && (same (o .areas .area) (x .areaOut) && same (o .areas .transferRuns) (x .runsOut))
+    let o = transfersOutcome (x .given) (transferAreas (x .area) (x .transferRuns)) in
+    (eqb (transfersAnswer (o .answer) .code) (x .code) && eqb (transfersAnswer (o .answer) .value) (x .value)) && (same (o .areas .area) (x .areaOut) && same (o .areas .transferRuns) (x .runsOut))
 
 pub all : List Case → Bool
 all [] = true
@@ -56,8 +56,8 @@ countsK : Counts
 countsK = record { stops = 3; trips = 3; times = 8; windows = 0; edges = 0 }
 
 -- lines 0, 0, 1; the departures of stop 0 (T1, T0), of stop 1 (T2, T1, T0), of stop 2 none
-K : ℕ → ℕ → ℕ → Lent
-K second dropOff time = lent (tableK second dropOff) countsK 2 (0 ∷ 0 ∷ 1 ∷ []) 5 (0 ∷ 2 ∷ 2 ∷ 3 ∷ 5 ∷ 0 ∷ []) (1 ∷ 0 ∷ 0 ∷ 0 ∷ 2 ∷ 0 ∷ 1 ∷ 1 ∷ 0 ∷ 1 ∷ []) time
+K : ℕ → ℕ → ℕ → TransferLent
+K second dropOff time = transferLent (tableK second dropOff) countsK 2 (0 ∷ 0 ∷ 1 ∷ []) 5 (0 ∷ 2 ∷ 2 ∷ 3 ∷ 5 ∷ 0 ∷ []) (1 ∷ 0 ∷ 0 ∷ 0 ∷ 2 ∷ 0 ∷ 1 ∷ 1 ∷ 0 ∷ 1 ∷ []) time
 
 -- sixteen words, all 9; and no transfer in eight events, the first transfer in the second event
 nines : List ℕ
@@ -80,12 +80,12 @@ tableL =
     ∷ 0 ∷ 2 ∷ 0 ∷ 0 ∷ 0 ∷ 0 ∷ 1 ∷ 0 ∷ 2 ∷ 2 ∷ 0 ∷ 0 ∷ 0 ∷ 0 ∷ 1 ∷ 0 ∷ 4 ∷ 2 ∷ 0 ∷ 0 ∷ 0 ∷ 0 ∷ 1 ∷ 0
     ∷ 0 ∷ 0 ∷ []
 
-L : Lent
-L = lent tableL (record { stops = 2; trips = 3; times = 6; windows = 0; edges = 0 }) 2 (1 ∷ 1 ∷ 0 ∷ []) 3 (0 ∷ 0 ∷ 0 ∷ 3 ∷ []) (2 ∷ 1 ∷ 1 ∷ 1 ∷ 0 ∷ 1 ∷ []) 120
+L : TransferLent
+L = transferLent tableL (record { stops = 2; trips = 3; times = 6; windows = 0; edges = 0 }) 2 (1 ∷ 1 ∷ 0 ∷ []) 3 (0 ∷ 0 ∷ 0 ∷ 3 ∷ []) (2 ∷ 1 ∷ 1 ∷ 1 ∷ 0 ∷ 1 ∷ []) 120
 
 -- the same with one line: T1 and T2 depart at 240, T2 listed first; from 231 on it is T2, also for T0 were it not T0's own
-oneLine : Lent
-oneLine = lent tableL (record { stops = 2; trips = 3; times = 6; windows = 0; edges = 0 }) 1 (0 ∷ 0 ∷ 0 ∷ []) 3 (0 ∷ 0 ∷ 0 ∷ 3 ∷ []) (2 ∷ 1 ∷ 1 ∷ 1 ∷ 0 ∷ 1 ∷ []) 121
+oneLine : TransferLent
+oneLine = transferLent tableL (record { stops = 2; trips = 3; times = 6; windows = 0; edges = 0 }) 1 (0 ∷ 0 ∷ 0 ∷ []) 3 (0 ∷ 0 ∷ 0 ∷ 3 ∷ []) (2 ∷ 1 ∷ 1 ∷ 1 ∷ 0 ∷ 1 ∷ []) 121
 
 -- one trip from stop 0 to stop 1, and two walk edges, from stop 1 to 0, then from stop 0 to 1
 tableW : List ℕ
@@ -95,8 +95,8 @@ tableW =
     ∷ 1 ∷ 0 ∷ 60 ∷ 0 ∷ 0 ∷ 0 ∷ 1 ∷ 70 ∷ 0 ∷ 0
     ∷ 0 ∷ 0 ∷ []
 
-walked : Lent
-walked = lent tableW (record { stops = 2; trips = 1; times = 2; windows = 0; edges = 2 }) 1 (0 ∷ []) 1 (0 ∷ 1 ∷ 1 ∷ 0 ∷ []) (0 ∷ 0 ∷ []) 120
+walked : TransferLent
+walked = transferLent tableW (record { stops = 2; trips = 1; times = 2; windows = 0; edges = 2 }) 1 (0 ∷ []) 1 (0 ∷ 1 ∷ 1 ∷ 0 ∷ []) (0 ∷ 0 ∷ []) 120
 
 twelve : List ℕ
 twelve = 9 ∷ 9 ∷ 9 ∷ 9 ∷ 9 ∷ 9 ∷ 9 ∷ 9 ∷ 9 ∷ 9 ∷ 9 ∷ 9 ∷ []
@@ -132,5 +132,5 @@ cases =
     ∷ []
 
 pub cases-right : all cases ≡ true
-unfolding countsOk slicesOk runsOk numbersOk rangesOk orderOk edgeRises tripRuns stopTimeNumbers edgeNumbers stopTimeRanges tripRanges windowRanges edgeRanges timeOf tripOf windowOf edgeOf every tabFrom insertBy sortBy keep flatten stopRunsOk runIn listedOk rowsOk rowNumbers atStopsOk stopRowsOk rowAtStop departuresOfLine firstNotBefore transferTo transfersOf eventsOf eventsBefore wordsOf runsFrom sizesOk linesOk question1 question2 question3 question4 question5 question6 verdict roomOk areaWith settled all cases right K countsK tableK nines same oneRun noRuns L tableL twelve oneLine walked tableW
+unfolding countsOk slicesOk runsOk numbersOk rangesOk orderOk edgeRises tripRuns stopTimeNumbers edgeNumbers stopTimeRanges tripRanges windowRanges edgeRanges timeOf tripOf windowOf edgeOf every tabFrom insertBy sortBy keep flatten stopRunsOk runIn listedOk rowsOk rowNumbers atStopsOk stopRowsOk rowAtStop departuresOfLine firstNotBefore transferTo transfersOf eventsOf eventsBefore transferWords runsFrom transferSizesOk linesOk transfersQuestion1 transfersQuestion2 transfersQuestion3 transfersQuestion4 transfersQuestion5 transfersQuestion6 transfersVerdict roomOk areaWith transfersSettled all cases right K countsK tableK nines same oneRun noRuns L tableL twelve oneLine walked tableW
 cases-right = refl

@@ -15,7 +15,7 @@ use Rattle.sorts.specs.Sort.{insertBy, sortBy}
 use Rattle.sorts.specs.Orders.{All, Rising, cons, keep, nil}
 use Rattle.sorts.proofs.Orders.{sort-rising, sort-stable}
 use Rattle.sorts.proofs.Places.{rising-all, rising-tail}
-use Rattle.line_transfers.proofs.Lists.{all-append, all-imp, keep-append, keep-every, keep-none-of}
+use Rattle.event_transfers.proofs.Lists.{all-append, all-imp, keep-append, keep-every, keep-none-of}
 
 module _ {A : Type 0} where
   -- every element is one of the list

@@ -21,9 +21,9 @@ use Rattle.departures.specs.declared.DepartureRow.{DepartureRow}
 use Rattle.departures.specs.Departures.{rowDeparture, runAt, runFirst}
 use Rattle.departures.proofs.All.{all-tab}
 use Rattle.transfers_call.specs.declared.Built.the-variants.{Refused, Rows}
-use Rattle.line_transfers.specs.Transfers.{Input, Transfer, allTransfers, builtTransfers, departuresOfLine, eventsBefore, eventsOf, firstNotBefore, runsFrom, transferAt, transferTo, transfersAt, transfersOf, wordsOf}
-use Rattle.transfers_call.specs.Call.{Admitted, Areas, Lent, Outcome, areaWith, inputOf, outcome, outcomeOf, roomOk, settle, settled, verdict, written}
-use Rattle.line_transfers.proofs.Lists.{all-both, all-flatten, all-imp, all-keep, all-kept, all-take, length-keep}
+use Rattle.event_transfers.specs.Transfers.{Input, Transfer, allTransfers, builtTransfers, departuresOfLine, eventsBefore, eventsOf, firstNotBefore, runsFrom, transferAt, transferTo, transfersAt, transfersOf, transferWords}
+use Rattle.transfers_call.specs.Call.{TransfersAdmitted, TransferAreas, TransferLent, TransfersOutcome, areaWith, inputOf, transfersOutcome, transfersOutcomeOf, roomOk, transfersSettle, transfersSettled, transfersVerdict, written}
+use Rattle.event_transfers.proofs.Lists.{all-both, all-flatten, all-imp, all-keep, all-kept, all-take, length-keep}
 use Rattle.transfers_call.proofs.Firsts.{Climbs, Earliest, all-members, climbs, earliest, none, picked}
 use Rattle.transfers_call.proofs.Asking.{admitted}
 use Rattle.transfers_call.proofs.Written.{Room, events-length, room-yes}
@@ -236,32 +236,32 @@ run-inside (l ∷ ls) zero h = omega (arith, length-append l (flatten ls))
 run-inside (l ∷ ls) (suc e) h = omega (arith, run-inside ls e (omega arith), length-append l (flatten ls), length-append l (flatten (take e ls)))
 
 -- TRANSFER k of the area is transfer k of all
-pub length-words : (l : List Transfer) → length (wordsOf l) ≡ length l * 4
-unfolding wordsOf
+pub length-words : (l : List Transfer) → length (transferWords l) ≡ length l * 4
+unfolding transferWords
 length-words [] = refl
 length-words (r ∷ l) = omega (arith, length-words l)
 
-words-at : (l : List Transfer) (d : Transfer) (k j : ℕ) → k < length l → getD (wordsOf l) (k * 4 + j) 0 ≡ getD (wordsOf (getD l k d ∷ drop (suc k) l)) j 0
-unfolding wordsOf
+words-at : (l : List Transfer) (d : Transfer) (k j : ℕ) → k < length l → getD (transferWords l) (k * 4 + j) 0 ≡ getD (transferWords (getD l k d ∷ drop (suc k) l)) j 0
+unfolding transferWords
 words-at [] d k j h = absurd (omega arith)
-words-at (r ∷ l) d zero j h = let z : 0 * 4 + j ≡ j = omega arith in ap (λ (i : ℕ). getD (r .target ∷ r .offset ∷ r .time ∷ r .pattern ∷ wordsOf l) i 0) z
+words-at (r ∷ l) d zero j h = let z : 0 * 4 + j ≡ j = omega arith in ap (λ (i : ℕ). getD (r .target ∷ r .offset ∷ r .time ∷ r .pattern ∷ transferWords l) i 0) z
 words-at (r ∷ l) d (suc k) j h =
     let z : suc k * 4 + j ≡ suc (suc (suc (suc (k * 4 + j)))) = omega arith in
-    ap (λ (i : ℕ). getD (r .target ∷ r .offset ∷ r .time ∷ r .pattern ∷ wordsOf l) i 0) z ∙ words-at l d k j (omega arith)
+    ap (λ (i : ℕ). getD (r .target ∷ r .offset ∷ r .time ∷ r .pattern ∷ transferWords l) i 0) z ∙ words-at l d k j (omega arith)
 
 pub area-words : (x : Input) (area : List ℕ) (d : Transfer) (k : ℕ) → k < length (allTransfers x) → transferAt (areaWith x area) k ≡ getD (allTransfers x) k d
-unfolding areaWith wordsOf
+unfolding areaWith transferWords
 area-words x area d k h =
     let z : k * 4 ≡ k * 4 + 0 = omega arith in
-    let a = ap (λ (i : ℕ). getD (wordsOf (allTransfers x) ++ drop (length (allTransfers x) * 4) area) i 0) z ∙ word 0 (omega arith) in
+    let a = ap (λ (i : ℕ). getD (transferWords (allTransfers x) ++ drop (length (allTransfers x) * 4) area) i 0) z ∙ word 0 (omega arith) in
     let b = word 1 (omega arith) in
     let e = word 2 (omega arith) in
     let f = word 3 (omega arith) in
     simp (a, b, e, f)
   where
-    word : (j : ℕ) → j < 4 → getD (wordsOf (allTransfers x) ++ drop (length (allTransfers x) * 4) area) (k * 4 + j) 0 ≡ getD (wordsOf (getD (allTransfers x) k d ∷ drop (suc k) (allTransfers x))) j 0
+    word : (j : ℕ) → j < 4 → getD (transferWords (allTransfers x) ++ drop (length (allTransfers x) * 4) area) (k * 4 + j) 0 ≡ getD (transferWords (getD (allTransfers x) k d ∷ drop (suc k) (allTransfers x))) j 0
     word j u =
-        List·getD-append (wordsOf (allTransfers x)) (drop (length (allTransfers x) * 4) area) 0 (k * 4 + j) (omega (arith, length-words (allTransfers x)))
+        List·getD-append (transferWords (allTransfers x)) (drop (length (allTransfers x) * 4) area) 0 (k * 4 + j) (omega (arith, length-words (allTransfers x)))
         ∙ words-at (allTransfers x) d k j h
 
 -- THE AREA past the last transfer keeps its words, and its length
@@ -269,17 +269,17 @@ pub area-kept : (x : Input) (area : List ℕ) (i : ℕ) → length (allTransfers
 unfolding areaWith
 area-kept x area i h =
     let m = length-words (allTransfers x) in
-    let z : i ≡ length (wordsOf (allTransfers x)) + (i - length (allTransfers x) * 4) = omega arith in
+    let z : i ≡ length (transferWords (allTransfers x)) + (i - length (allTransfers x) * 4) = omega arith in
     let y : length (allTransfers x) * 4 + (i - length (allTransfers x) * 4) ≡ i = omega arith in
-    ap (λ (j : ℕ). getD (wordsOf (allTransfers x) ++ drop (length (allTransfers x) * 4) area) j 0) z
-    ∙ getD-append-add (wordsOf (allTransfers x)) (drop (length (allTransfers x) * 4) area) (i - length (allTransfers x) * 4) 0
+    ap (λ (j : ℕ). getD (transferWords (allTransfers x) ++ drop (length (allTransfers x) * 4) area) j 0) z
+    ∙ getD-append-add (transferWords (allTransfers x)) (drop (length (allTransfers x) * 4) area) (i - length (allTransfers x) * 4) 0
     ∙ getD-drop (length (allTransfers x) * 4) area (i - length (allTransfers x) * 4) 0
     ∙ ap (λ (j : ℕ). getD area j 0) y
 
 pub area-length : (x : Input) (area : List ℕ) → length (allTransfers x) * 4 ≤ length area → length (areaWith x area) ≡ length area
 unfolding areaWith
 area-length x area h =
-    omega (arith, length-append (wordsOf (allTransfers x)) (drop (length (allTransfers x) * 4) area), length-words (allTransfers x), length-drop (length (allTransfers x) * 4) area)
+    omega (arith, length-append (transferWords (allTransfers x)) (drop (length (allTransfers x) * 4) area), length-words (allTransfers x), length-drop (length (allTransfers x) * 4) area)
 
 -- AN EVENT'S RUN, read out of the area, is its transfers
 read-part : {A : Type 0} (l : List A) (d : A) (f : ℕ → A) (a n : ℕ) → a + n ≤ length l → ((k : ℕ) → k < n → f k ≡ getD l (a + k) d) → tab f n ≡ take n (drop a l)
@@ -305,18 +305,18 @@ run-transfers x area trip off h k =
     ∙ event-number x trip off h k
 
 -- THE OUTCOME. Answered: the questions' facts hold, the transfers are counted, they fit, and they are written.
-pub record Answered (x : Lent) (s : Areas) (n : ℕ) : Type 0 where
-  pub facts : Admitted x (length (s .transferRuns))
+pub record Answered (x : TransferLent) (s : TransferAreas) (n : ℕ) : Type 0 where
+  pub facts : TransfersAdmitted x (length (s .transferRuns))
   pub counted : n ≡ length (allTransfers (inputOf x))
   pub room : Room (length (allTransfers (inputOf x))) (length (s .area))
-  pub areas : outcome x s .areas ≡ written (inputOf x) s
+  pub areas : transfersOutcome x s .areas ≡ written (inputOf x) s
 
-answered-by : (x : Lent) (s : Areas) (n v : ℕ) → verdict x (length (s .transferRuns)) ≡ v → settle v (inputOf x) s .answer ≡ Rows n → Answered x s n
-unfolding settled
+answered-by : (x : TransferLent) (s : TransferAreas) (n v : ℕ) → transfersVerdict x (length (s .transferRuns)) ≡ v → transfersSettle v (inputOf x) s .answer ≡ Rows n → Answered x s n
+unfolding transfersSettled
 answered-by x s n zero e h = go (roomOk (length (allTransfers (inputOf x))) (length (s .area))) refl
   where
-    picks : Bool → Outcome
-    picks b = cond b (outcomeOf (Rows (length (allTransfers (inputOf x)))) (written (inputOf x) s)) (outcomeOf (Refused 7) s)
+    picks : Bool → TransfersOutcome
+    picks b = cond b (transfersOutcomeOf (Rows (length (allTransfers (inputOf x)))) (written (inputOf x) s)) (transfersOutcomeOf (Refused 7) s)
 
     go : (b : Bool) → roomOk (length (allTransfers (inputOf x))) (length (s .area)) ≡ b → Answered x s n
     go true q =
@@ -326,7 +326,7 @@ answered-by x s n zero e h = go (roomOk (length (allTransfers (inputOf x))) (len
           facts = admitted x (length (s .transferRuns)) e;
           counted = sym y;
           room = room-yes (length (allTransfers (inputOf x))) (length (s .area)) q;
-          areas = ap (λ (v : ℕ). settle v (inputOf x) s .areas) e ∙ ap (λ (b : Bool). picks b .areas) q;
+          areas = ap (λ (v : ℕ). transfersSettle v (inputOf x) s .areas) e ∙ ap (λ (b : Bool). picks b .areas) q;
         }
     go false q =
         let z : Refused 7 ≡ Rows n = sym (ap (λ (b : Bool). picks b .answer) q) ∙ h in
@@ -335,12 +335,12 @@ answered-by x s n zero e h = go (roomOk (length (allTransfers (inputOf x))) (len
 answered-by x s n (suc v) e h = let y : _≡_ {A = ℕ} 0 1 = cc in absurd (omega arith)
 
 -- refused: both slices are as they came
-refused-by : (x : Input) (s : Areas) (n v : ℕ) → settle v x s .answer ≡ Refused n → settle v x s .areas ≡ s
-unfolding settled
+refused-by : (x : Input) (s : TransferAreas) (n v : ℕ) → transfersSettle v x s .answer ≡ Refused n → transfersSettle v x s .areas ≡ s
+unfolding transfersSettled
 refused-by x s n zero h = go (roomOk (length (allTransfers x)) (length (s .area))) refl
   where
-    picks : Bool → Outcome
-    picks b = cond b (outcomeOf (Rows (length (allTransfers x))) (written x s)) (outcomeOf (Refused 7) s)
+    picks : Bool → TransfersOutcome
+    picks b = cond b (transfersOutcomeOf (Rows (length (allTransfers x))) (written x s)) (transfersOutcomeOf (Refused 7) s)
 
     go : (b : Bool) → roomOk (length (allTransfers x)) (length (s .area)) ≡ b → picks (roomOk (length (allTransfers x)) (length (s .area))) .areas ≡ s
     go true q =
@@ -350,16 +350,16 @@ refused-by x s n zero h = go (roomOk (length (allTransfers x)) (length (s .area)
     go false q = ap (λ (b : Bool). picks b .areas) q
 refused-by x s n (suc v) h = refl
 
-module _ (x : Lent) (s : Areas) (n : ℕ) where
-  pub answered : outcome x s .answer ≡ Rows n → Answered x s n
-  answered h = answered-by x s n (verdict x (length (s .transferRuns))) refl h
+module _ (x : TransferLent) (s : TransferAreas) (n : ℕ) where
+  pub answered : transfersOutcome x s .answer ≡ Rows n → Answered x s n
+  answered h = answered-by x s n (transfersVerdict x (length (s .transferRuns))) refl h
 
-  pub refused-kept : outcome x s .answer ≡ Refused n → outcome x s .areas ≡ s
-  refused-kept h = refused-by (inputOf x) s n (verdict x (length (s .transferRuns))) h
+  pub refused-kept : transfersOutcome x s .answer ≡ Refused n → transfersOutcome x s .areas ≡ s
+  refused-kept h = refused-by (inputOf x) s n (transfersVerdict x (length (s .transferRuns))) h
 
   -- AFTER A SUCCESS the run and the area say of every event its transfers
-  pub answered-transfers : outcome x s .answer ≡ Rows n → (trip off : ℕ) → trip < x .c .trips → off < countOf (x .t) (x .c) trip
-      → transfersAt (outcome x s .areas .area) (runAt (outcome x s .areas .transferRuns) (eventsBefore (timetable (x .t) (x .c)) trip + off)) ≡ builtTransfers (inputOf x) trip off
+  pub answered-transfers : transfersOutcome x s .answer ≡ Rows n → (trip off : ℕ) → trip < x .c .trips → off < countOf (x .t) (x .c) trip
+      → transfersAt (transfersOutcome x s .areas .area) (runAt (transfersOutcome x s .areas .transferRuns) (eventsBefore (timetable (x .t) (x .c)) trip + off)) ≡ builtTransfers (inputOf x) trip off
   answered-transfers h trip off u v =
-      ap (λ (a : Areas). transfersAt (a .area) (runAt (a .transferRuns) (eventsBefore (timetable (x .t) (x .c)) trip + off))) (answered h .areas)
+      ap (λ (a : TransferAreas). transfersAt (a .area) (runAt (a .transferRuns) (eventsBefore (timetable (x .t) (x .c)) trip + off))) (answered h .areas)
       ∙ run-transfers (inputOf x) (s .area) trip off u v

@@ -17,14 +17,14 @@ use Rattle.sorts.proofs.Places.{sort-keep}
 use Rattle.tables.specs.Timetable.{Timetable, timeAt}
 use Rattle.tables.specs.Tables.{arrivalOf, countOf, firstOf, stopOf}
 use Rattle.departures.specs.declared.DepartureRow.{DepartureRow}
-use Rattle.departures.specs.Departures.{listedAt, rowDeparture, sorted}
+use Rattle.departures.specs.Departures.{listedAt, rowDeparture, byDeparture}
 use Rattle.departures.specs.Packed.{unTrip}
 use Rattle.departures.proofs.All.{all-tab}
-use Rattle.line_transfers.specs.Transfers.{Input, allTransfers, builtTransfers, departuresOfLine, eventsOf, firstNotBefore, transferOf, transferTo, transfersOf}
-use Rattle.line_transfers.specs.Packed.{Prepared, alightKeys, allKeys, depX, eventKeys, lineX, prepared, targets, toGroup}
-use Rattle.transfers_call.specs.Call.{Admitted, Lent, inputOf}
-use Rattle.line_transfers.proofs.Lists.{all-flatten, all-imp, all-kept, all-take, flatten-map, flatten-up-to, keep-map, keep-none-of, map-take}
-use Rattle.line_transfers.proofs.Grouping.{line-hi}
+use Rattle.event_transfers.specs.Transfers.{Input, allTransfers, builtTransfers, departuresOfLine, eventsOf, firstNotBefore, transferOf, transferTo, transfersOf}
+use Rattle.event_transfers.specs.Packed.{Prepared, alightKeys, allKeys, depX, eventKeys, lineX, prepared, targets, toGroup}
+use Rattle.transfers_call.specs.Call.{TransfersAdmitted, TransferLent, inputOf}
+use Rattle.event_transfers.proofs.Lists.{all-flatten, all-imp, all-kept, all-take, flatten-map, flatten-up-to, keep-map, keep-none-of, map-take}
+use Rattle.event_transfers.proofs.Grouping.{line-hi}
 use Rattle.transfers_call.proofs.Packing.{pack-departure, pack-line, pack-trip}
 use Rattle.transfers_call.proofs.Runs.{RowFits, packOf, rows-fit, run-is, workOf}
 use Rattle.event_transfers.proofs.Events.{event-time}
@@ -39,12 +39,12 @@ same-order l a b p q = go (leb (depX a) (depX b)) refl
 
 -- the transfer to a line, of the rows listed at a stop
 abbrev pub lineRows : Input → List DepartureRow → ℕ → List DepartureRow
-lineRows y rows l = sorted (y .timetable) (keep (λ r. eqb (y .lineOf (r .trip)) l) rows)
+lineRows y rows l = byDeparture (y .timetable) (keep (λ r. eqb (y .lineOf (r .trip)) l) rows)
 
 abbrev pub toLineOf : Input → List DepartureRow → ℕ → ℕ → ℕ → List DepartureRow
 toLineOf y rows ti w l = keep (λ r. not (eqb (r .trip) ti)) (take 1 (keep (λ r. leb w (rowDeparture (y .timetable) r)) (lineRows y rows l)))
 
-nothing : (T : Timetable) (ti w : ℕ) → keep (λ r. not (eqb (r .trip) ti)) (take 1 (keep (λ r. leb w (rowDeparture T r)) (sorted T []))) ≡ []
+nothing : (T : Timetable) (ti w : ℕ) → keep (λ r. not (eqb (r .trip) ti)) (take 1 (keep (λ r. leb w (rowDeparture T r)) (byDeparture T []))) ≡ []
 unfolding keep sortBy
 nothing T ti w = refl
 
@@ -64,7 +64,7 @@ events-are y =
 pub all-are : (y : Input) → allTransfers y ≡ map (transferOf (y .time)) (flatten (rowEvents y))
 all-are y = ap flatten (events-are y) ∙ flatten-map (transferOf (y .time)) (rowEvents y)
 
-module _ (x : Lent) (rows : List DepartureRow) (f : All (RowFits x) rows) where
+module _ (x : TransferLent) (rows : List DepartureRow) (f : All (RowFits x) rows) where
   kept : (l : ℕ) → All (RowFits x) (keep (λ r. eqb (inputOf x .lineOf (r .trip)) l) rows)
   kept l = all-kept (RowFits x) (λ r. eqb (inputOf x .lineOf (r .trip)) l) rows f
 
@@ -117,14 +117,14 @@ module _ (x : Lent) (rows : List DepartureRow) (f : All (RowFits x) rows) where
           ∙ nothing (inputOf x .timetable) ti w
 
 -- an event's, a trip's, all of them
-abbrev pub preparedOf : Lent → Prepared
+abbrev pub preparedOf : TransferLent → Prepared
 preparedOf x = prepared (x .t) (x .c) (x .runs) (workOf x) (x .time)
 
 cond-map : {A B : Type 0} (f : A → B) (b : Bool) (l : List A) → cond b [] (map f l) ≡ map f (cond b [] l)
 cond-map f true l = refl
 cond-map f false l = refl
 
-module _ (x : Lent) (n : ℕ) (a : Admitted x n) where
+module _ (x : TransferLent) (n : ℕ) (a : TransfersAdmitted x n) where
   pub event-stop : (ti off : ℕ) → ti < x .c .trips → off < countOf (x .t) (x .c) ti → stopOf (x .t) (x .c) ti off < x .c .stops
   event-stop ti off h k = a .sane .numbers .stop (firstOf (x .t) (x .c) ti + off) (event-time (x .t) (x .c) ti off (firstOf (x .t) (x .c) ti) (a .sane) h k refl)
 
@@ -177,5 +177,5 @@ events-all y P h =
     (all-tab (All (All P)) (λ ti. tab (transfersOf y ti) (y .timetable .trip ti .count)) 0 (y .timetable .trips)
     (λ ti u v. all-tab (All P) (transfersOf y ti) 0 (y .timetable .trip ti .count) (λ off p q. h ti off (omega arith) (omega arith)))))
 
-pub transfers-fit : (x : Lent) (n : ℕ) → Admitted x n → All (RowFits x) (flatten (rowEvents (inputOf x)))
+pub transfers-fit : (x : TransferLent) (n : ℕ) → TransfersAdmitted x n → All (RowFits x) (flatten (rowEvents (inputOf x)))
 transfers-fit x n a = events-all (inputOf x) (RowFits x) (λ ti off h k. transfers-all (inputOf x) (RowFits x) ti off (rows-fit x n a (stopOf (x .t) (x .c) ti off) (event-stop x n a ti off h k)))

@@ -14,7 +14,7 @@ use Rattle.departures.specs.Departures.{rowDeparture}
 use Rattle.departures.specs.Listed.{RowKnown}
 use Rattle.departures.specs.Packed.{unTrip, unOffset}
 use Rattle.departures.proofs.Parts.{row-time, row-offset}
-use Rattle.line_transfers.specs.Packed.{packLine, lineX, depX}
+use Rattle.event_transfers.specs.Packed.{packLine, lineX, depX}
 
 -- the number of a known row
 pub record Fits (t : List ℕ) (c : Counts) (r : DepartureRow) : Type 0 where

@@ -19,28 +19,28 @@ use Rattle.departures.proofs.Flat.{listed-slice}
 use Rattle.departures.proofs.Laws.{stops-apart}
 use Rattle.departures.proofs.Parts.{stop-known}
 use Rattle.departures.proofs.All.{all-tab}
-use Rattle.line_transfers.specs.Packed.{Keys, Lines, SortedRuns, lineX, packLine, packedAt}
-use Rattle.transfers_call.specs.Call.{Admitted, Lent, inputOf}
-use Rattle.line_transfers.proofs.Lists.{all-imp, all-map, map-slice, rising-at}
+use Rattle.event_transfers.specs.Packed.{Keys, Lines, SortedRuns, lineX, packLine, packedLineAt}
+use Rattle.transfers_call.specs.Call.{TransfersAdmitted, TransferLent, inputOf}
+use Rattle.event_transfers.proofs.Lists.{all-imp, all-map, map-slice, rising-at}
 use Rattle.transfers_call.proofs.Packing.{Fits, pack-line, row-fits}
 
-abbrev pub packOf : Lent → DepartureRow → ℕ
+abbrev pub packOf : TransferLent → DepartureRow → ℕ
 packOf x = packLine (x .t) (x .c) (x .lines)
 
-abbrev pub numbersOf : Lent → List ℕ
-numbersOf x = tab (packedAt (x .t) (x .c) (x .lines) (x .rows)) (x .d)
+abbrev pub numbersOf : TransferLent → List ℕ
+numbersOf x = tab (packedLineAt (x .t) (x .c) (x .lines) (x .rows)) (x .d)
 
-abbrev pub workOf : Lent → List ℕ
+abbrev pub workOf : TransferLent → List ℕ
 workOf x = sortStops hi (x .runs) (x .c .stops) (numbersOf x)
 
 -- what is known of a listed row
-pub record RowFits (x : Lent) (r : DepartureRow) : Type 0 where
+pub record RowFits (x : TransferLent) (r : DepartureRow) : Type 0 where
   pub fits : Fits (x .t) (x .c) r
   pub line : inputOf x .lineOf (r .trip) < x .lineCount
 
-module _ (x : Lent) (n : ℕ) (a : Admitted x n) where
+module _ (x : TransferLent) (n : ℕ) (a : TransfersAdmitted x n) where
   size : length (numbersOf x) ≡ x .d
-  size = length-tabFrom (packedAt (x .t) (x .c) (x .lines) (x .rows)) 0 (x .d)
+  size = length-tabFrom (packedLineAt (x .t) (x .c) (x .lines) (x .rows)) 0 (x .d)
 
   apart : Apart (x .runs) (x .c .stops) (length (numbersOf x))
   apart = record { inside = λ s h. omega (arith, size, a .listed .stops .run s h); apart = stops-apart (x .t) (x .c) (x .runs) (x .rows) (x .d) (a .listed) }

@@ -17,20 +17,20 @@ use Rattle.tables.specs.Timetable.{Timetable}
 use Rattle.departures.specs.declared.DepartureRow.{DepartureRow}
 use Rattle.departures.specs.Departures.{sortStops}
 use Rattle.transfers_call.specs.declared.Built.the-variants.{Refused, Rows}
-use Rattle.line_transfers.specs.Transfers.{Input, allTransfers, builtTransfers, eventsBefore, eventsOf, runsFrom, transferOf, wordsOf}
-use Rattle.line_transfers.specs.Packed.{AreaSoFar, Lines, Most, Prepared, SortedRuns, Walk, allKeys, layEvents, prepared, walk}
+use Rattle.event_transfers.specs.Transfers.{Input, allTransfers, builtTransfers, eventsBefore, eventsOf, runsFrom, transferOf, transferWords}
+use Rattle.event_transfers.specs.Packed.{AreaSoFar, Lines, Most, Prepared, SortedRuns, AreaWalk, allKeys, layEvents, prepared, areaWalk}
 use Rattle.transfers_call.specs.Settled.{settledKeys, walkAreas}
-use Rattle.transfers_call.specs.Call.{Admitted, Areas, Lent, Outcome, areaWith, areas, inputOf, outcomeOf, roomOk, settled, written}
-use Rattle.line_transfers.proofs.Lists.{flatten-map, length-map, within-is}
+use Rattle.transfers_call.specs.Call.{TransfersAdmitted, TransferAreas, TransferLent, TransfersOutcome, areaWith, transferAreas, inputOf, transfersOutcomeOf, roomOk, transfersSettled, written}
+use Rattle.event_transfers.proofs.Lists.{flatten-map, length-map, within-is}
 use Rattle.event_transfers.proofs.Events.{total-is}
-use Rattle.line_transfers.proofs.Laying.{events-laid, events-runs, keyWords, lay-area}
+use Rattle.event_transfers.proofs.Laying.{events-laid, events-runs, keyWords, lay-area}
 use Rattle.transfers_call.proofs.Packing.{pack-offset, pack-trip}
 use Rattle.transfers_call.proofs.Runs.{RowFits, numbersOf, packOf, sorted-runs, workOf}
 use Rattle.transfers_call.proofs.Meaning.{all-keys, events-are, preparedOf, rowEvents, all-are, transfers-fit}
 
 -- the words and the runs of numbers
-words-are : (x : Lent) (l : List DepartureRow) → All (RowFits x) l → keyWords (x .time) (map (packOf x) l) ≡ wordsOf (map (transferOf (x .time)) l)
-unfolding keyWords wordsOf
+words-are : (x : TransferLent) (l : List DepartureRow) → All (RowFits x) l → keyWords (x .time) (map (packOf x) l) ≡ transferWords (map (transferOf (x .time)) l)
+unfolding keyWords transferWords
 words-are x [] nil = refl
 words-are x (r ∷ l) (cons k a) =
     ap₂ _∷_ (pack-trip (x .t) (x .c) (x .lines) r (k .fits))
@@ -86,7 +86,7 @@ unfolding roomOk
 yes-room n area h k = ap₂ _&&_ (le-leb n 65536 h) (le-leb (n * 4) area k)
 
 -- THE OUTCOME of an admitted call
-module _ (x : Lent) (s : Areas) (a : Admitted x (length (s .transferRuns))) where
+module _ (x : TransferLent) (s : TransferAreas) (a : TransfersAdmitted x (length (s .transferRuns))) where
   keys : allKeys (preparedOf x) ≡ map (map (packOf x)) (rowEvents (inputOf x))
   keys = all-keys x (length (s .transferRuns)) a
 
@@ -102,77 +102,77 @@ module _ (x : Lent) (s : Areas) (a : Admitted x (length (s .transferRuns))) wher
   events =
       omega (arith, ap length keys ∙ length-map (map (packOf x)) (rowEvents (inputOf x)), ap length (events-are (inputOf x)) ∙ length-map (map (transferOf (x .time))) (rowEvents (inputOf x)), events-length (inputOf x), a .events)
 
-  area-is : length (allTransfers (inputOf x)) ≤ 65536 → length (allTransfers (inputOf x)) * 4 ≤ length (s .area) → layEvents (x .time) 0 (allKeys (preparedOf x)) (walk 0 (s .area) (s .transferRuns)) .area ≡ areaWith (inputOf x) (s .area)
+  area-is : length (allTransfers (inputOf x)) ≤ 65536 → length (allTransfers (inputOf x)) * 4 ≤ length (s .area) → layEvents (x .time) 0 (allKeys (preparedOf x)) (areaWalk 0 (s .area) (s .transferRuns)) .area ≡ areaWith (inputOf x) (s .area)
   unfolding areaWith
   area-is few room =
       let e : (0 + length (flatten (allKeys (preparedOf x)))) * 4 ≡ length (allTransfers (inputOf x)) * 4 = omega (arith, counted) in
       ap (λ (w : AreaSoFar). w .area)
-      (events-laid (x .time) 0 (allKeys (preparedOf x)) (walk 0 (s .area) (s .transferRuns))
+      (events-laid (x .time) 0 (allKeys (preparedOf x)) (areaWalk 0 (s .area) (s .transferRuns))
       ∙ lay-area (x .time) (flatten (allKeys (preparedOf x))) 0 (s .area) (omega (arith, counted)) (omega (arith, counted)))
       ∙ within-is (0 * 4) ((0 + length (flatten (allKeys (preparedOf x)))) * 4) (keyWords (x .time) (flatten (allKeys (preparedOf x)))) (s .area)
       ∙ ap₂ (λ (l : List ℕ) (m : ℕ). l ++ drop m (s .area))
-      (ap (keyWords (x .time)) rows ∙ words-are x (flatten (rowEvents (inputOf x))) (transfers-fit x (length (s .transferRuns)) a) ∙ ap wordsOf (sym (all-are (inputOf x)))) e
+      (ap (keyWords (x .time)) rows ∙ words-are x (flatten (rowEvents (inputOf x))) (transfers-fit x (length (s .transferRuns)) a) ∙ ap transferWords (sym (all-are (inputOf x)))) e
 
-  runs-is : length (allTransfers (inputOf x)) ≤ 65536 → layEvents (x .time) 0 (allKeys (preparedOf x)) (walk 0 (s .area) (s .transferRuns)) .evs ≡ runsFrom 0 (eventsOf (inputOf x))
+  runs-is : length (allTransfers (inputOf x)) ≤ 65536 → layEvents (x .time) 0 (allKeys (preparedOf x)) (areaWalk 0 (s .area) (s .transferRuns)) .evs ≡ runsFrom 0 (eventsOf (inputOf x))
   runs-is few =
-      events-runs (x .time) 0 (allKeys (preparedOf x)) (walk 0 (s .area) (s .transferRuns)) (omega (arith, counted)) (omega (arith, events))
+      events-runs (x .time) 0 (allKeys (preparedOf x)) (areaWalk 0 (s .area) (s .transferRuns)) (omega (arith, counted)) (omega (arith, events))
       ∙ within-whole ((0 + length (allKeys (preparedOf x))) * 2) (runsFrom 0 (allKeys (preparedOf x))) (s .transferRuns) (omega (arith, events))
       ∙ ap (runsFrom 0) keys ∙ runs-are (packOf x) 0 (rowEvents (inputOf x)) ∙ sym (ap (runsFrom 0) (events-are (inputOf x)) ∙ runs-are (transferOf (x .time)) 0 (rowEvents (inputOf x)))
 
-  pub settled-is : settledKeys (preparedOf x) s ≡ settled (inputOf x) s
-  unfolding settledKeys settled
+  pub settled-is : settledKeys (preparedOf x) s ≡ transfersSettled (inputOf x) s
+  unfolding settledKeys transfersSettled
   settled-is = go (roomOk (length (allTransfers (inputOf x))) (length (s .area))) refl
     where
       asked : roomOk (min (length (flatten (allKeys (preparedOf x)))) 65537) (length (s .area)) ≡ roomOk (length (allTransfers (inputOf x))) (length (s .area))
       asked = ap (λ (n : ℕ). roomOk (min n 65537) (length (s .area))) counted ∙ room-capped (length (allTransfers (inputOf x))) (length (s .area))
 
-      keyed : Bool → Outcome
+      keyed : Bool → TransfersOutcome
       keyed b =
           cond b
-          (outcomeOf (Rows (min (length (flatten (allKeys (preparedOf x)))) 65537)) (walkAreas (layEvents (x .time) 0 (allKeys (preparedOf x)) (walk 0 (s .area) (s .transferRuns)))))
-          (outcomeOf (Refused 7) s)
+          (transfersOutcomeOf (Rows (min (length (flatten (allKeys (preparedOf x)))) 65537)) (walkAreas (layEvents (x .time) 0 (allKeys (preparedOf x)) (areaWalk 0 (s .area) (s .transferRuns)))))
+          (transfersOutcomeOf (Refused 7) s)
 
-      defined : Bool → Outcome
-      defined b = cond b (outcomeOf (Rows (length (allTransfers (inputOf x)))) (written (inputOf x) s)) (outcomeOf (Refused 7) s)
+      defined : Bool → TransfersOutcome
+      defined b = cond b (transfersOutcomeOf (Rows (length (allTransfers (inputOf x)))) (written (inputOf x) s)) (transfersOutcomeOf (Refused 7) s)
 
-      go : (b : Bool) → roomOk (length (allTransfers (inputOf x))) (length (s .area)) ≡ b → settledKeys (preparedOf x) s ≡ settled (inputOf x) s
+      go : (b : Bool) → roomOk (length (allTransfers (inputOf x))) (length (s .area)) ≡ b → settledKeys (preparedOf x) s ≡ transfersSettled (inputOf x) s
       go true e =
           let r = room-yes (length (allTransfers (inputOf x))) (length (s .area)) e in
           let n : min (length (flatten (allKeys (preparedOf x)))) 65537 ≡ length (allTransfers (inputOf x)) = omega (arith, counted, r .few) in
           ap keyed (asked ∙ e)
-          ∙ ap₂ outcomeOf (ap Rows n) (ap₂ areas (area-is (r .few) (r .space)) (runs-is (r .few)))
+          ∙ ap₂ transfersOutcomeOf (ap Rows n) (ap₂ transferAreas (area-is (r .few) (r .space)) (runs-is (r .few)))
           ∙ sym (ap defined e)
       go false e = ap keyed (asked ∙ e) ∙ sym (ap defined e)
 
 -- one step of the call: refused by 7, or written
-pub settle-no : (p : Prepared) (s : Areas) (n : ℕ) (b : Bool) → n ≡ min (length (flatten (allKeys p))) 65537 → b ≡ roomOk n (length (s .area)) → b ≡ false → outcomeOf (Refused 7) s ≡ settledKeys p s
+pub settle-no : (p : Prepared) (s : TransferAreas) (n : ℕ) (b : Bool) → n ≡ min (length (flatten (allKeys p))) 65537 → b ≡ roomOk n (length (s .area)) → b ≡ false → transfersOutcomeOf (Refused 7) s ≡ settledKeys p s
 unfolding settledKeys
 settle-no p s n b e f g =
     let z : roomOk (min (length (flatten (allKeys p))) 65537) (length (s .area)) ≡ false = ap (λ (m : ℕ). roomOk m (length (s .area))) (sym e) ∙ sym f ∙ g in
     simp z
 
-pub settle-yes : (p : Prepared) (s : Areas) (n m : ℕ) (b : Bool) (a' v' : List ℕ) → n ≡ min (length (flatten (allKeys p))) 65537 → b ≡ roomOk n (length (s .area)) → b ≡ true
-    → walk m a' v' ≡ layEvents (p .time) 0 (allKeys p) (walk 0 (s .area) (s .transferRuns)) → outcomeOf (Rows n) (areas a' v') ≡ settledKeys p s
+pub settle-yes : (p : Prepared) (s : TransferAreas) (n m : ℕ) (b : Bool) (a' v' : List ℕ) → n ≡ min (length (flatten (allKeys p))) 65537 → b ≡ roomOk n (length (s .area)) → b ≡ true
+    → areaWalk m a' v' ≡ layEvents (p .time) 0 (allKeys p) (areaWalk 0 (s .area) (s .transferRuns)) → transfersOutcomeOf (Rows n) (transferAreas a' v') ≡ settledKeys p s
 unfolding settledKeys
 settle-yes p s n m b a' v' e f g h =
     let z : roomOk (min (length (flatten (allKeys p))) 65537) (length (s .area)) ≡ true = ap (λ (m : ℕ). roomOk m (length (s .area))) (sym e) ∙ sym f ∙ g in
-    ap₂ (λ (k : ℕ) (w : Walk). outcomeOf (Rows k) (walkAreas w)) e h ∙ simp z
+    ap₂ (λ (k : ℕ) (w : AreaWalk). transfersOutcomeOf (Rows k) (walkAreas w)) e h ∙ simp z
 
 -- written at once, where there is room for no fewer
-pub settle-most : (p : Prepared) (s : Areas) (most m : ℕ) (b : Bool) (a' v' : List ℕ) → Most 0 (length (flatten (allKeys p))) most 0 → b ≡ roomOk most (length (s .area)) → b ≡ true
-    → walk m a' v' ≡ layEvents (p .time) 0 (allKeys p) (walk 0 (s .area) (s .transferRuns)) → outcomeOf (Rows m) (areas a' v') ≡ settledKeys p s
+pub settle-most : (p : Prepared) (s : TransferAreas) (most m : ℕ) (b : Bool) (a' v' : List ℕ) → Most 0 (length (flatten (allKeys p))) most 0 → b ≡ roomOk most (length (s .area)) → b ≡ true
+    → areaWalk m a' v' ≡ layEvents (p .time) 0 (allKeys p) (areaWalk 0 (s .area) (s .transferRuns)) → transfersOutcomeOf (Rows m) (transferAreas a' v') ≡ settledKeys p s
 settle-most p s most m b a' v' k f g h =
     let r = room-yes most (length (s .area)) (sym f ∙ g) in
     let t = total-is (p .time) (allKeys p) m a' (s .area) v' (s .transferRuns) h in
     settle-yes p s m m true a' v' t (sym (yes-room m (length (s .area)) (omega (arith, k .most (r .few), r .few)) (omega (arith, k .most (r .few), r .few, r .space)))) refl h
 
 -- the same, of the numbers as the code leaves them
-pub sorted-with : (x : Lent) (n : ℕ) → Admitted x n → (u w ends : List ℕ) → u ≡ numbersOf x → w ≡ sortStops hi (x .runs) (x .c .stops) u → Lines w ends → SortedRuns (x .c) (x .runs) w ends (x .d)
+pub sorted-with : (x : TransferLent) (n : ℕ) → TransfersAdmitted x n → (u w ends : List ℕ) → u ≡ numbersOf x → w ≡ sortStops hi (x .runs) (x .c .stops) u → Lines w ends → SortedRuns (x .c) (x .runs) w ends (x .d)
 sorted-with x n a u w ends p q l =
     let e : w ≡ workOf x = q ∙ ap (sortStops hi (x .runs) (x .c .stops)) p in
     rw e (sorted-runs x n a ends (rw e at l))
 
-pub settled-with : (x : Lent) (s : Areas) → Admitted x (length (s .transferRuns)) → (u w : List ℕ) → u ≡ numbersOf x → w ≡ sortStops hi (x .runs) (x .c .stops) u
-    → settledKeys (prepared (x .t) (x .c) (x .runs) w (x .time)) s ≡ settled (inputOf x) s
+pub settled-with : (x : TransferLent) (s : TransferAreas) → TransfersAdmitted x (length (s .transferRuns)) → (u w : List ℕ) → u ≡ numbersOf x → w ≡ sortStops hi (x .runs) (x .c .stops) u
+    → settledKeys (prepared (x .t) (x .c) (x .runs) w (x .time)) s ≡ transfersSettled (inputOf x) s
 settled-with x s a u w p q =
     ap (λ (v : List ℕ). settledKeys (prepared (x .t) (x .c) (x .runs) v (x .time)) s) (q ∙ ap (sortStops hi (x .runs) (x .c .stops)) p) ∙ settled-is x s a

@@ -12,9 +12,9 @@ ghost use Rattle.loops.specs.Count.{tab};
 ghost use Rattle.tables.specs.Door.{slicesOk};
 ghost use Rattle.tables.specs.Sane.{CountsOk, SlicesOk, Sane};
 ghost use Rattle.departures.specs.Listed.{RunsListed, RowKnown, RowsKnown};
-ghost use Rattle.line_transfers.specs.Packed.{packLine, packedAt, prepared, SortedRuns};
+ghost use Rattle.event_transfers.specs.Packed.{packLine, packedLineAt, prepared, SortedRuns};
 ghost use Rattle.transfers_call.specs.Settled.{settledKeys};
-ghost use Rattle.transfers_call.specs.Call.{lent, inputOf, areas, linesOk, sizesOk, verdict, roomOk, settled, outcome, outcomeOf, Admitted, LinesBelow};
+ghost use Rattle.transfers_call.specs.Call.{transferLent, inputOf, transferAreas, linesOk, transferSizesOk, transfersVerdict, roomOk, transfersSettled, transfersOutcome, transfersOutcomeOf, TransfersAdmitted, LinesBelow};
 use departures::DepartureRow;
 use tables::Counts;
 
@@ -46,7 +46,7 @@ fn settle(
     time: usize,
 ) -> Built
     requires { ⌜ Sane (now t) c ⌝ ∗ ⌜ RunsListed c (now runs) d ⌝ ∗ ⌜ SortedRuns c (now runs) (now work) (now ends) d ⌝ ∗ ⌜ time ≤ 3600 ⌝ }
-    ensures { λ r. ⌜ outcomeOf r (areas (now (area .exit)) (now (evs .exit))) ≡ settledKeys (prepared (now (t .entry)) c (now (runs .entry)) (now (work .entry)) time) (areas (now (area .entry)) (now (evs .entry))) ⌝ }
+    ensures { λ r. ⌜ transfersOutcomeOf r (transferAreas (now (area .exit)) (now (evs .exit))) ≡ settledKeys (prepared (now (t .entry)) c (now (runs .entry)) (now (work .entry)) time) (transferAreas (now (area .entry)) (now (evs .entry))) ⌝ }
 {
     let most = event_transfers::most_all(t, c, runs, d, work, ends, time);
     if room_ok(most, area.len()) {
@@ -66,7 +66,7 @@ fn pack_line(t: &[u32], c: Counts, lines: &[u32], r: DepartureRow) -> u64
     requires { ⌜ Sane (now t) c ⌝ ∗ ⌜ RowKnown (now t) c r ⌝ ∗ ⌜ length (now lines) ≡ c .trips ⌝ ∗ ⌜ getD (now lines) (r .trip) 0 < 4096 ⌝ }
     ensures { λ x. ⌜ x ≡ packLine (now (t .entry)) c (now (lines .entry)) r ⌝ }
 {
-    let line = tables::field(lines, r.trip);
+    let line = words::field(lines, r.trip);
     let at = tables::trip(t, c, r.trip, 0) + r.offset;
     let departure = tables::time(t, c, at, 2);
     ((line * 1048576 + departure) * 4294967296 + r.trip * 65536 + r.offset) as u64
@@ -82,7 +82,7 @@ fn pack_lines(
     work: &mut [u64],
 )
     requires { ⌜ Sane (now t) c ⌝ ∗ ⌜ RowsKnown (now t) c (now rows) d ⌝ ∗ ⌜ LinesBelow (now lines) (c .trips) n ⌝ ∗ ⌜ length (now work) ≡ d ⌝ }
-    ensures { λ _. ⌜ now (work .exit) ≡ tab (packedAt (now (t .entry)) c (now (lines .entry)) (now (rows .entry))) d ⌝ }
+    ensures { λ _. ⌜ now (work .exit) ≡ tab (packedLineAt (now (t .entry)) c (now (lines .entry)) (now (rows .entry))) d ⌝ }
 {
     let mut k: usize = 0;
     while k < work.len() {
@@ -102,7 +102,7 @@ fn sizes_ok(
     evs: usize,
 ) -> bool
     requires { ⌜ CountsOk c ⌝ ∗ ⌜ SlicesOk (now t) c ⌝ ∗ ⌜ d ≤ 65536 ⌝ }
-    ensures { λ r. ⌜ r ≡ sizesOk (now (t .entry)) c d lines runs rows evs ⌝ }
+    ensures { λ r. ⌜ r ≡ transferSizesOk (now (t .entry)) c d lines runs rows evs ⌝ }
 {
     let events = event_transfers::event_count(t, c);
     door::both(
@@ -122,7 +122,7 @@ fn lent_ok(
     evs: usize,
 ) -> bool
     requires { ⌜ CountsOk c ⌝ ∗ ⌜ d ≤ 65536 ⌝ }
-    ensures { λ r. ⌜ r ≡ (slicesOk (now (t .entry)) c && sizesOk (now (t .entry)) c d lines runs rows evs) ⌝ }
+    ensures { λ r. ⌜ r ≡ (slicesOk (now (t .entry)) c && transferSizesOk (now (t .entry)) c d lines runs rows evs) ⌝ }
 {
     if !tables::slices_ok(t, c) {
         return false;
@@ -136,7 +136,7 @@ fn lines_ok(lines: &[u32], line_count: usize) -> bool
 {
     let mut i: usize = 0;
     while i < lines.len() {
-        if line_count <= tables::field(lines, i) {
+        if line_count <= words::field(lines, i) {
             return false;
         }
         i += 1;
@@ -156,7 +156,7 @@ fn questions(
     time: usize,
     evs: usize,
 ) -> u32
-    ensures { λ r. ⌜ r ≡ verdict (lent (now (t .entry)) c «line_count» (now (lines .entry)) d (now (runs .entry)) (now (rows .entry)) time) evs ⌝ }
+    ensures { λ r. ⌜ r ≡ transfersVerdict (transferLent (now (t .entry)) c «line_count» (now (lines .entry)) d (now (runs .entry)) (now (rows .entry)) time) evs ⌝ }
 {
     if !door::both(
         tables::counts_ok(c),
@@ -203,12 +203,12 @@ fn build_in(
     work: &mut [u64],
     other: &mut [u64],
 ) -> Built
-    requires { ⌜ Admitted (lent (now t) c «line_count» (now lines) d (now runs) (now rows) time) (length (now evs)) ⌝ ∗ ⌜ length (now work) ≡ d ⌝ ∗ ⌜ length (now other) ≡ d ⌝ }
-    ensures { λ r. ⌜ outcomeOf r (areas (now (area .exit)) (now (evs .exit))) ≡ settled (inputOf (lent (now (t .entry)) c «line_count» (now (lines .entry)) d (now (runs .entry)) (now (rows .entry)) time)) (areas (now (area .entry)) (now (evs .entry))) ⌝ }
+    requires { ⌜ TransfersAdmitted (transferLent (now t) c «line_count» (now lines) d (now runs) (now rows) time) (length (now evs)) ⌝ ∗ ⌜ length (now work) ≡ d ⌝ ∗ ⌜ length (now other) ≡ d ⌝ }
+    ensures { λ r. ⌜ transfersOutcomeOf r (transferAreas (now (area .exit)) (now (evs .exit))) ≡ transfersSettled (inputOf (transferLent (now (t .entry)) c «line_count» (now (lines .entry)) d (now (runs .entry)) (now (rows .entry)) time)) (transferAreas (now (area .entry)) (now (evs .entry))) ⌝ }
 {
     pack_lines(t, c, lines, rows, d, line_count, work);
     departures::sort_stops(c, runs, d, work, other);
-    line_transfers::line_ends(work, other);
+    event_transfers::line_ends(work, other);
     settle(t, c, runs, d, work, other, area, evs, time)
 }
 
@@ -227,8 +227,8 @@ fn build(
     work: &mut [u64],
     other: &mut [u64],
 ) -> Built
-    requires { ⌜ Admitted (lent (now t) c «line_count» (now lines) d (now runs) (now rows) time) (length (now evs)) ⌝ ∗ ⌜ d ≤ length (now work) ⌝ ∗ ⌜ d ≤ length (now other) ⌝ }
-    ensures { λ r. ⌜ outcomeOf r (areas (now (area .exit)) (now (evs .exit))) ≡ settled (inputOf (lent (now (t .entry)) c «line_count» (now (lines .entry)) d (now (runs .entry)) (now (rows .entry)) time)) (areas (now (area .entry)) (now (evs .entry))) ⌝ }
+    requires { ⌜ TransfersAdmitted (transferLent (now t) c «line_count» (now lines) d (now runs) (now rows) time) (length (now evs)) ⌝ ∗ ⌜ d ≤ length (now work) ⌝ ∗ ⌜ d ≤ length (now other) ⌝ }
+    ensures { λ r. ⌜ transfersOutcomeOf r (transferAreas (now (area .exit)) (now (evs .exit))) ≡ transfersSettled (inputOf (transferLent (now (t .entry)) c «line_count» (now (lines .entry)) d (now (runs .entry)) (now (rows .entry)) time)) (transferAreas (now (area .entry)) (now (evs .entry))) ⌝ }
 {
     build_in(
         t,
@@ -262,7 +262,7 @@ pub fn compute_trip_transfers(
     area: &mut [u32],
     transfer_runs: &mut [u32],
 ) -> Built
-    ensures { λ r. ⌜ outcomeOf r (areas (now (area .exit)) (now («transfer_runs» .exit))) ≡ outcome (lent (now (t .entry)) c «line_count» (now (lines .entry)) d (now (runs .entry)) (now (rows .entry)) «transfer_time») (areas (now (area .entry)) (now («transfer_runs» .entry))) ⌝ }
+    ensures { λ r. ⌜ transfersOutcomeOf r (transferAreas (now (area .exit)) (now («transfer_runs» .exit))) ≡ transfersOutcome (transferLent (now (t .entry)) c «line_count» (now (lines .entry)) d (now (runs .entry)) (now (rows .entry)) «transfer_time») (transferAreas (now (area .entry)) (now («transfer_runs» .entry))) ⌝ }
 {
     let v = questions(
         t,

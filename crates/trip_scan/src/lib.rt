@@ -1,17 +1,388 @@
-// trip_scan: a trip scanned from a boarding on (scan_trip_forward): alighting at its later stops (`alighting`) and, with arc flags, the
-// transfers there (`transferring`).
-// Proves: scan_trip_forward is the model's function of this name on the state seen as the model's, for all tables and queries that agree
-// with what it reads; all else in memory is as it came. Where a segment does not fit in the queue, the model queues more than the queue
-// has rows for.
+// trip_scan: a trip scanned from a boarding on (scan_trip_forward): alighting at its later stops and, with arc flags in use, the transfers there.
+// Place: the search.
+// Specs (inner): what a scan reads, and which tables and queries agree with it (Scan).
+// Proves: `alightings`, `transferring` and `scan_trip_forward` are the model's functions of these names on the state seen as the model's, for all tables
+// and queries that agree; all else in memory is as it came. Where a segment does not fit in the queue, the model queues more than the queue has rows for.
+// proofs/Turning: both loops turn by turn; Along, Queuing: loops of steps; Keeping: what is read stays as it is.
 // Assumes nothing.
+ghost use mathlib.Core.Path.{_≡_};
+ghost use Prim.Native.Nat.{_-_, _≤_};
+ghost use mathlib.Core.Bool.{cond, _||_};
+ghost use Rattle.model.specs.Tables.{Tables, Query, stopCount, noDropOff, stopAt};
+ghost use Rattle.model.specs.Search.{skipped as skips, alightings as alighted, takeTransfers, transferring as transferred, scanTripForward};
+ghost use Rattle.search_state.specs.View.{memory};
+ghost use Rattle.search_state.specs.Step.{Ready, Step, QueueStep};
+ghost use Rattle.trip_boarding.specs.Reads.{hitOf, Known, Ground, Event, Agree};
+ghost use Rattle.trip_scan.specs.Scan.{Riding, Reads, Nets, Netted, RunIn, Open, BoardedAt, CountsAgree, boarded};
+ghost use mathlib.Core.List.{[], _∷_};
 ghost use lib.ListN.{length};
-ghost use Rattle.model.specs.Search.{scanTripForward};
-ghost use Rattle.scratch.specs.View.{memory};
-ghost use Rattle.scratch.specs.Step.{Ready, QueueStep};
-ghost use Rattle.boarding.specs.Reads.{hitOf};
-ghost use Rattle.alighting.specs.Scan.{Riding, Nets, Netted, Open};
-use alighting::Scan;
-use scratch::Head;
+ghost use Rattle.tables.specs.Timetable.{timetable};
+ghost use Rattle.event_transfers.specs.Transfers.{transferAt, transfersAt};
+ghost use Rattle.search_state.specs.Places.{EgressTable};
+use delay_rows::Found;
+use frequency::BoardedRun;
+use query_types::Head;
+use query_types::Scan;
+use query_types::Seg;
+use tables::Counts;
+use target_resolving::Resolved;
+
+// Is drop-off 1 at a trip's stop time?
+fn no_drop_off(
+    t: &[u32],
+    c: Counts,
+    rows: &[u32],
+    stop_rows: &[u32],
+    trip: usize,
+    off: usize,
+) -> bool
+    requires { ⌜ Ground (now t) c (now rows) (now «stop_rows») ⌝ ∗ ⌜ Event (now t) c trip off ⌝ }
+    ensures { λ r. ⌜ ((T : Tables) (Q : Query) → Agree T Q (now (t .entry)) c (now (rows .entry)) (now («stop_rows» .entry)) → r ≡ noDropOff T trip off) ⌝ }
+{
+    let first = tables::trip(t, c, trip, 0);
+    tables::time(t, c, first + off, 5) == 1
+}
+
+// Can nobody alight at a trip's stop time: is drop-off 1 or, where skipped stops are tested, the stop skipped?
+fn shut(
+    t: &[u32],
+    c: Counts,
+    rows: &[u32],
+    stop_rows: &[u32],
+    adj: Found,
+    tested: bool,
+    trip: usize,
+    off: usize,
+) -> bool
+    requires { ⌜ Ground (now t) c (now rows) (now «stop_rows») ⌝ ∗ ⌜ Known (now rows) adj ⌝ ∗ ⌜ Event (now t) c trip off ⌝ }
+    ensures { λ r. ⌜ ((T : Tables) (Q : Query) → Agree T Q (now (t .entry)) c (now (rows .entry)) (now («stop_rows» .entry)) → r ≡ cond tested (noDropOff T trip off || skips T Q (hitOf adj) trip off) (noDropOff T trip off)) ⌝ }
+{
+    let barred = no_drop_off(t, c, rows, stop_rows, trip, off);
+    if !tested {
+        return barred;
+    }
+    door::either(
+        barred,
+        trip_boarding::skipped(t, c, rows, stop_rows, adj, trip, off),
+    )
+}
+
+// Alighting at the trip's stop times from offset `p` on, until one is not before the best total.
+fn alightings(
+    t: &[u32],
+    rows: &[u32],
+    stop_rows: &[u32],
+    s: Scan,
+    p: usize,
+    work: &mut [u32],
+    labels: &mut [u32],
+    distances: &mut [f64],
+    h: Head,
+) -> Head
+    requires { ⌜ Riding (now t) (s .counts) (now rows) (now «stop_rows») (s .adj) (s .lay) (s .ride) ⌝ ∗ ⌜ Ready (s .lay) (s .ride .stamp) (memory (now work) (now labels) (now distances) h) ⌝ }
+    ensures { λ x. ⌜ Step (s .lay) (s .ride .stamp) (Reads (now (t .entry)) (s .counts) (now (rows .entry)) (now («stop_rows» .entry)) (s .lay) (now (work .entry))) (λ T Q. alighted T Q (s .ride .stamp) (hitOf (s .adj)) (s .ride .shift) (s .ride .trip) (s .ride .stop) (s .ride .offset) (stopCount T (s .ride .trip) - p) p) (memory (now (work .entry)) (now (labels .entry)) (now (distances .entry)) h) (memory (now (work .exit)) (now (labels .exit)) (now (distances .exit)) x) ⌝ }
+{
+    let trip = s.ride.trip as usize;
+    let adj = s.adj;
+    let n = tables::trip(t, s.counts, trip, 1);
+    let mut x = h;
+    let mut o = p;
+    while o < n {
+        if shut(t, s.counts, rows, stop_rows, adj, true, trip, o) {
+            o += 1;
+            continue;
+        }
+        let v = trip_boarding::arrival_now(
+            t,
+            s.counts,
+            rows,
+            stop_rows,
+            adj,
+            s.ride.shift,
+            trip,
+            o,
+        );
+        if x.best <= v {
+            return x;
+        }
+        x = search_state::alight(t, s.counts, s.lay, s.ride, o, v, work, labels, distances, x);
+        o += 1;
+    }
+    x
+}
+
+// A boarding taken after a transfer: its stop is reached on foot from stop `from`, its segment queued.
+fn take_boarding(
+    t: &[u32],
+    s: Scan,
+    from: u32,
+    off: usize,
+    time: u32,
+    trip: u32,
+    b: BoardedRun,
+    work: &mut [u32],
+    labels: &mut [u32],
+    distances: &mut [f64],
+    queue: &mut [u32],
+    h: Head,
+) -> Head
+    requires { ⌜ CountsAgree (now t) (s .counts) (s .lay) ⌝ ∗ ⌜ BoardedAt (now t) (s .counts) trip off (b .departure) ⌝ ∗ ⌜ Ready (s .lay) (s .ride .stamp) (memory (now work) (now labels) (now distances) h) ⌝ ∗ ⌜ Open h (length (now queue)) ⌝ }
+    ensures { λ x. ⌜ QueueStep (s .lay) (s .ride .stamp) (λ T Q. EgressTable (Q .egress) (s .lay) (now (work .entry)) × (T .timetable ≡ timetable (now (t .entry)) (s .counts))) (λ T Q. boarded T Q (s .ride .stamp) from off time trip b) (memory (now (work .entry)) (now (labels .entry)) (now (distances .entry)) h) (memory (now (work .exit)) (now (labels .exit)) (now (distances .exit)) x) (now (queue .entry)) (now (queue .exit)) ⌝ }
+{
+    let i = trip as usize;
+    let first = tables::trip(t, s.counts, i, 0);
+    let stop = tables::time(t, s.counts, first + off, 0);
+    let plain = tables::trip(t, s.counts, i, 5) == 0;
+    let seg = Seg {
+        trip,
+        offset: off as u32,
+        stop: stop as u32,
+        shift: b.time_shift_s,
+    };
+    let v = b.departure;
+    search_state::transfer(
+        s.lay,
+        s.ride.stamp,
+        plain,
+        seg,
+        v,
+        from,
+        time,
+        work,
+        labels,
+        distances,
+        queue,
+        h,
+    )
+}
+
+// Transfer `k` of the area, taken at a stop `from` that is reached at `v`.
+fn take_transfer(
+    t: &[u32],
+    rows: &[u32],
+    stop_rows: &[u32],
+    built: &[u32],
+    bytes: &[u8],
+    area: &[u32],
+    s: Scan,
+    v: u32,
+    from: u32,
+    k: usize,
+    work: &mut [u32],
+    labels: &mut [u32],
+    distances: &mut [f64],
+    queue: &mut [u32],
+    h: Head,
+) -> Head
+    requires { ⌜ Netted (now t) (s .counts) (now rows) (now «stop_rows») (now built) (now bytes) (now area) (s .net) (s .lay) (now work) ⌝ ∗ ⌜ RunIn (now area) k 1 ⌝ ∗ ⌜ Ready (s .lay) (s .ride .stamp) (memory (now work) (now labels) (now distances) h) ⌝ ∗ ⌜ Open h (length (now queue)) ⌝ ∗ ⌜ v ≤ 2097150 ⌝ }
+    ensures { λ x. ⌜ QueueStep (s .lay) (s .ride .stamp) (Nets (now (t .entry)) (s .counts) (now (rows .entry)) (now («stop_rows» .entry)) (now (built .entry)) (now (bytes .entry)) (now (area .entry)) (s .net) (s .lay) (now (work .entry))) (λ T Q. takeTransfers T Q (s .ride .stamp) v from (transferAt (now (area .entry)) k ∷ [])) (memory (now (work .entry)) (now (labels .entry)) (now (distances .entry)) h) (memory (now (work .exit)) (now (labels .exit)) (now (distances .exit)) x) (now (queue .entry)) (now (queue .exit)) ⌝ }
+{
+    let at = k * 4;
+    if !arc_flags::holds_target(
+        bytes,
+        s.net.patterns,
+        s.net.target,
+        words::field(area, at + 3),
+    ) {
+        return h;
+    }
+    let time = area[at + 2];
+    let off = words::field(area, at + 1);
+    let found = target_resolving::resolve(
+        t,
+        s.counts,
+        rows,
+        stop_rows,
+        built,
+        work,
+        s.net.lined,
+        s.net.terms,
+        area[at],
+        off,
+        v + time,
+        h.best,
+    );
+    let Resolved::Trip(trip, b) = found else {
+        return h;
+    };
+    take_boarding(
+        t,
+        s,
+        from,
+        off,
+        time,
+        trip,
+        b,
+        work,
+        labels,
+        distances,
+        queue,
+        h,
+    )
+}
+
+// The `n` transfers of the area from `first` on, until a segment does not fit.
+fn take_transfers(
+    t: &[u32],
+    rows: &[u32],
+    stop_rows: &[u32],
+    built: &[u32],
+    bytes: &[u8],
+    area: &[u32],
+    s: Scan,
+    v: u32,
+    from: u32,
+    first: usize,
+    n: usize,
+    work: &mut [u32],
+    labels: &mut [u32],
+    distances: &mut [f64],
+    queue: &mut [u32],
+    h: Head,
+) -> Head
+    requires { ⌜ Netted (now t) (s .counts) (now rows) (now «stop_rows») (now built) (now bytes) (now area) (s .net) (s .lay) (now work) ⌝ ∗ ⌜ RunIn (now area) first n ⌝ ∗ ⌜ Ready (s .lay) (s .ride .stamp) (memory (now work) (now labels) (now distances) h) ⌝ ∗ ⌜ Open h (length (now queue)) ⌝ ∗ ⌜ v ≤ 2097150 ⌝ }
+    ensures { λ x. ⌜ QueueStep (s .lay) (s .ride .stamp) (Nets (now (t .entry)) (s .counts) (now (rows .entry)) (now («stop_rows» .entry)) (now (built .entry)) (now (bytes .entry)) (now (area .entry)) (s .net) (s .lay) (now (work .entry))) (λ T Q. takeTransfers T Q (s .ride .stamp) v from (transfersAt (now (area .entry)) (record { first = first; length = n }))) (memory (now (work .entry)) (now (labels .entry)) (now (distances .entry)) h) (memory (now (work .exit)) (now (labels .exit)) (now (distances .exit)) x) (now (queue .entry)) (now (queue .exit)) ⌝ }
+{
+    let mut x = h;
+    let mut j: usize = 0;
+    while j < n {
+        let k = first + j;
+        x = take_transfer(
+            t,
+            rows,
+            stop_rows,
+            built,
+            bytes,
+            area,
+            s,
+            v,
+            from,
+            k,
+            work,
+            labels,
+            distances,
+            queue,
+            x,
+        );
+        if x.full {
+            return x;
+        }
+        j += 1;
+    }
+    x
+}
+
+// The transfers of a trip's stop time that is reached at `v`.
+fn take_event(
+    t: &[u32],
+    rows: &[u32],
+    stop_rows: &[u32],
+    built: &[u32],
+    bytes: &[u8],
+    area: &[u32],
+    s: Scan,
+    v: u32,
+    off: usize,
+    work: &mut [u32],
+    labels: &mut [u32],
+    distances: &mut [f64],
+    queue: &mut [u32],
+    h: Head,
+) -> Head
+    requires { ⌜ Netted (now t) (s .counts) (now rows) (now «stop_rows») (now built) (now bytes) (now area) (s .net) (s .lay) (now work) ⌝ ∗ ⌜ Event (now t) (s .counts) (s .ride .trip) off ⌝ ∗ ⌜ Ready (s .lay) (s .ride .stamp) (memory (now work) (now labels) (now distances) h) ⌝ ∗ ⌜ Open h (length (now queue)) ⌝ ∗ ⌜ v ≤ 2097150 ⌝ }
+    ensures { λ x. ⌜ QueueStep (s .lay) (s .ride .stamp) (Nets (now (t .entry)) (s .counts) (now (rows .entry)) (now («stop_rows» .entry)) (now (built .entry)) (now (bytes .entry)) (now (area .entry)) (s .net) (s .lay) (now (work .entry))) (λ T Q. takeTransfers T Q (s .ride .stamp) v (stopAt T (s .ride .trip) off) (T .transfers (s .ride .trip) off)) (memory (now (work .entry)) (now (labels .entry)) (now (distances .entry)) h) (memory (now (work .exit)) (now (labels .exit)) (now (distances .exit)) x) (now (queue .entry)) (now (queue .exit)) ⌝ }
+{
+    let trip = s.ride.trip as usize;
+    let i = tables::trip(t, s.counts, trip, 0);
+    let from = tables::time(t, s.counts, i + off, 0) as u32;
+    let at = s.net.runs + (words::field(work, s.net.events + trip) + off) * 2;
+    let first = words::field(built, at);
+    let n = words::field(built, at + 1);
+    take_transfers(
+        t,
+        rows,
+        stop_rows,
+        built,
+        bytes,
+        area,
+        s,
+        v,
+        from,
+        first,
+        n,
+        work,
+        labels,
+        distances,
+        queue,
+        h,
+    )
+}
+
+// The transfers at the trip's stop times from offset `p` on, until one is not before the best total. Skipped stops are not tested.
+fn transferring(
+    t: &[u32],
+    rows: &[u32],
+    stop_rows: &[u32],
+    built: &[u32],
+    bytes: &[u8],
+    area: &[u32],
+    s: Scan,
+    p: usize,
+    work: &mut [u32],
+    labels: &mut [u32],
+    distances: &mut [f64],
+    queue: &mut [u32],
+    h: Head,
+) -> Head
+    requires { ⌜ Netted (now t) (s .counts) (now rows) (now «stop_rows») (now built) (now bytes) (now area) (s .net) (s .lay) (now work) ⌝ ∗ ⌜ Riding (now t) (s .counts) (now rows) (now «stop_rows») (s .adj) (s .lay) (s .ride) ⌝ ∗ ⌜ Ready (s .lay) (s .ride .stamp) (memory (now work) (now labels) (now distances) h) ⌝ ∗ ⌜ Open h (length (now queue)) ⌝ }
+    ensures { λ x. ⌜ QueueStep (s .lay) (s .ride .stamp) (Nets (now (t .entry)) (s .counts) (now (rows .entry)) (now («stop_rows» .entry)) (now (built .entry)) (now (bytes .entry)) (now (area .entry)) (s .net) (s .lay) (now (work .entry))) (λ T Q. transferred T Q (s .ride .stamp) (hitOf (s .adj)) (s .ride .shift) (s .ride .trip) (stopCount T (s .ride .trip) - p) p) (memory (now (work .entry)) (now (labels .entry)) (now (distances .entry)) h) (memory (now (work .exit)) (now (labels .exit)) (now (distances .exit)) x) (now (queue .entry)) (now (queue .exit)) ⌝ }
+{
+    let trip = s.ride.trip as usize;
+    let adj = s.adj;
+    let n = tables::trip(t, s.counts, trip, 1);
+    let mut x = h;
+    let mut o = p;
+    while o < n {
+        if shut(t, s.counts, rows, stop_rows, adj, false, trip, o) {
+            o += 1;
+            continue;
+        }
+        let v = trip_boarding::arrival_now(
+            t,
+            s.counts,
+            rows,
+            stop_rows,
+            adj,
+            s.ride.shift,
+            trip,
+            o,
+        );
+        if x.best <= v {
+            return x;
+        }
+        x = take_event(
+            t,
+            rows,
+            stop_rows,
+            built,
+            bytes,
+            area,
+            s,
+            v,
+            o,
+            work,
+            labels,
+            distances,
+            queue,
+            x,
+        );
+        if x.full {
+            return x;
+        }
+        o += 1;
+    }
+    x
+}
 
 // A TRIP SCANNED from a boarding on: alighting at its later stops, then, with arc flags, the transfers there.
 pub fn scan_trip_forward(
@@ -33,11 +404,11 @@ pub fn scan_trip_forward(
     ensures { λ x. ⌜ QueueStep (s .lay) (s .ride .stamp) (Nets (now (t .entry)) (s .counts) (now (rows .entry)) (now («stop_rows» .entry)) (now (built .entry)) (now (bytes .entry)) (now (area .entry)) (s .net) (s .lay) (now (work .entry))) (λ T Q. scanTripForward T Q flagged (s .ride .stamp) (hitOf (s .adj)) (s .ride .shift) (s .ride .trip) (s .ride .stop) (s .ride .offset)) (memory (now (work .entry)) (now (labels .entry)) (now (distances .entry)) h) (memory (now (work .exit)) (now (labels .exit)) (now (distances .exit)) x) (now (queue .entry)) (now (queue .exit)) ⌝ }
 {
     let p = s.ride.offset as usize + 1;
-    let x = alighting::alightings(t, rows, stop_rows, s, p, work, labels, distances, h);
+    let x = alightings(t, rows, stop_rows, s, p, work, labels, distances, h);
     if !flagged {
         return x;
     }
-    transferring::transferring(
+    transferring(
         t,
         rows,
         stop_rows,

@@ -6,7 +6,7 @@
 // 104,857,500 seconds, a round count between 4 and 12, and it never falls when an argument grows.
 // Assumes nothing.
 ghost use mathlib.Core.Path.{_≡_};
-ghost use Prim.Native.Nat.{_≤_, max, min};
+ghost use Prim.Native.Nat.{_≤_};
 ghost use Rattle.door.specs.Door.{timeLimit};
 ghost use Rattle.walk_time.specs.Walk.{stairsOrEscalator, effectiveDuration, roundCount};
 
@@ -36,23 +36,11 @@ pub fn effective_duration_s(duration: u32, pathway_mode: u32, wheelchair: bool) 
     duration
 }
 
-fn larger(a: u32, b: u32) -> u32
-    ensures { λ r. ⌜ r ≡ max a b ⌝ }
-{
-    if a < b { b } else { a }
-}
-
-fn smaller(a: u32, b: u32) -> u32
-    ensures { λ r. ⌜ r ≡ min a b ⌝ }
-{
-    if a < b { a } else { b }
-}
-
 // The round count of a query, for any wanted rounds and transfers. Ten transfers already ask for all 12 rounds.
 pub fn tbr_max_rounds(wanted: u32, transfers: u32) -> u32
     ensures { λ r. ⌜ r ≡ roundCount wanted transfers ⌝ }
 {
-    let rounds = smaller(wanted, 12);
-    let changes = smaller(transfers, 10) + 2;
-    larger(larger(rounds, changes), 4)
+    let rounds = words::smaller_word(wanted, 12);
+    let changes = words::smaller_word(transfers, 10) + 2;
+    words::larger_word(words::larger_word(rounds, changes), 4)
 }

@@ -9,7 +9,7 @@ use crate::words::refused;
 use crate::words::say;
 use crate::words::tell;
 use crate::words::wide;
-use replies::Reply;
+use query_reply::Reply;
 use sizes::QuerySizes;
 
 // The total of "no way".

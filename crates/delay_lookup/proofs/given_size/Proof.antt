@@ -18,11 +18,11 @@ arrival-given-requires c κs = search needs
 size-if-requires-2 : tie.Need-size-if-requires-2
 size-if-requires-2 c κs = search needs
 
-larger-requires : tie.Need-larger-requires
-larger-requires c κs = search needs
+larger-word-requires : tie.Need-larger-word-requires
+larger-word-requires c κs = search needs
 
 returns : tie.Need-returns
-returns c = c .larger .ensures ∙ ap₂ max (c .before .before .before .size-if .ensures ∙ ap (λ (b : Bool). cond b (sizeOf (c .before .before .before .before .before .args .row .«departure_delay»)) 0) (c .before .before .before .before .departure-given .ensures)) (c .before .size-if2 .ensures ∙ ap (λ (b : Bool). cond b (sizeOf (c .before .before .before .before .before .args .row .«arrival_delay»)) 0) (c .before .before .arrival-given .ensures))
+returns c = c .larger-word .ensures ∙ ap₂ max (c .before .before .before .size-if .ensures ∙ ap (λ (b : Bool). cond b (sizeOf (c .before .before .before .before .before .args .row .«departure_delay»)) 0) (c .before .before .before .before .departure-given .ensures)) (c .before .size-if2 .ensures ∙ ap (λ (b : Bool). cond b (sizeOf (c .before .before .before .before .before .args .row .«arrival_delay»)) 0) (c .before .before .arrival-given .ensures))
 
 pub given-size-spec : {M : Type 1} → statement M
 given-size-spec =
@@ -32,5 +32,5 @@ given-size-spec =
     size-if-requires
     arrival-given-requires
     size-if-requires-2
-    larger-requires
+    larger-word-requires
     returns)

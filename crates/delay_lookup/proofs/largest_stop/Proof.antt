@@ -1,4 +1,4 @@
-use Rattle.delay_rows.specs.Flat.{stopCount, stopRowAt}
+use Rattle.delay_rows.specs.Flat.{stopRowCount, stopRowAt}
 use Rattle.loops.proofs.Iter.{range-again, range-left}
 use Rattle.loops.specs.Iter.{range}
 use borrow.Author.Needs.{needs}
@@ -10,7 +10,7 @@ use Rattle.delay_lookup.proofs.largest_stop.Statement.{statement}
 use Rattle.delay_lookup.proofs.largest_stop.Tie as tie
 
 abbrev Inv-loop : tie.InvT-loop
-Inv-loop stop-rows m most₀ j₀ most j = (m ≡ stopCount stop-rows) × (largest (λ k. givenSize (stopRowAt stop-rows k)) (stopCount stop-rows) ≡ range (orLarger (λ k. givenSize (stopRowAt stop-rows k))) j m most)
+Inv-loop stop-rows m most₀ j₀ most j = (m ≡ stopRowCount stop-rows) × (largest (λ k. givenSize (stopRowAt stop-rows k)) (stopRowCount stop-rows) ≡ range (orLarger (λ k. givenSize (stopRowAt stop-rows k))) j m most)
 
 abbrev μ-loop : tie.MeasureT-loop
 μ-loop stop-rows m most₀ j₀ most j = m - j
@@ -24,8 +24,8 @@ stop-row-at-requires c κs = omega arith
 given-size-requires : tie.Need-given-size-requires Inv-loop μ-loop
 given-size-requires c κs = search needs
 
-larger-requires : tie.Need-larger-requires Inv-loop μ-loop
-larger-requires c κs = search needs
+larger-word-requires : tie.Need-larger-word-requires Inv-loop μ-loop
+larger-word-requires c κs = search needs
 
 add-j : tie.Need-add-j Inv-loop μ-loop
 add-j c = omega arith
@@ -34,7 +34,7 @@ loop-less : tie.Need-loop-less Inv-loop μ-loop
 loop-less c = omega arith
 
 loop-again : tie.Need-loop-again Inv-loop μ-loop
-loop-again c = (omega arith, range-again _ _ _ (c .before .before .before .before .loop .inv .1) (simp (c .larger .ensures, c .before .given-size .ensures, c .before .before .stop-row-at .ensures)) (omega arith))
+loop-again c = (omega arith, range-again _ _ _ (c .before .before .before .before .loop .inv .1) (simp (c .larger-word .ensures, c .before .given-size .ensures, c .before .before .stop-row-at .ensures)) (omega arith))
 
 returns : tie.Need-returns Inv-loop μ-loop
 returns c = range-left _ _ _ (c .before .loop .inv .1) (omega arith)
@@ -48,7 +48,7 @@ largest-stop-spec =
     loop-holds
     stop-row-at-requires
     given-size-requires
-    larger-requires
+    larger-word-requires
     add-j
     loop-less
     loop-again

@@ -1,5 +1,5 @@
 use Rattle.loops.specs.Iter.{everyIn}
-use Rattle.delay_rows.specs.Flat.{delayCount, delayRowAt}
+use Rattle.delay_rows.specs.Flat.{delayRowCount, delayRowAt}
 use Rattle.delay_rows.specs.Asked.{delayAsked}
 use Prim.Native.Nat.{_-_}
 use borrow.Author.Tests.{not-false, not-true}
@@ -10,7 +10,7 @@ use Rattle.delay_rows.proofs.delays_asked.Statement.{statement}
 use Rattle.delay_rows.proofs.delays_asked.Tie as tie
 
 abbrev Inv-loop : tie.InvT-loop
-Inv-loop question trips rows n i₀ i = (n ≡ delayCount rows) × (everyIn (delayAsked question trips (delayRowAt rows)) 0 (delayCount rows) ≡ everyIn (delayAsked question trips (delayRowAt rows)) i n)
+Inv-loop question trips rows n i₀ i = (n ≡ delayRowCount rows) × (everyIn (delayAsked question trips (delayRowAt rows)) 0 (delayRowCount rows) ≡ everyIn (delayAsked question trips (delayRowAt rows)) i n)
 
 abbrev μ-loop : tie.MeasureT-loop
 μ-loop question trips rows n i₀ i = n - i

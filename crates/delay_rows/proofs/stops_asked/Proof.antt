@@ -1,4 +1,4 @@
-use Rattle.delay_rows.specs.Flat.{stopCount, stopRowAt}
+use Rattle.delay_rows.specs.Flat.{stopRowCount, stopRowAt}
 use Rattle.delay_rows.specs.Asked.{stopAsked}
 use Rattle.loops.specs.Iter.{everyIn}
 use Prim.Native.Nat.{_-_}
@@ -10,7 +10,7 @@ use Rattle.delay_rows.proofs.stops_asked.Statement.{statement}
 use Rattle.delay_rows.proofs.stops_asked.Tie as tie
 
 abbrev Inv-loop : tie.InvT-loop
-Inv-loop question n stop-rows m j₀ j = (m ≡ stopCount stop-rows) × (everyIn (stopAsked question n (stopRowAt stop-rows)) 0 (stopCount stop-rows) ≡ everyIn (stopAsked question n (stopRowAt stop-rows)) j m)
+Inv-loop question n stop-rows m j₀ j = (m ≡ stopRowCount stop-rows) × (everyIn (stopAsked question n (stopRowAt stop-rows)) 0 (stopRowCount stop-rows) ≡ everyIn (stopAsked question n (stopRowAt stop-rows)) j m)
 
 abbrev μ-loop : tie.MeasureT-loop
 μ-loop question n stop-rows m j₀ j = m - j

@@ -1,20 +1,20 @@
-use Rattle.boarding.specs.Reads.{Event}
+use Rattle.trip_boarding.specs.Reads.{Event}
 use Rattle.departures.specs.declared.DepartureRow.{DepartureRow}
-use Rattle.riding.proofs.Keep.{rides-kept}
+use Rattle.ride_step.proofs.Keep.{rides-kept}
 use denote.Ref.{now}
-use Rattle.riding.proofs.Phased.{going-on}
+use Rattle.ride_step.proofs.Phased.{going-on}
 use mathlib.Core.Bool.{false, true}
-use Rattle.riding.proofs.Later.{departures-later}
+use Rattle.ride_step.proofs.Later.{departures-later}
 use native.Mathlib.Omega.{arith}
 use Rattle.departure_scan.proofs.Departing.{scanFrom, from-end, from-late, from-start, from-turn, late-seen}
 use Rattle.model.specs.Search.{scanDepartures}
 use Rattle.departures.specs.Departures.{rowsOf}
-use Rattle.scratch.specs.View.{memory}
+use Rattle.search_state.specs.View.{memory}
 use lib.ListN.{length}
 use mathlib.Core.Path.{_≡_, _∙_, refl, subst, sym}
 use Prim.Native.Nat.{_-_, _/_, _+_}
-use Rattle.riding.proofs.Riding.{Riding, ride-end, ride-over, ride-start, ride-turn}
-use Rattle.riding.specs.Laid.{Rides}
+use Rattle.ride_step.proofs.Riding.{Riding, ride-end, ride-over, ride-start, ride-turn}
+use Rattle.ride_step.specs.Laid.{Rides}
 use Rattle.departure_scan.proofs.scan_departures.Statement.{statement}
 use Rattle.departure_scan.proofs.scan_departures.Tie as tie
 

@@ -1,5 +1,6 @@
-use Rattle.riding.proofs.Keep.{ready-noted}
-use Rattle.riding.proofs.Scanned.{chained, noted-netted, riding-on, shift-small, sized-work, taken-board, taken-none}
+use Rattle.ride_step.proofs.Keep.{ready-noted}
+use Rattle.departure_scan.proofs.Taking.{chained, noted-netted, shift-small, sized-work, taken-board, taken-none}
+use Rattle.ride_step.proofs.Scanned.{riding-on}
 use mathlib.Core.Path.{_∙_, sym}
 use native.Mathlib.Omega.{arith}
 use Prim.Native.Nat.{_-_}

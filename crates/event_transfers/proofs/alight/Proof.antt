@@ -1,4 +1,4 @@
-use Rattle.line_transfers.specs.Packed.{prepared}
+use Rattle.event_transfers.specs.Packed.{prepared}
 use denote.Ref.{now}
 use native.Mathlib.Omega.{arith}
 use Rattle.event_transfers.proofs.Events.{alight-barred, alight-full, alight-open, run-inside, run-keys, run-lines, stop-read}

@@ -5,14 +5,14 @@ use denote.Ref.{now}
 use borrow.Author.Needs.{needs}
 use lib.ListN.{length}
 use native.Mathlib.Omega.{arith}
-use Rattle.line_transfers.specs.Packed.{allKeys, layEvents, prepared, tripKeys, walk}
+use Rattle.event_transfers.specs.Packed.{allKeys, layEvents, prepared, tripKeys, areaWalk}
 use mathlib.Core.Path.{_≡_, refl}
 use Prim.Native.Nat.{_*_, _-_, _≤_}
 use Rattle.event_transfers.proofs.all_events.Statement.{statement}
 use Rattle.event_transfers.proofs.all_events.Tie as tie
 
 abbrev Inv-loop : tie.InvT-loop
-Inv-loop t c runs d work ends area₀ evs₀ time trips n₀ e₀ ti₀ area evs n e ti = (trips ≡ c .trips) × (e ≤ ti * 65536) × (n ≤ 65537) × (length area ≡ length area₀) × (length evs ≡ length evs₀) × (layEvents time 0 (allKeys (prepared t c runs work time)) (walk 0 area₀ evs₀) ≡ layEvents time e (flatten (tabFrom (tripKeys (prepared t c runs work time)) ti (trips - ti))) (walk n area evs))
+Inv-loop t c runs d work ends area₀ evs₀ time trips n₀ e₀ ti₀ area evs n e ti = (trips ≡ c .trips) × (e ≤ ti * 65536) × (n ≤ 65537) × (length area ≡ length area₀) × (length evs ≡ length evs₀) × (layEvents time 0 (allKeys (prepared t c runs work time)) (areaWalk 0 area₀ evs₀) ≡ layEvents time e (flatten (tabFrom (tripKeys (prepared t c runs work time)) ti (trips - ti))) (areaWalk n area evs))
 
 abbrev μ-loop : tie.MeasureT-loop
 μ-loop t c runs d work ends area₀ evs₀ time trips n₀ e₀ ti₀ area evs n e ti = trips - ti
@@ -36,7 +36,7 @@ loop-less : tie.Need-loop-less Inv-loop μ-loop
 loop-less c = omega arith
 
 loop-again : tie.Need-loop-again Inv-loop μ-loop
-loop-again c = (c .before .before .before .before .before .before .before .before .before .loop .inv .0, omega (arith, c .trip .ensures .0, c .before .before .before .before .before .before .before .before .before .before .before .before .before .before .before .before .pre .0 .counts .times, c .before .before .before .before .before .before .before .before .before .before .before .before .before .before .before .before .pre .0 .runs .run (c .before .before .before .before .before .before .before .before .before .loop .ti) (omega arith)), c .before .before .before .before .before .trip-events .ensures .1, omega arith, omega arith, trips-again (c .before .before .before .before .before .before .before .before .before .before .before .before .before .before .before .before .args .time) (c .before .before .before .before .before .before .before .before .before .loop .e) (c .before .before .before .before .before .before .before .before .before .loop .ti) (c .before .before .before .before .before .before .before .before .before .before .before .before .before .before .before .before .args .c .trips) (c .trip .result) (tripKeys (prepared (now (c .before .before .before .before .before .before .before .before .before .before .before .before .before .before .before .before .args .t)) (c .before .before .before .before .before .before .before .before .before .before .before .before .before .before .before .before .args .c) (now (c .before .before .before .before .before .before .before .before .before .before .before .before .before .before .before .before .args .runs)) (now (c .before .before .before .before .before .before .before .before .before .before .before .before .before .before .before .before .args .work)) (c .before .before .before .before .before .before .before .before .before .before .before .before .before .before .before .before .args .time))) (walk (c .before .before .before .before .before .before .before .before .before .loop .n) (c .before .before .before .before .before .before .before .before .before .loop .area) (c .before .before .before .before .before .before .before .before .before .loop .evs)) (c .before .before .before .before .before .before .before .before .before .loop .inv .5) (c .before .before .before .before .before .trip-events .ensures .0) (trip-length _ _ _ (c .trip .ensures .0)) (omega arith))
+loop-again c = (c .before .before .before .before .before .before .before .before .before .loop .inv .0, omega (arith, c .trip .ensures .0, c .before .before .before .before .before .before .before .before .before .before .before .before .before .before .before .before .pre .0 .counts .times, c .before .before .before .before .before .before .before .before .before .before .before .before .before .before .before .before .pre .0 .runs .run (c .before .before .before .before .before .before .before .before .before .loop .ti) (omega arith)), c .before .before .before .before .before .trip-events .ensures .1, omega arith, omega arith, trips-again (c .before .before .before .before .before .before .before .before .before .before .before .before .before .before .before .before .args .time) (c .before .before .before .before .before .before .before .before .before .loop .e) (c .before .before .before .before .before .before .before .before .before .loop .ti) (c .before .before .before .before .before .before .before .before .before .before .before .before .before .before .before .before .args .c .trips) (c .trip .result) (tripKeys (prepared (now (c .before .before .before .before .before .before .before .before .before .before .before .before .before .before .before .before .args .t)) (c .before .before .before .before .before .before .before .before .before .before .before .before .before .before .before .before .args .c) (now (c .before .before .before .before .before .before .before .before .before .before .before .before .before .before .before .before .args .runs)) (now (c .before .before .before .before .before .before .before .before .before .before .before .before .before .before .before .before .args .work)) (c .before .before .before .before .before .before .before .before .before .before .before .before .before .before .before .before .args .time))) (areaWalk (c .before .before .before .before .before .before .before .before .before .loop .n) (c .before .before .before .before .before .before .before .before .before .loop .area) (c .before .before .before .before .before .before .before .before .before .loop .evs)) (c .before .before .before .before .before .before .before .before .before .loop .inv .5) (c .before .before .before .before .before .trip-events .ensures .0) (trip-length _ _ _ (c .trip .ensures .0)) (omega arith))
 
 same-length : tie.Need-same-length Inv-loop μ-loop
 same-length c = omega arith

@@ -1,7 +1,7 @@
 use denote.Ref.{now}
 use Rattle.event_transfers.proofs.Events.{event-is, event-time, lay-grown}
 use native.Mathlib.Omega.{arith}
-use Rattle.line_transfers.specs.Packed.{alightKeys, laid, lay, prepared}
+use Rattle.event_transfers.specs.Packed.{alightKeys, laid, lay, prepared}
 use mathlib.Core.Path.{_∙_, ap}
 use Prim.Native.Nat.{_+_, ℕ}
 use borrow.Author.Needs.{needs}

@@ -1,6 +1,6 @@
 use denote.Ref.{now}
 use borrow.Author.Needs.{needs}
-use Rattle.line_transfers.specs.Transfers.{eventsBefore}
+use Rattle.event_transfers.specs.Transfers.{eventsBefore}
 use Rattle.tables.specs.Timetable.{timetable}
 use native.Mathlib.Omega.{arith}
 use Rattle.event_transfers.proofs.Counting.{all-of-them, events-step}

@@ -1,6 +1,6 @@
 use mathlib.Core.Path.{_∙_, sym}
 use Rattle.event_transfers.proofs.Events.{most-barred, most-open, run-inside, run-keys, run-lines, stop-read}
-use Rattle.line_transfers.specs.Packed.{prepared}
+use Rattle.event_transfers.specs.Packed.{prepared}
 use denote.Ref.{now}
 use native.Mathlib.Omega.{arith}
 use borrow.Author.Needs.{needs}

@@ -1,5 +1,5 @@
 use Rattle.event_transfers.proofs.Events.{most-again, most-all-start, most-left}
-use Rattle.line_transfers.specs.Packed.{Most, allKeys, prepared, tripKeys}
+use Rattle.event_transfers.specs.Packed.{Most, allKeys, prepared, tripKeys}
 use Rattle.loops.specs.Count.{tabFrom}
 use denote.Ref.{now}
 use lib.ListN.{length}

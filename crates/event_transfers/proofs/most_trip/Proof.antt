@@ -1,5 +1,5 @@
 use Rattle.event_transfers.proofs.Events.{event-time, most-again, most-event, most-left, most-start}
-use Rattle.line_transfers.specs.Packed.{Most, eventKeys, prepared, tripKeys}
+use Rattle.event_transfers.specs.Packed.{Most, eventKeys, prepared, tripKeys}
 use Rattle.loops.specs.Count.{tabFrom}
 use Rattle.tables.specs.Tables.{countOf, firstOf}
 use borrow.Author.Needs.{needs}

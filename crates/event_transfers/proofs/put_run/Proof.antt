@@ -1,5 +1,5 @@
-use Rattle.line_transfers.proofs.Laying.{two}
-use Rattle.line_transfers.specs.Packed.{putRun}
+use Rattle.event_transfers.proofs.Laying.{two}
+use Rattle.event_transfers.specs.Packed.{putRun}
 use denote.Ref.{now}
 use lib.ListN.{length-set}
 use borrow.Author.Tests.{le-leb, lt-leb}

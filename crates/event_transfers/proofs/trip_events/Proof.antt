@@ -2,7 +2,7 @@ use denote.Ref.{now}
 use borrow.Author.Needs.{needs}
 use lib.ListN.{length}
 use Rattle.event_transfers.proofs.Events.{events-again, events-left, event-at, events-start}
-use Rattle.line_transfers.specs.Packed.{eventKeys, layEvents, prepared, tripKeys, walk}
+use Rattle.event_transfers.specs.Packed.{eventKeys, layEvents, prepared, tripKeys, areaWalk}
 use Rattle.tables.specs.Tables.{countOf}
 use native.Mathlib.Omega.{arith}
 use mathlib.Core.Path.{_≡_, refl}
@@ -12,7 +12,7 @@ use Rattle.event_transfers.proofs.trip_events.Statement.{statement}
 use Rattle.event_transfers.proofs.trip_events.Tie as tie
 
 abbrev Inv-loop : tie.InvT-loop
-Inv-loop t c runs d work ends area₀ evs₀ time ti e n count m₀ off₀ area evs m off = (count ≡ countOf t c ti) × (off ≤ count) × (m ≤ 65537) × (length area ≡ length area₀) × (length evs ≡ length evs₀) × (layEvents time e (tripKeys (prepared t c runs work time) ti) (walk n area₀ evs₀) ≡ layEvents time (e + off) (tabFrom (eventKeys (prepared t c runs work time) ti) off (count - off)) (walk m area evs))
+Inv-loop t c runs d work ends area₀ evs₀ time ti e n count m₀ off₀ area evs m off = (count ≡ countOf t c ti) × (off ≤ count) × (m ≤ 65537) × (length area ≡ length area₀) × (length evs ≡ length evs₀) × (layEvents time e (tripKeys (prepared t c runs work time) ti) (areaWalk n area₀ evs₀) ≡ layEvents time (e + off) (tabFrom (eventKeys (prepared t c runs work time) ti) off (count - off)) (areaWalk m area evs))
 
 abbrev μ-loop : tie.MeasureT-loop
 μ-loop t c runs d work ends area₀ evs₀ time ti e n count m₀ off₀ area evs m off = count - off
@@ -36,7 +36,7 @@ loop-less : tie.Need-loop-less Inv-loop μ-loop
 loop-less c = omega arith
 
 loop-again : tie.Need-loop-again Inv-loop μ-loop
-loop-again c = (c .before .before .before .before .before .before .before .before .loop .inv .0, omega arith, c .before .before .before .before .event .ensures .1, omega arith, omega arith, events-again (c .before .before .before .before .before .before .before .before .before .before .before .before .before .before .before .before .args .time) (c .before .before .before .before .before .before .before .before .before .before .before .before .before .before .before .before .args .e) (c .before .before .before .before .before .before .before .before .loop .off) (c .before .before .before .before .before .before .before .before .before .trip .result) (eventKeys (prepared (now (c .before .before .before .before .before .before .before .before .before .before .before .before .before .before .before .before .args .t)) (c .before .before .before .before .before .before .before .before .before .before .before .before .before .before .before .before .args .c) (now (c .before .before .before .before .before .before .before .before .before .before .before .before .before .before .before .before .args .runs)) (now (c .before .before .before .before .before .before .before .before .before .before .before .before .before .before .before .before .args .work)) (c .before .before .before .before .before .before .before .before .before .before .before .before .before .before .before .before .args .time)) (c .before .before .before .before .before .before .before .before .before .before .before .before .before .before .before .before .args .ti)) (walk (c .before .before .before .before .before .before .before .before .loop .m) (c .before .before .before .before .before .before .before .before .loop .area) (c .before .before .before .before .before .before .before .before .loop .evs)) (c .before .before .before .before .before .before .before .before .loop .inv .5) (c .before .before .before .before .event .ensures .0) (omega arith))
+loop-again c = (c .before .before .before .before .before .before .before .before .loop .inv .0, omega arith, c .before .before .before .before .event .ensures .1, omega arith, omega arith, events-again (c .before .before .before .before .before .before .before .before .before .before .before .before .before .before .before .before .args .time) (c .before .before .before .before .before .before .before .before .before .before .before .before .before .before .before .before .args .e) (c .before .before .before .before .before .before .before .before .loop .off) (c .before .before .before .before .before .before .before .before .before .trip .result) (eventKeys (prepared (now (c .before .before .before .before .before .before .before .before .before .before .before .before .before .before .before .before .args .t)) (c .before .before .before .before .before .before .before .before .before .before .before .before .before .before .before .before .args .c) (now (c .before .before .before .before .before .before .before .before .before .before .before .before .before .before .before .before .args .runs)) (now (c .before .before .before .before .before .before .before .before .before .before .before .before .before .before .before .before .args .work)) (c .before .before .before .before .before .before .before .before .before .before .before .before .before .before .before .before .args .time)) (c .before .before .before .before .before .before .before .before .before .before .before .before .before .before .before .before .args .ti)) (areaWalk (c .before .before .before .before .before .before .before .before .loop .m) (c .before .before .before .before .before .before .before .before .loop .area) (c .before .before .before .before .before .before .before .before .loop .evs)) (c .before .before .before .before .before .before .before .before .loop .inv .5) (c .before .before .before .before .event .ensures .0) (omega arith))
 
 same-length : tie.Need-same-length Inv-loop μ-loop
 same-length c = omega arith

@@ -2,7 +2,7 @@ use Rattle.exports.proofs.Shows.{shows}
 use denote.Ref.{now}
 use mathlib.Core.Path.{_∙_, ap}
 use Rattle.tables.specs.declared.Counts.{Counts}
-use Rattle.lines_call.specs.Call.{areas, outcome}
+use Rattle.lines_call.specs.Call.{lineAreas, linesOutcome}
 use borrow.Author.Needs.{needs}
 use Rattle.exports.proofs.savoiky_compute_line_groups.Statement.{statement}
 use Rattle.exports.proofs.savoiky_compute_line_groups.Tie as tie
@@ -32,7 +32,7 @@ same-length-5 : tie.Need-same-length-5
 same-length-5 c = search needs
 
 returns : tie.Need-returns
-returns c = shows _ _ _ _ (c .lines-answer .ensures) (c .before .before .before .before .before .before .before .before .before .before .before .compute-line-groups .ensures .0 ∙ ap (λ (k : Counts). outcome (now (c .before .before .before .before .before .before .before .before .before .before .before .before .before .before .before .before .before .before .before .before .before .before .before .before .args .tables)) k (areas (now (c .before .before .before .before .before .before .before .before .before .before .before .before .before .before .before .before .before .before .before .before .before .before .before .before .args .lines)) (now (c .before .before .before .before .before .before .before .before .before .before .before .before .before .before .before .before .before .before .before .before .before .before .before .before .args .runs)) (now (c .before .before .before .before .before .before .before .before .before .before .before .before .before .before .before .before .before .before .before .before .before .before .before .before .args .entries)) (now (c .before .before .before .before .before .before .before .before .before .before .before .before .before .before .before .before .before .before .before .before .before .before .before .before .args .work)) (now (c .before .before .before .before .before .before .before .before .before .before .before .before .before .before .before .before .before .before .before .before .before .before .before .before .args .other)))) (c .before .before .before .before .before .before .before .before .before .before .before .before .before .before .before .before .before .counts .ensures))
+returns c = shows _ _ _ _ (c .lines-answer .ensures) (c .before .before .before .before .before .before .before .before .before .before .before .compute-line-groups .ensures .0 ∙ ap (λ (k : Counts). linesOutcome (now (c .before .before .before .before .before .before .before .before .before .before .before .before .before .before .before .before .before .before .before .before .before .before .before .before .args .tables)) k (lineAreas (now (c .before .before .before .before .before .before .before .before .before .before .before .before .before .before .before .before .before .before .before .before .before .before .before .before .args .lines)) (now (c .before .before .before .before .before .before .before .before .before .before .before .before .before .before .before .before .before .before .before .before .before .before .before .before .args .runs)) (now (c .before .before .before .before .before .before .before .before .before .before .before .before .before .before .before .before .before .before .before .before .before .before .before .before .args .entries)) (now (c .before .before .before .before .before .before .before .before .before .before .before .before .before .before .before .before .before .before .before .before .before .before .before .before .args .work)) (now (c .before .before .before .before .before .before .before .before .before .before .before .before .before .before .before .before .before .before .before .before .before .before .before .before .args .other)))) (c .before .before .before .before .before .before .before .before .before .before .before .before .before .before .before .before .before .counts .ensures))
 
 pub savoiky-compute-line-groups-spec : {M : Type 1} → statement M
 savoiky-compute-line-groups-spec =

@@ -2,7 +2,7 @@ use Rattle.exports.proofs.Shows.{shows-transfers}
 use denote.Ref.{now}
 use mathlib.Core.Path.{_∙_, ap}
 use Rattle.tables.specs.declared.Counts.{Counts}
-use Rattle.transfers_call.specs.Call.{areas, lent, outcome}
+use Rattle.transfers_call.specs.Call.{transferAreas, transferLent, transfersOutcome}
 use borrow.Author.Needs.{needs}
 use Rattle.exports.proofs.savoiky_compute_trip_transfers.Statement.{statement}
 use Rattle.exports.proofs.savoiky_compute_trip_transfers.Tie as tie
@@ -23,7 +23,7 @@ same-length-2 : tie.Need-same-length-2
 same-length-2 c = search needs
 
 returns : tie.Need-returns
-returns c = shows-transfers _ _ _ _ (c .transfers-answer .ensures) (c .before .before .before .before .before .compute-trip-transfers .ensures ∙ ap (λ (k : Counts). outcome (lent (now (c .before .before .before .before .before .before .before .before .before .before .before .before .before .before .before .args .tables)) k (c .before .before .before .before .before .before .before .before .before .before .before .before .before .before .before .args .line-count) (now (c .before .before .before .before .before .before .before .before .before .before .before .before .before .before .before .args .lines)) (c .before .before .before .before .before .before .before .before .before .before .before .before .before .before .before .args .departures) (now (c .before .before .before .before .before .before .before .before .before .before .before .before .before .before .before .args .runs)) (now (c .before .before .before .before .before .before .before .before .before .before .before .before .before .before .before .args .rows)) 120) (areas (now (c .before .before .before .before .before .before .before .before .before .before .before .before .before .before .before .args .area)) (now (c .before .before .before .before .before .before .before .before .before .before .before .before .before .before .before .args .transfer-runs)))) (c .before .before .before .before .before .before .before .before .counts .ensures))
+returns c = shows-transfers _ _ _ _ (c .transfers-answer .ensures) (c .before .before .before .before .before .compute-trip-transfers .ensures ∙ ap (λ (k : Counts). transfersOutcome (transferLent (now (c .before .before .before .before .before .before .before .before .before .before .before .before .before .before .before .args .tables)) k (c .before .before .before .before .before .before .before .before .before .before .before .before .before .before .before .args .line-count) (now (c .before .before .before .before .before .before .before .before .before .before .before .before .before .before .before .args .lines)) (c .before .before .before .before .before .before .before .before .before .before .before .before .before .before .before .args .departures) (now (c .before .before .before .before .before .before .before .before .before .before .before .before .before .before .before .args .runs)) (now (c .before .before .before .before .before .before .before .before .before .before .before .before .before .before .before .args .rows)) 120) (transferAreas (now (c .before .before .before .before .before .before .before .before .before .before .before .before .before .before .before .args .area)) (now (c .before .before .before .before .before .before .before .before .before .before .before .before .before .before .before .args .transfer-runs)))) (c .before .before .before .before .before .before .before .before .counts .ensures))
 
 pub savoiky-compute-trip-transfers-spec : {M : Type 1} → statement M
 savoiky-compute-trip-transfers-spec =

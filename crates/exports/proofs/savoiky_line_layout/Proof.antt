@@ -1,4 +1,4 @@
-use Rattle.layout_call.specs.Call.{areas, outcome}
+use Rattle.layout_call.specs.Call.{layoutAreas, layoutOutcome}
 use denote.Ref.{now}
 use mathlib.Core.Path.{_∙_, ap}
 use Rattle.tables.specs.declared.Counts.{Counts}
@@ -19,7 +19,7 @@ same-length-2 : tie.Need-same-length-2
 same-length-2 c = search needs
 
 returns : tie.Need-returns
-returns c = let a = c .before .before .before .before .before .before .before .before .before .before .before .before .before .args in c .before .before .before .before .line-layout .ensures ∙ ap (λ (k : Counts). outcome (now (a .tables)) k (a .lines) (a .entry-count) (now (a .runs)) (now (a .entries)) (areas (now (a .positions)) (now (a .fifo)))) (c .before .before .before .before .before .before .before .counts .ensures)
+returns c = let a = c .before .before .before .before .before .before .before .before .before .before .before .before .before .args in c .before .before .before .before .line-layout .ensures ∙ ap (λ (k : Counts). layoutOutcome (now (a .tables)) k (a .lines) (a .entry-count) (now (a .runs)) (now (a .entries)) (layoutAreas (now (a .positions)) (now (a .fifo)))) (c .before .before .before .before .before .before .before .counts .ensures)
 
 pub savoiky-line-layout-spec : {M : Type 1} → statement M
 savoiky-line-layout-spec =

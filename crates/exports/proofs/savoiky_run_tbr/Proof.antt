@@ -1,8 +1,9 @@
 use denote.Ref.{now}
 use mathlib.Core.Path.{ap, _∙_}
-use Rattle.asking.specs.declared.QueryCounts.{QueryCounts}
-use Rattle.asking.specs.Lent.{lent}
-use Rattle.replies.specs.Outcome.{areas, runTbrOutcome}
+use Rattle.query_types.specs.declared.QueryCounts.{QueryCounts}
+use Rattle.query_input.specs.Lent.{lent}
+use Rattle.query_reply.specs.Outcome.{queryAreas}
+use Rattle.query_call.specs.Call.{runTbrOutcome}
 use borrow.Author.Needs.{needs}
 use Rattle.exports.proofs.savoiky_run_tbr.Statement.{statement}
 use Rattle.exports.proofs.savoiky_run_tbr.Tie as tie
@@ -34,7 +35,7 @@ same-length-6 c = search needs
 returns : tie.Need-returns
 returns c =
     let a = c .before .before .before .before .before .before .before .before .before .before .before .before .before .before .before .before .before .before .before .before .before .before .before .before .before .before .before .before .before .before .before .before .args in
-    (c .before .before .before .before .before .before .before .before .before .before .before .before .run-tbr .ensures) ∙ ap (λ (k : QueryCounts). runTbrOutcome (lent k (now (a .tables)) (now (a .built)) (now (a .transfers)) (now (a .patterns)) (now (a .distances)) (now (a .query))) (areas (now (a .labels)) (now (a .label-distances)) (now (a .work)) (now (a .queue-a)) (now (a .queue-b)) (now (a .candidates)))) (c .before .before .before .before .before .before .before .before .before .before .before .before .before .before .before .before .before .before .before .query-counts .ensures)
+    (c .before .before .before .before .before .before .before .before .before .before .before .before .run-tbr .ensures) ∙ ap (λ (k : QueryCounts). runTbrOutcome (lent k (now (a .tables)) (now (a .built)) (now (a .transfers)) (now (a .patterns)) (now (a .distances)) (now (a .query))) (queryAreas (now (a .labels)) (now (a .label-distances)) (now (a .work)) (now (a .queue-a)) (now (a .queue-b)) (now (a .candidates)))) (c .before .before .before .before .before .before .before .before .before .before .before .before .before .before .before .before .before .before .before .query-counts .ensures)
 
 pub savoiky-run-tbr-spec : {M : Type 1} → statement M
 savoiky-run-tbr-spec =

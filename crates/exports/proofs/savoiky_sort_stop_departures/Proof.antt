@@ -1,4 +1,4 @@
-use Rattle.departures_call.specs.Call.{areas, outcome}
+use Rattle.departures_call.specs.Call.{sortAreas, sortOutcome}
 use denote.Ref.{now}
 use mathlib.Core.Path.{_∙_, ap}
 use Rattle.tables.specs.declared.Counts.{Counts}
@@ -25,7 +25,7 @@ same-length-4 : tie.Need-same-length-4
 same-length-4 c = search needs
 
 returns : tie.Need-returns
-returns c = let a = c .before .before .before .before .before .before .before .before .before .before .before .before .before .before .before .before .before .before .before .before .args in c .before .before .before .before .before .before .before .before .sort-stop-departures .ensures ∙ ap (λ (k : Counts). outcome (now (a .tables)) k (a .departures) (now (a .runs)) (areas (now (a .rows)) (now (a .marks)) (now (a .work)) (now (a .other)))) (c .before .before .before .before .before .before .before .before .before .before .before .before .before .counts .ensures)
+returns c = let a = c .before .before .before .before .before .before .before .before .before .before .before .before .before .before .before .before .before .before .before .before .args in c .before .before .before .before .before .before .before .before .sort-stop-departures .ensures ∙ ap (λ (k : Counts). sortOutcome (now (a .tables)) k (a .departures) (now (a .runs)) (sortAreas (now (a .rows)) (now (a .marks)) (now (a .work)) (now (a .other)))) (c .before .before .before .before .before .before .before .before .before .before .before .before .before .counts .ensures)
 
 pub savoiky-sort-stop-departures-spec : {M : Type 1} → statement M
 savoiky-sort-stop-departures-spec =

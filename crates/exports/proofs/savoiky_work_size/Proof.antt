@@ -1,5 +1,5 @@
 use mathlib.Core.Path.{ap, _∙_}
-use Rattle.asking.specs.Door.{workspaceAnswer}
+use Rattle.query_call.specs.Workspace.{workspaceAnswer}
 use borrow.Author.Needs.{needs}
 use Rattle.exports.proofs.savoiky_work_size.Statement.{statement}
 use Rattle.exports.proofs.savoiky_work_size.Tie as tie

@@ -1,7 +1,7 @@
 use mathlib.Core.Logic.{⊎-elim}
 use Rattle.loops.proofs.Iter.{range-left}
 use Rattle.loops.specs.Iter.{range}
-use Rattle.frequency.specs.Gtfs.{boardNext, earliestFreqBoard, windowAt, windowCount}
+use Rattle.frequency.specs.Gtfs.{boardNext, earliestFreqBoard, windowIn, windowCount}
 use native.Mathlib.Omega.{arith}
 use Rattle.frequency.proofs.Best.{again-new, again-old}
 use mathlib.Core.Path.{_∙_, _≡_, refl}
@@ -11,7 +11,7 @@ use Rattle.frequency.proofs.earliest_freq_board.Statement.{statement}
 use Rattle.frequency.proofs.earliest_freq_board.Tie as tie
 
 abbrev Inv-loop : tie.InvT-loop
-Inv-loop windows base dep after best₀ window₀ run₀ i₀ best window run i = (i ≤ windowCount windows) × ((earliestFreqBoard (windowCount windows) (windowAt windows) base dep after ≡ range (boardNext (windowAt windows) base dep after) i (windowCount windows) (boardOf best window base dep run)) × Fair base dep best)
+Inv-loop windows base dep after best₀ window₀ run₀ i₀ best window run i = (i ≤ windowCount windows) × ((earliestFreqBoard (windowCount windows) (windowIn windows) base dep after ≡ range (boardNext (windowIn windows) base dep after) i (windowCount windows) (boardOf best window base dep run)) × Fair base dep best)
 
 abbrev μ-loop : tie.MeasureT-loop
 μ-loop windows base dep after best₀ window₀ run₀ i₀ best window run i = windowCount windows - i

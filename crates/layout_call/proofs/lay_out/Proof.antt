@@ -1,4 +1,4 @@
-use Rattle.layout_call.specs.Call.{areas}
+use Rattle.layout_call.specs.Call.{layoutAreas}
 use mathlib.Core.Path.{ap₂}
 use borrow.Author.Needs.{needs}
 use Rattle.layout_call.proofs.lay_out.Statement.{statement}
@@ -17,7 +17,7 @@ same-length-2 : tie.Need-same-length-2
 same-length-2 c = search needs
 
 returns : tie.Need-returns
-returns c = ap₂ areas (c .before .before .before .before .before .before .line-positions .ensures) (c .before .before .line-fifo .ensures)
+returns c = ap₂ layoutAreas (c .before .before .before .before .before .before .line-positions .ensures) (c .before .before .line-fifo .ensures)
 
 pub lay-out-spec : {M : Type 1} → statement M
 lay-out-spec =

@@ -1,4 +1,4 @@
-use Rattle.layout_call.specs.Call.{sizesOk, verdict}
+use Rattle.layout_call.specs.Call.{layoutSizesOk, layoutVerdict}
 use denote.Ref.{now}
 use borrow.Author.Needs.{needs}
 use lib.ListN.{length}
@@ -19,7 +19,7 @@ abbrev asked1 : tie.Start → Bool
 asked1 s = countsOk (s .args .c) && (leb (s .args .lines) 4096 && leb (s .args .n) 4096)
 
 abbrev asked2 : tie.Start → Bool
-asked2 s = slicesOk (now (s .args .t)) (s .args .c) && sizesOk (s .args .c) (s .args .lines) (s .args .n) (length (now (s .args .runs))) (length (now (s .args .entries))) (s .args .positions) (s .args .fifo)
+asked2 s = slicesOk (now (s .args .t)) (s .args .c) && layoutSizesOk (s .args .c) (s .args .lines) (s .args .n) (length (now (s .args .runs))) (length (now (s .args .entries))) (s .args .positions) (s .args .fifo)
 
 abbrev asked3 : tie.Start → Bool
 asked3 s = runsOk (now (s .args .t)) (s .args .c) && lineRunsOk (now (s .args .runs)) (s .args .lines) (s .args .n)
@@ -64,7 +64,7 @@ both-requires-2 : tie.Need-both-requires-2
 both-requires-2 c κs = search needs
 
 returns : tie.Need-returns
-unfolding verdict
+unfolding layoutVerdict
 returns c = ask-no 1 _ _ (found-no (c .before .both2 .ensures) (c .before .before .before .counts-ok .ensures) (c .before .before .both .ensures) (c .if1 .taken))
 
 slices-ok-requires : tie.Need-slices-ok-requires
@@ -77,7 +77,7 @@ both-requires-3 : tie.Need-both-requires-3
 both-requires-3 c κs = search needs
 
 returns-2 : tie.Need-returns-2
-unfolding verdict
+unfolding layoutVerdict
 returns-2 c = ask-on 1 _ (q1 (c .before .before .before .before)) (ask-no 2 _ _ (found-no (c .before .both3 .ensures) (c .before .before .before .slices-ok .ensures) (c .before .before .sizes-ok .ensures) (c .if2 .taken)))
 
 runs-ok-requires : tie.Need-runs-ok-requires
@@ -90,7 +90,7 @@ both-requires-4 : tie.Need-both-requires-4
 both-requires-4 c κs = search needs
 
 returns-3 : tie.Need-returns-3
-unfolding verdict
+unfolding layoutVerdict
 returns-3 c = ask-on 1 _ (q1 (c .before .before .before .before .before .before .before .before)) (ask-on 2 _ (q2 (c .before .before .before .before)) (ask-no 3 _ _ (found-no (c .before .both4 .ensures) (c .before .before .before .runs-ok .ensures) (c .before .before .line-runs-ok .ensures) (c .if3 .taken))))
 
 entries-ok-requires : tie.Need-entries-ok-requires
@@ -118,7 +118,7 @@ order-ok-requires : tie.Need-order-ok-requires
 order-ok-requires c κs = ((limits (c .before .before .before .before .before .before .before .before .before .before .before .before)) .counts, (sizes (c .before .before .before .before .before .before .before .before)) .slices)
 
 returns-4 : tie.Need-returns-4
-unfolding verdict
+unfolding layoutVerdict
 returns-4 c =
     let e = rows-yes (c .before .before) in
     ask-on 1 _ (q1 (c .before .before .before .before .before .before .before .before .before .before .before .before .before .before))
@@ -129,7 +129,7 @@ returns-4 c =
     (ask-on 6 _ (sym (c .before .order-ok .ensures) ∙ c .if5 .taken) refl)))))
 
 returns-5 : tie.Need-returns-5
-unfolding verdict
+unfolding layoutVerdict
 returns-5 c =
     let e = rows-yes (c .before .before) in
     ask-on 1 _ (q1 (c .before .before .before .before .before .before .before .before .before .before .before .before .before .before))
@@ -146,7 +146,7 @@ both-requires-6 : tie.Need-both-requires-6
 both-requires-6 c κs = search needs
 
 returns-6 : tie.Need-returns-6
-unfolding verdict
+unfolding layoutVerdict
 returns-6 c =
     ask-on 1 _ (q1 (c .before .before .before .before .before .before .before .before .before .before .before .before .before .before .before))
     (ask-on 2 _ (q2 (c .before .before .before .before .before .before .before .before .before .before .before))
@@ -154,7 +154,7 @@ returns-6 c =
     (ask-no 4 _ _ (found-no (c .before .both6 .ensures) (c .before .before .numbers-ok .ensures) (c .before .before .before .before .before .before .entries-ok .ensures) (c .if6 .taken)))))
 
 returns-7 : tie.Need-returns-7
-unfolding verdict
+unfolding layoutVerdict
 returns-7 c =
     let s = c .before .before .before .before .before .before .before .before .before .before .before .before .before .before .before .before .before .before .before .before .before .before in
     let n = numbersOk (now (s .args .t)) (s .args .c) in

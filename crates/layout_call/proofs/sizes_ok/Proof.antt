@@ -1,6 +1,6 @@
 use mathlib.Core.Bool.{_&&_}
 use mathlib.Core.Path.{_∙_, ap₂}
-use Rattle.layout_call.specs.Call.{sizesOk}
+use Rattle.layout_call.specs.Call.{layoutSizesOk}
 use borrow.Author.Needs.{needs}
 use Rattle.layout_call.proofs.sizes_ok.Statement.{statement}
 use Rattle.layout_call.proofs.sizes_ok.Tie as tie
@@ -18,7 +18,7 @@ both-requires-3 : tie.Need-both-requires-3
 both-requires-3 c κs = search needs
 
 returns : tie.Need-returns
-unfolding sizesOk
+unfolding layoutSizesOk
 returns c = c .both3 .ensures ∙ ap₂ _&&_ (c .before .before .before .both .ensures) (c .before .both2 .ensures)
 
 pub sizes-ok-spec : {M : Type 1} → statement M

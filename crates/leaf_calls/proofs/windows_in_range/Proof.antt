@@ -1,5 +1,5 @@
 use Rattle.leaf_calls.specs.FrequencyCall.{windowInRange, windowsInRange}
-use Rattle.frequency.specs.Gtfs.{windowAt, windowCount}
+use Rattle.frequency.specs.Gtfs.{windowIn, windowCount}
 use borrow.Author.Tests.{not-false, not-true}
 use Rattle.loops.specs.Iter.{everyIn}
 use Rattle.loops.proofs.Iter.{every-again, every-left, every-no}
@@ -10,7 +10,7 @@ use Rattle.leaf_calls.proofs.windows_in_range.Statement.{statement}
 use Rattle.leaf_calls.proofs.windows_in_range.Tie as tie
 
 abbrev Inv-loop : tie.InvT-loop
-Inv-loop windows i₀ i = (i ≤ windowCount windows) × (windowsInRange windows ≡ everyIn (λ k. windowInRange (windowAt windows k)) i (windowCount windows))
+Inv-loop windows i₀ i = (i ≤ windowCount windows) × (windowsInRange windows ≡ everyIn (λ k. windowInRange (windowIn windows k)) i (windowCount windows))
 
 abbrev μ-loop : tie.MeasureT-loop
 μ-loop windows i₀ i = windowCount windows - i

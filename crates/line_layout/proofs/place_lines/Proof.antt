@@ -1,5 +1,5 @@
 use Rattle.line_layout.specs.declared.LineRun.{LineRun}
-use Rattle.line_layout.specs.Layout.{lineAt, placed, positionIn, tripsIn, unlisted}
+use Rattle.line_layout.specs.Layout.{lineTripsIn, placed, positionIn, tripsIn, unlisted}
 use denote.Ref.{now}
 use Rattle.line_layout.proofs.Placing.{length-tab, positions-again, positions-none}
 use lib.ListN.{length}
@@ -11,7 +11,7 @@ use Rattle.line_layout.proofs.place_lines.Statement.{statement}
 use Rattle.line_layout.proofs.place_lines.Tie as tie
 
 abbrev Inv-loop : tie.InvT-loop
-Inv-loop c lines runs entries positions₀ l₀ positions l = (l ≤ lines) × (positions ≡ tab (positionIn (lineAt runs entries) l) (c .trips))
+Inv-loop c lines runs entries positions₀ l₀ positions l = (l ≤ lines) × (positions ≡ tab (positionIn (lineTripsIn runs entries) l) (c .trips))
 
 abbrev μ-loop : tie.MeasureT-loop
 μ-loop c lines runs entries positions₀ l₀ positions l = lines - l
@@ -38,7 +38,7 @@ same-length : tie.Need-same-length Inv-loop μ-loop
 same-length c = let s = c .before .before .before .before .before in let e : length (c .before .loop .positions) ≡ s .args .c .trips = ap length (c .before .loop .inv .1) ∙ length-tab _ _ in omega (arith, ap length (s .pre .1), length-tab (λ a. unlisted) (s .args .c .trips))
 
 returns : tie.Need-returns Inv-loop μ-loop
-returns c = let s = c .before .before .before .before .before in c .before .loop .inv .1 ∙ ap (λ (k : ℕ). tab (positionIn (lineAt (now (s .args .runs)) (now (s .args .entries))) k) (s .args .c .trips)) (omega arith)
+returns c = let s = c .before .before .before .before .before in c .before .loop .inv .1 ∙ ap (λ (k : ℕ). tab (positionIn (lineTripsIn (now (s .args .runs)) (now (s .args .entries))) k) (s .args .c .trips)) (omega arith)
 
 pub place-lines-spec : {M : Type 1} → statement M
 place-lines-spec =

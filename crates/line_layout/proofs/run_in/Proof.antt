@@ -1,4 +1,4 @@
-use Rattle.line_layout.specs.Listed.{runIn}
+use Rattle.line_layout.specs.Listed.{lineRunIn}
 use borrow.Author.Needs.{needs}
 use Rattle.line_layout.proofs.run_in.Statement.{statement}
 use Rattle.line_layout.proofs.run_in.Tie as tie
@@ -7,7 +7,7 @@ add-result : tie.Need-add-result
 add-result c = search needs
 
 returns : tie.Need-returns
-unfolding runIn
+unfolding lineRunIn
 returns c = search needs
 
 pub run-in-spec : {M : Type 1} → statement M

@@ -3,7 +3,7 @@ use borrow.Author.Tests.{not-false, not-true}
 use Rattle.loops.specs.Iter.{everyIn}
 use Rattle.loops.proofs.Iter.{every-again, every-left, every-no}
 use Rattle.departures.specs.Departures.{departuresOf, runLength}
-use Rattle.asking.specs.Door.{departureOrder, partOrder}
+use Rattle.query_door.specs.Door.{departureOrder, partOrder}
 use native.Mathlib.Omega.{arith}
 use mathlib.Core.Path.{_∙_, _≡_, refl, sym}
 use Prim.Native.Nat.{_-_}

@@ -4,7 +4,7 @@ use lib.Dec.{ltb}
 use Rattle.loops.specs.Iter.{everyIn}
 use Rattle.loops.proofs.Iter.{every-again, every-left, every-no}
 use Rattle.loops.specs.Count.{count}
-use Rattle.asking.specs.Door.{columnAt, columnRises}
+use Rattle.query_door.specs.Door.{columnAt, columnRises}
 use native.Mathlib.Omega.{arith}
 use mathlib.Core.Path.{_∙_, _≡_, refl, sym}
 use Prim.Native.Nat.{_-_, _≤_}

@@ -5,7 +5,7 @@ use denote.Ref.{now}
 use native.Mathlib.Omega.{arith}
 use borrow.Author.Tests.{eqb-true, not-false}
 use Rattle.departures.specs.declared.StopRun.{StopRun}
-use Rattle.asking.proofs.Once.{Turned, in-turn, turned-more, turned-none}
+use Rattle.query_door.proofs.Once.{Turned, in-turn, turned-more, turned-none}
 use Rattle.query_door.proofs.in_turn.Statement.{statement}
 use Rattle.query_door.proofs.in_turn.Tie as tie
 

@@ -1,10 +1,10 @@
 use Prim.Native.Nat.{ℕ}
 use Rattle.tables.specs.Timetable.{timetable}
 use borrow.Author.Needs.{needs}
-use Rattle.asking.specs.Door.{lineNumbers}
+use Rattle.query_door.specs.Door.{lineNumbers}
 use lib.ListN.{length}
 use Rattle.line_layout.specs.Listed.{entriesOk}
-use Rattle.asking.proofs.Parts.{entries-size}
+use Rattle.query_input.proofs.Parts.{entries-size}
 use native.Mathlib.Omega.{arith}
 use mathlib.Core.Path.{_∙_, ap, ap₂}
 use mathlib.Core.Bool.{_&&_}

@@ -1,6 +1,6 @@
 use Prim.Native.Nat.{ℕ}
 use Rattle.tables.specs.Timetable.{timetable}
-use Rattle.asking.specs.Door.{columnBelow, markRanges}
+use Rattle.query_door.specs.Door.{columnBelow, markRanges}
 use native.Mathlib.Omega.{arith}
 use mathlib.Core.Path.{_∙_, ap}
 use denote.Ref.{now}

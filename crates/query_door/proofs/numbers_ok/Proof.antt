@@ -1,8 +1,8 @@
 use Prim.Native.Nat.{ℕ}
 use Rattle.tables.specs.Timetable.{timetable}
-use Rattle.asking.specs.Door.{question4}
+use Rattle.query_door.specs.Door.{queryQuestion4}
 use borrow.Author.Needs.{needs}
-use Rattle.asking.proofs.Parts.{marks-room, query-room, rows-size}
+use Rattle.query_input.proofs.Parts.{marks-room, query-room, rows-size}
 use Rattle.departures.specs.Listed.{listedOk}
 use lib.ListN.{length}
 use mathlib.Core.Path.{_∙_, ap, ap₂}
@@ -46,7 +46,7 @@ both-requires-4 : tie.Need-both-requires-4
 both-requires-4 c κs = search needs
 
 returns : tie.Need-returns
-unfolding question4
+unfolding queryQuestion4
 returns c = c .both4 .ensures ∙ ap₂ _&&_ (c .before .before .before .before .before .both .ensures ∙ ap₂ _&&_ (c .before .before .before .before .before .before .before .numbers-ok .ensures) (c .before .before .before .before .before .before .line-numbers .ensures)) (c .before .both3 .ensures ∙ ap₂ _&&_ (c .before .before .before .before .before .before .before .before .listed-ok .ensures ∙ ap₂ (λ (a b : List ℕ). listedOk (now (c .before .before .before .before .before .before .before .before .before .before .before .before .before .before .before .args .t)) (c .before .before .before .before .before .before .before .before .before .before .before .before .before .before .before .args .n .timetable) a b (c .before .before .before .before .before .before .before .before .before .before .before .before .before .before .before .args .n .departures)) (c .before .before .before .before .before .before .before .before .before .before .stop-runs .ensures) (c .before .before .before .before .before .before .before .before .before .departure-rows .ensures)) (c .before .before .both2 .ensures ∙ ap₂ _&&_ (c .before .before .before .before .query-numbers .ensures) (c .before .before .before .delays-ok .ensures)))
 
 pub numbers-ok-spec : {M : Type 1} → statement M

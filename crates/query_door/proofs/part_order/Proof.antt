@@ -1,6 +1,6 @@
 use Rattle.tables.specs.Timetable.{Timetable, timetable}
 use Rattle.departures.specs.Departures.{rowAt, rowDeparture}
-use Rattle.asking.specs.Door.{notEarlier, partOrder}
+use Rattle.query_door.specs.Door.{notEarlier, partOrder}
 use borrow.Author.Tests.{not-false, not-true}
 use borrow.Author.Needs.{needs}
 use Rattle.loops.specs.Iter.{everyIn}

@@ -5,10 +5,10 @@ use mathlib.Core.List.{List}
 use lib.ListN.{length}
 use denote.Ref.{now}
 use borrow.Author.Tests.{not-false}
-use Rattle.asking.specs.Lent.{departureRows}
-use Rattle.asking.specs.Once.{InTurn}
-use Rattle.asking.proofs.Parts.{marks-room, rows-size}
-use Rattle.asking.proofs.Once.{passed-yes}
+use Rattle.query_input.specs.Lent.{departureRows}
+use Rattle.query_door.specs.Once.{InTurn}
+use Rattle.query_input.proofs.Parts.{marks-room, rows-size}
+use Rattle.query_door.proofs.Once.{passed-yes}
 use borrow.Author.Needs.{needs}
 use Rattle.query_door.proofs.passed.Statement.{statement}
 use Rattle.query_door.proofs.passed.Tie as tie

@@ -1,4 +1,4 @@
-use Rattle.asking.specs.Once.{queryOk}
+use Rattle.query_door.specs.Once.{queryOk}
 use mathlib.Core.Path.{_∙_, ap₂}
 use mathlib.Core.Bool.{_&&_}
 use borrow.Author.Needs.{needs}

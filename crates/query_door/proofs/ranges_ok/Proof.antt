@@ -1,5 +1,5 @@
-use Rattle.asking.specs.Door.{question5}
-use Rattle.asking.proofs.Parts.{query-room, runs-room}
+use Rattle.query_door.specs.Door.{queryQuestion5}
+use Rattle.query_input.proofs.Parts.{query-room, runs-room}
 use borrow.Author.Needs.{needs}
 use native.Mathlib.Omega.{arith}
 use mathlib.Core.Path.{_∙_, ap₂}
@@ -41,7 +41,7 @@ both-requires-5 : tie.Need-both-requires-5
 both-requires-5 c κs = search needs
 
 returns : tie.Need-returns
-unfolding question5
+unfolding queryQuestion5
 returns c = c .both5 .ensures ∙ ap₂ _&&_ (c .before .before .before .before .before .before .both2 .ensures ∙ ap₂ _&&_ (c .before .before .before .before .before .before .before .before .before .before .ranges-ok .ensures) (c .before .before .before .before .before .before .before .both .ensures ∙ ap₂ _&&_ (c .before .before .before .before .before .before .before .before .before .mark-ranges .ensures) (c .before .before .before .before .before .before .before .before .transfer-ranges .ensures))) (c .before .both4 .ensures ∙ ap₂ _&&_ (c .before .before .before .before .before .setting-ranges .ensures) (c .before .before .both3 .ensures ∙ ap₂ _&&_ (c .before .before .before .before .walk-ranges .ensures) (c .before .before .before .delays-ok .ensures)))
 
 pub ranges-ok-spec : {M : Type 1} → statement M

@@ -1,6 +1,6 @@
 use Rattle.query_door.proofs.Small.{never}
 use Rattle.tables.specs.Timetable.{timetable}
-use Rattle.asking.proofs.Once.{run-more, run-none, run-upto}
+use Rattle.query_door.proofs.Once.{run-more, run-none, run-upto}
 use Rattle.departures.specs.declared.DepartureRow.{DepartureRow}
 use Rattle.departures.specs.Departures.{rowAt, rowDeparture}
 use denote.Ref.{now}
@@ -8,7 +8,7 @@ use borrow.Author.Needs.{needs}
 use native.Mathlib.Omega.{arith}
 use mathlib.Core.Path.{_∙_, _≡_, ap, subst, sym}
 use Prim.Native.Nat.{_+_, _-_, _≤_, ℕ}
-use Rattle.asking.specs.Once.{Leaving, RunRight}
+use Rattle.query_door.specs.Once.{Leaving, RunRight}
 use Rattle.query_door.proofs.run_right.Statement.{statement}
 use Rattle.query_door.proofs.run_right.Tie as tie
 

@@ -1,7 +1,7 @@
 use Prim.Native.Nat.{ℕ}
 use Rattle.tables.specs.Timetable.{timetable}
 use Rattle.departures.proofs.Parts.{run-known, run-part, run-room}
-use Rattle.asking.specs.Door.{partOrder}
+use Rattle.query_door.specs.Door.{partOrder}
 use lib.ListN.{length}
 use native.Mathlib.Omega.{arith}
 use mathlib.Core.Path.{_∙_, ap, ap₂}

@@ -1,6 +1,6 @@
 use mathlib.Core.Path.{_∙_, ap₂}
 use mathlib.Core.Bool.{_&&_}
-use Rattle.asking.specs.Once.{tablesOk}
+use Rattle.query_door.specs.Once.{tablesOk}
 use borrow.Author.Needs.{needs}
 use Rattle.query_door.proofs.tables_ok.Statement.{statement}
 use Rattle.query_door.proofs.tables_ok.Tie as tie

@@ -1,10 +1,10 @@
 use Rattle.door.specs.Door.{timeLimit}
-use Rattle.asking.proofs.Once.{time-kept}
+use Rattle.query_door.proofs.Once.{time-kept}
 use denote.Ref.{now}
 use lib.Dec.{leb, ltb}
 use Rattle.loops.specs.Iter.{everyIn}
 use Rattle.loops.proofs.Iter.{every-keep, every-kept}
-use Rattle.asking.specs.Door.{columnAt, columnBelow, transferRanges}
+use Rattle.query_door.specs.Door.{columnAt, columnBelow, transferRanges}
 use native.Mathlib.Omega.{arith}
 use mathlib.Core.Path.{_≡_, refl}
 use Prim.Native.Nat.{_+_, _-_, _≤_}

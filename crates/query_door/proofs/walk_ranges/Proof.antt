@@ -1,4 +1,4 @@
-use Rattle.asking.specs.Door.{walkRanges}
+use Rattle.query_door.specs.Door.{walkRanges}
 use borrow.Author.Needs.{needs}
 use native.Mathlib.Omega.{arith}
 use mathlib.Core.Path.{_∙_, ap₂}

@@ -1,4 +1,4 @@
-use Rattle.round.proofs.Tests.{or-rest}
+use Rattle.rounds.proofs.Tests.{or-rest}
 use borrow.Author.Needs.{needs}
 use Rattle.rounds.proofs.ends.Statement.{statement}
 use Rattle.rounds.proofs.ends.Tie as tie

@@ -1,4 +1,4 @@
-use Rattle.round.proofs.Tests.{idle-flagged, idle-not, idle-plain}
+use Rattle.rounds.proofs.Tests.{idle-flagged, idle-not, idle-plain}
 use Rattle.rounds.proofs.idle.Statement.{statement}
 use Rattle.rounds.proofs.idle.Tie as tie
 

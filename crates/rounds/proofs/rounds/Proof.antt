@@ -1,11 +1,11 @@
 use Rattle.walk_time.proofs.Laws.{rounds-most}
 use Prim.Native.Nat.{_-_}
 use mathlib.Core.Path.{refl, sym, _∙_}
-use Rattle.asking.specs.Lent.{lent, queryOf, tablesOf}
-use Rattle.round.specs.Round.{Running}
+use Rattle.query_input.specs.Lent.{lent, queryOf, tablesOf}
+use Rattle.rounds.specs.Round.{Running}
 use denote.Ref.{now}
 use borrow.Author.Needs.{needs}
-use Rattle.scratch.specs.View.{memory}
+use Rattle.search_state.specs.View.{memory}
 use lib.ListN.{getD, length}
 use Rattle.rounds.proofs.Loop.{ended-early, ended-last, fed-of, loop-open, loop-start, loop-turn}
 use native.Mathlib.Omega.{arith}

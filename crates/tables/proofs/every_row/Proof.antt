@@ -1,6 +1,6 @@
 use denote.Ref.{now}
 use borrow.Author.Tests.{not-false, not-true}
-use Rattle.tables.specs.Door.{everyRow, rowOk, rowsOf}
+use Rattle.tables.specs.Door.{everyRow, rowOk, rowCountOf}
 use Rattle.loops.specs.Iter.{everyIn}
 use Rattle.loops.proofs.Iter.{every-again, every-left, every-no}
 use native.Mathlib.Omega.{arith}
@@ -11,7 +11,7 @@ use Rattle.tables.proofs.every_row.Statement.{statement}
 use Rattle.tables.proofs.every_row.Tie as tie
 
 abbrev Inv-loop : tie.InvT-loop
-Inv-loop t c k n i₀ i = (n ≡ rowsOf k c) × (everyRow t c k ≡ everyIn (rowOk t c k) i n)
+Inv-loop t c k n i₀ i = (n ≡ rowCountOf k c) × (everyRow t c k ≡ everyIn (rowOk t c k) i n)
 
 abbrev μ-loop : tie.MeasureT-loop
 μ-loop t c k n i₀ i = n - i

@@ -1,4 +1,4 @@
-use Rattle.tables.specs.Door.{rowOk, rowsOf, tripRuns, stopTimeNumbers, edgeNumbers, stopTimeRanges, tripRanges, windowRanges, edgeRanges}
+use Rattle.tables.specs.Door.{rowOk, rowCountOf, tripRuns, stopTimeNumbers, edgeNumbers, stopTimeRanges, tripRanges, windowRanges, edgeRanges}
 use denote.Ref.{now}
 use native.Mathlib.Omega.{arith}
 use mathlib.Core.Path.{ap, sym, _∙_}
@@ -11,7 +11,7 @@ enum-told : tie.Need-enum-told
 enum-told c = search needs
 
 trip-row-requires : tie.Need-trip-row-requires
-trip-row-requires c κs = (search needs, (search needs, omega (arith, ap (λ (k : Check). rowsOf k (c .before .before .before .args .c)) (c .enum-told .given .1))))
+trip-row-requires c κs = (search needs, (search needs, omega (arith, ap (λ (k : Check). rowCountOf k (c .before .before .before .args .c)) (c .enum-told .given .1))))
 
 trip-runs-requires : tie.Need-trip-runs-requires
 trip-runs-requires c κs = search needs
@@ -20,7 +20,7 @@ enum-told-2 : tie.Need-enum-told-2
 enum-told-2 c = search needs
 
 stop-time-row-requires : tie.Need-stop-time-row-requires
-stop-time-row-requires c κs = (search needs, (search needs, omega (arith, ap (λ (k : Check). rowsOf k (c .before .before .before .args .c)) (c .enum-told2 .given .1))))
+stop-time-row-requires c κs = (search needs, (search needs, omega (arith, ap (λ (k : Check). rowCountOf k (c .before .before .before .args .c)) (c .enum-told2 .given .1))))
 
 stop-time-numbers-requires : tie.Need-stop-time-numbers-requires
 stop-time-numbers-requires c κs = search needs
@@ -29,7 +29,7 @@ enum-told-3 : tie.Need-enum-told-3
 enum-told-3 c = search needs
 
 edge-row-requires : tie.Need-edge-row-requires
-edge-row-requires c κs = (search needs, (search needs, omega (arith, ap (λ (k : Check). rowsOf k (c .before .before .before .args .c)) (c .enum-told3 .given .1))))
+edge-row-requires c κs = (search needs, (search needs, omega (arith, ap (λ (k : Check). rowCountOf k (c .before .before .before .args .c)) (c .enum-told3 .given .1))))
 
 edge-numbers-requires : tie.Need-edge-numbers-requires
 edge-numbers-requires c κs = search needs
@@ -38,7 +38,7 @@ enum-told-4 : tie.Need-enum-told-4
 enum-told-4 c = search needs
 
 stop-time-row-requires-2 : tie.Need-stop-time-row-requires-2
-stop-time-row-requires-2 c κs = (search needs, (search needs, omega (arith, ap (λ (k : Check). rowsOf k (c .before .before .before .args .c)) (c .enum-told4 .given .1))))
+stop-time-row-requires-2 c κs = (search needs, (search needs, omega (arith, ap (λ (k : Check). rowCountOf k (c .before .before .before .args .c)) (c .enum-told4 .given .1))))
 
 stop-time-ranges-requires : tie.Need-stop-time-ranges-requires
 stop-time-ranges-requires c κs = search needs
@@ -47,7 +47,7 @@ enum-told-5 : tie.Need-enum-told-5
 enum-told-5 c = search needs
 
 trip-row-requires-2 : tie.Need-trip-row-requires-2
-trip-row-requires-2 c κs = (search needs, (search needs, omega (arith, ap (λ (k : Check). rowsOf k (c .before .before .before .args .c)) (c .enum-told5 .given .1))))
+trip-row-requires-2 c κs = (search needs, (search needs, omega (arith, ap (λ (k : Check). rowCountOf k (c .before .before .before .args .c)) (c .enum-told5 .given .1))))
 
 trip-ranges-requires : tie.Need-trip-ranges-requires
 trip-ranges-requires c κs = search needs
@@ -56,7 +56,7 @@ enum-told-6 : tie.Need-enum-told-6
 enum-told-6 c = search needs
 
 window-row-requires : tie.Need-window-row-requires
-window-row-requires c κs = (search needs, (search needs, omega (arith, ap (λ (k : Check). rowsOf k (c .before .before .before .args .c)) (c .enum-told6 .given .1))))
+window-row-requires c κs = (search needs, (search needs, omega (arith, ap (λ (k : Check). rowCountOf k (c .before .before .before .args .c)) (c .enum-told6 .given .1))))
 
 window-ranges-requires : tie.Need-window-ranges-requires
 window-ranges-requires c κs = search needs
@@ -65,7 +65,7 @@ enum-told-7 : tie.Need-enum-told-7
 enum-told-7 c = search needs
 
 edge-row-requires-2 : tie.Need-edge-row-requires-2
-edge-row-requires-2 c κs = (search needs, (search needs, omega (arith, ap (λ (k : Check). rowsOf k (c .before .before .before .args .c)) (c .enum-told7 .given .1))))
+edge-row-requires-2 c κs = (search needs, (search needs, omega (arith, ap (λ (k : Check). rowCountOf k (c .before .before .before .args .c)) (c .enum-told7 .given .1))))
 
 edge-ranges-requires : tie.Need-edge-ranges-requires
 edge-ranges-requires c κs = search needs
@@ -74,7 +74,7 @@ enum-told-8 : tie.Need-enum-told-8
 enum-told-8 c = search needs
 
 edge-rises-requires : tie.Need-edge-rises-requires
-edge-rises-requires c κs = (search needs, (search needs, omega (arith, ap (λ (k : Check). rowsOf k (c .before .before .before .args .c)) (c .enum-told8 .given .1))))
+edge-rises-requires c κs = (search needs, (search needs, omega (arith, ap (λ (k : Check). rowCountOf k (c .before .before .before .args .c)) (c .enum-told8 .given .1))))
 
 returns : tie.Need-returns
 returns c = c .trip-runs .ensures ∙ ap (tripRuns (c .before .before .before .before .before .args .c)) (c .before .trip-row .ensures .0) ∙ sym (ap (λ (k : Check). rowOk (now (c .before .before .before .before .before .args .t)) (c .before .before .before .before .before .args .c) k (c .before .before .before .before .before .args .i)) (c .before .before .enum-told .given .1))

@@ -1,4 +1,4 @@
-use Rattle.transfers_call.specs.Call.{Lent, lent, question1, question2, question3, question4, question5}
+use Rattle.transfers_call.specs.Call.{TransferLent, transferLent, transfersQuestion1, transfersQuestion2, transfersQuestion3, transfersQuestion4, transfersQuestion5}
 use mathlib.Core.Path.{_≡_, refl}
 use mathlib.Core.Bool.{true}
 use denote.Ref.{now}
@@ -9,24 +9,24 @@ use Rattle.transfers_call.proofs.questions.Statement.{statement}
 use Rattle.transfers_call.proofs.questions.Tie as tie
 
 -- what is lent, and that the questions before are answered yes
-abbrev lentAt : tie.Start → Lent
-lentAt s = lent (now (s .args .t)) (s .args .c) (s .args .line-count) (now (s .args .lines)) (s .args .d) (now (s .args .runs)) (now (s .args .rows)) (s .args .time)
+abbrev lentAt : tie.Start → TransferLent
+lentAt s = transferLent (now (s .args .t)) (s .args .c) (s .args .line-count) (now (s .args .lines)) (s .args .d) (now (s .args .runs)) (now (s .args .rows)) (s .args .time)
 
-q1 : (c : tie.Else1) → question1 (lentAt (c .before .before .before .before .before .before .before .before)) ≡ true
+q1 : (c : tie.Else1) → transfersQuestion1 (lentAt (c .before .before .before .before .before .before .before .before)) ≡ true
 q1 c = answer1 _ (c .before .both2 .ensures) (c .before .before .before .counts-ok .ensures) (c .before .before .both .ensures) (not-false _ (c .if1 .left))
 
-q2 : (c : tie.Else2) → question2 (lentAt (c .before .before .before .before .before .before .before .before .before .before)) (c .before .before .before .before .before .before .before .before .before .before .args .evs) ≡ true
+q2 : (c : tie.Else2) → transfersQuestion2 (lentAt (c .before .before .before .before .before .before .before .before .before .before)) (c .before .before .before .before .before .before .before .before .before .before .args .evs) ≡ true
 q2 c = answer2 _ _ (c .before .lent-ok .ensures) (not-false _ (c .if2 .left))
 
-q3 : (c : tie.Else3) → question3 (lentAt (c .before .before .before .before .before .before .before .before .before .before .before .before .before .before)) ≡ true
+q3 : (c : tie.Else3) → transfersQuestion3 (lentAt (c .before .before .before .before .before .before .before .before .before .before .before .before .before .before)) ≡ true
 q3 c = answer3 _ (c .before .both3 .ensures) (c .before .before .before .runs-ok .ensures) (c .before .before .stop-runs-ok .ensures) (not-false _ (c .if3 .left))
 
-q4 : (c : tie.Else4) → question4 (lentAt (c .before .before .before .before .before .before .before .before .before .before .before .before .before .before .before .before .before .before .before .before)) ≡ true
+q4 : (c : tie.Else4) → transfersQuestion4 (lentAt (c .before .before .before .before .before .before .before .before .before .before .before .before .before .before .before .before .before .before .before .before)) ≡ true
 q4 c =
     let size = second (lentAt (c .before .before .before .before .before .before .before .before .before .before .before .before .before .before .before .before .before .before .before .before)) (c .before .before .before .before .before .before .before .before .before .before .before .before .before .before .before .before .before .before .before .before .args .evs) (q2 (c .before .before .before .before .before .before .before .before .before .before)) .sizes .linesIs in
     answer4 _ (c .before .both5 .ensures) (c .before .before .before .before .before .numbers-ok .ensures) (c .before .before .both4 .ensures) (c .before .before .before .before .lines-ok .ensures) size (c .before .before .before .listed-ok .ensures) (not-false _ (c .if4 .left))
 
-q5 : (c : tie.Else5) → question5 (lentAt (c .before .before .before .before .before .before .before .before .before .before .before .before .before .before .before .before .before .before .before .before .before .before .before)) ≡ true
+q5 : (c : tie.Else5) → transfersQuestion5 (lentAt (c .before .before .before .before .before .before .before .before .before .before .before .before .before .before .before .before .before .before .before .before .before .before .before)) ≡ true
 q5 c = answer5 _ (c .before .both6 .ensures) (c .before .before .ranges-ok .ensures) refl (not-false _ (c .if5 .left))
 
 counts-ok-requires : tie.Need-counts-ok-requires

@@ -1,4 +1,4 @@
-use Rattle.transfers_call.specs.Call.{sizesOk}
+use Rattle.transfers_call.specs.Call.{transferSizesOk}
 use borrow.Author.Needs.{needs}
 use Rattle.transfers_call.proofs.sizes_ok.Statement.{statement}
 use Rattle.transfers_call.proofs.sizes_ok.Tie as tie
@@ -25,7 +25,7 @@ both-requires-3 : tie.Need-both-requires-3
 both-requires-3 c κs = search needs
 
 returns : tie.Need-returns
-unfolding sizesOk
+unfolding transferSizesOk
 returns c = cc (c .before .before .before .before .before .event-count .ensures .0)
 
 pub sizes-ok-spec : {M : Type 1} → statement M

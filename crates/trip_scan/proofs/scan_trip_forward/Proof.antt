@@ -1,9 +1,9 @@
-use Rattle.transferring.proofs.Queuing.{queue-as}
-use Rattle.transferring.proofs.Transfers.{scan-plain, scan-flagged}
-use Rattle.transferring.proofs.Keeping.{nets-kept, netted-kept}
-use Rattle.alighting.specs.Scan.{Nets}
-use Rattle.scratch.proofs.Queue.{queue-step, queue-then}
-use Rattle.boarding.specs.Reads.{hitOf}
+use Rattle.trip_scan.proofs.Queuing.{queue-as}
+use Rattle.trip_scan.proofs.Transfers.{scan-plain, scan-flagged}
+use Rattle.trip_scan.proofs.Keeping.{nets-kept, netted-kept}
+use Rattle.trip_scan.specs.Scan.{Nets}
+use Rattle.search_state.proofs.Queue.{queue-step, queue-then}
+use Rattle.trip_boarding.specs.Reads.{hitOf}
 use mathlib.Core.Path.{_∙_, sym}
 use native.Mathlib.Omega.{arith}
 use denote.Ref.{now}

@@ -1,3 +1,0 @@
-pub mod Along
-pub mod Turning
-pub mod Alighting

@@ -1,0 +1,293 @@
+// flags: arc flags of a query: the cells of its egress stops, patterns against them, and whether the flags skip anything.
+// Specs: patterns and egress rows as the slices hold them (Flags); inner: which tables and queries agree with them, rows that flags skip (Skipping).
+// Proves: each public function equal to the model's definition of the same name, for all tables and queries that agree.
+// Assumes nothing.
+ghost use mathlib.Core.Path.{_≡_};
+ghost use Prim.Native.Nat.{ℕ, _+_, _*_, _/_, _≤_, _<_};
+ghost use mathlib.Core.Bool.{Bool};
+ghost use lib.ListN.{length};
+ghost use Rattle.tables.specs.Timetable.{timetable};
+ghost use Rattle.tables.specs.Sane.{Sane};
+ghost use Rattle.cell_bitset.specs.CellSet.{cellLimit};
+ghost use Rattle.model.specs.Tables.{Tables, Query};
+ghost use Rattle.model.specs.Search.{targetCells, holdsTarget, useArcFlags, skipsEdge, skipsTransfer, flagsInUse};
+ghost use Rattle.arc_flags.specs.Flags.{patternAt, egressRows};
+ghost use Rattle.arc_flags.specs.Skipping.{Patterned, PatternsOk, EgressIn, Aimed, RowsIn, RunsIn, runHas, rowSkipped, firstSkipped, someRun, Transferring, withinRun, CountedFrom, SkippedCounted, WindowSkips, RunsSkip};
+ghost use Rattle.loops.specs.Iter.{someIn};
+ghost use Rattle.loops.specs.Count.{one, count};
+use cell_bitset::CellBitSet;
+use tables::Counts;
+
+// The cells of the egress stops, set one by one.
+pub fn target_cells(t: &[u32], c: Counts, cells: u32, egress: &[u32]) -> CellBitSet
+    requires { ⌜ Sane (now t) c ⌝ ∗ ⌜ cells ≤ cellLimit ⌝ ∗ ⌜ EgressIn c (now egress) ⌝ }
+    ensures { λ r. ⌜ ((T : Tables) (Q : Query) → T .timetable ≡ timetable (now (t .entry)) c → T .cells ≡ cells → Q .egress ≡ egressRows (now (egress .entry)) → r ≡ targetCells T Q) ⌝ }
+{
+    let from = c.times * 6 + c.trips * 8 + c.windows * 3 + c.edges * 5;
+    let n = egress.len() / 2;
+    let mut set = CellBitSet::new(cells);
+    let mut i: usize = 0;
+    while i < n {
+        let cell = words::field(t, from + words::field(egress, i * 2));
+        set = set.set_bit(cell as u32);
+        i += 1;
+    }
+    set
+}
+
+// The bytes of pattern p.
+fn pattern_bytes(patterns: &[u8], p: usize) -> [u8; 64]
+    requires { ⌜ p * 64 + 64 ≤ length (now patterns) ⌝ }
+    ensures { λ r. ⌜ r ≡ patternAt (now (patterns .entry)) p .bytes ⌝ }
+{
+    let mut bytes = [0u8; 64];
+    let mut i: usize = 0;
+    while i < 64 {
+        bytes[i] = patterns[p * 64 + i];
+        i += 1;
+    }
+    bytes
+}
+
+// Does a pattern hold a target cell? A pattern number past the table counts as holding all.
+pub fn holds_target(patterns: &[u8], count: usize, target: CellBitSet, p: usize) -> bool
+    requires { ⌜ PatternsOk (now patterns) count ⌝ }
+    ensures { λ r. ⌜ ((T : Tables) (Q : Query) → Patterned T (now (patterns .entry)) count → target ≡ targetCells T Q → r ≡ holdsTarget T Q p) ⌝ }
+{
+    if count <= p {
+        return true;
+    }
+    let bytes = pattern_bytes(patterns, p);
+    let pattern = CellBitSet {
+        bytes: bytes,
+        reserved: 64,
+    };
+    pattern.intersects(target)
+}
+
+// Are there target cells and patterns, and are the flags not put off?
+pub fn use_arc_flags(count: usize, target: CellBitSet, off: bool) -> bool
+    ensures { λ r. ⌜ ((T : Tables) (Q : Query) → T .patterns ≡ count → Q .flagsOff ≡ off → target ≡ targetCells T Q → r ≡ useArcFlags T Q) ⌝ }
+{
+    let some = door::both(!target.is_empty(), !(count == 0));
+    door::both(some, !off)
+}
+
+// Do the flags skip some walk edge?
+fn skips_edge(t: &[u32], c: Counts, patterns: &[u8], count: usize, target: CellBitSet) -> bool
+    requires { ⌜ Sane (now t) c ⌝ ∗ ⌜ PatternsOk (now patterns) count ⌝ }
+    ensures { λ r. ⌜ ((T : Tables) (Q : Query) → T .timetable ≡ timetable (now (t .entry)) c → Patterned T (now (patterns .entry)) count → target ≡ targetCells T Q → r ≡ skipsEdge T Q) ⌝ }
+{
+    let n = c.edges;
+    let mut k: usize = 0;
+    while k < n {
+        let p = tables::edge(t, c, k, 4);
+        if !holds_target(patterns, count, target, p) {
+            return true;
+        }
+        k += 1;
+    }
+    false
+}
+
+// Do the flags skip row k of the transfer area?
+fn row_skipped(area: &[u32], patterns: &[u8], count: usize, target: CellBitSet, k: usize) -> bool
+    requires { ⌜ PatternsOk (now patterns) count ⌝ ∗ ⌜ k * 4 + 4 ≤ length (now area) ⌝ }
+    ensures { λ r. ⌜ ((T : Tables) (Q : Query) → Aimed T Q (now (patterns .entry)) count target → r ≡ rowSkipped T Q (now (area .entry)) k) ⌝ }
+{
+    let p = words::field(area, k * 4 + 3);
+    !holds_target(patterns, count, target, p)
+}
+
+// The first of so many rows that the flags skip; their number where they skip none.
+fn first_skipped(
+    area: &[u32],
+    patterns: &[u8],
+    count: usize,
+    target: CellBitSet,
+    rows: usize,
+) -> usize
+    requires { ⌜ PatternsOk (now patterns) count ⌝ ∗ ⌜ RowsIn (now area) rows ⌝ }
+    ensures { λ r. ⌜ ((T : Tables) (Q : Query) → Aimed T Q (now (patterns .entry)) count target → r ≡ firstSkipped T Q (now (area .entry)) rows) ⌝ }
+{
+    let mut k: usize = 0;
+    while k < rows {
+        if row_skipped(area, patterns, count, target, k) {
+            return k;
+        }
+        k += 1;
+    }
+    rows
+}
+
+// Has the run of some event row k?
+fn some_run_has(runs: &[u32], k: usize) -> bool
+    ensures { λ r. ⌜ r ≡ someIn (runHas (now (runs .entry)) k) 0 (length (now (runs .entry)) / 2) ⌝ }
+{
+    let n = runs.len() / 2;
+    let mut e: usize = 0;
+    while e < n {
+        let first = words::field(runs, e * 2);
+        let end = first + words::field(runs, e * 2 + 1);
+        if door::both(first <= k, k < end) {
+            return true;
+        }
+        e += 1;
+    }
+    false
+}
+
+// One for a yes.
+fn one(b: bool) -> u32
+    ensures { λ r. ⌜ r ≡ one b ⌝ }
+{
+    if b { 1 } else { 0 }
+}
+
+// Of the n rows from `from` on, how many before each of them the flags skip, and how many in all.
+fn count_skipped(
+    area: &[u32],
+    patterns: &[u8],
+    count: usize,
+    target: CellBitSet,
+    from: usize,
+    n: usize,
+    counts: &mut [u32],
+)
+    requires { ⌜ PatternsOk (now patterns) count ⌝ ∗ ⌜ RowsIn (now area) (from + n) ⌝ ∗ ⌜ n < length (now counts) ⌝ }
+    ensures { λ _. ⌜ SkippedCounted (now (area .entry)) (now (patterns .entry)) count target from n (now (counts .exit)) ⌝ }
+{
+    let mut skipped: u32 = 0;
+    let mut k: usize = 0;
+    while k < n {
+        counts[k] = skipped;
+        skipped += one(row_skipped(area, patterns, count, target, from + k));
+        k += 1;
+    }
+    counts[n] = skipped;
+}
+
+// How many rows of the window before row k pass. A row before the window counts as its first, a row after it as its end.
+fn counted_before(counts: &[u32], from: usize, n: usize, k: usize) -> u32
+    requires { ⌜ n < length (now counts) ⌝ }
+    ensures { λ r. ⌜ ((f : ℕ → Bool) → CountedFrom f from n (now (counts .entry)) → r ≡ count (withinRun f from n) k) ⌝ }
+{
+    if k <= from {
+        return words::word(counts, 0);
+    }
+    if n <= k - from {
+        return words::word(counts, n);
+    }
+    words::word(counts, k - from)
+}
+
+// Has some event's run a row of the window that passes? By the counts: more pass before the run's end than before its first row.
+fn some_run_passes(runs: &[u32], from: usize, n: usize, counts: &[u32]) -> bool
+    requires { ⌜ n < length (now counts) ⌝ }
+    ensures { λ r. ⌜ ((f : ℕ → Bool) → CountedFrom f from n (now (counts .entry)) → r ≡ someRun (withinRun f from n) (now (runs .entry))) ⌝ }
+{
+    let events = runs.len() / 2;
+    let mut e: usize = 0;
+    while e < events {
+        let first = words::field(runs, e * 2);
+        let end = first + words::field(runs, e * 2 + 1);
+        if counted_before(counts, from, n, first) < counted_before(counts, from, n, end) {
+            return true;
+        }
+        e += 1;
+    }
+    false
+}
+
+// Has some event's run a row of one window that the flags skip? The window has at most 4,096 rows, so that its counts need little stack. Where they skip
+// none of its rows, no run is looked at.
+fn window_skips(
+    runs: &[u32],
+    area: &[u32],
+    patterns: &[u8],
+    count: usize,
+    target: CellBitSet,
+    from: usize,
+    n: usize,
+) -> bool
+    requires { ⌜ PatternsOk (now patterns) count ⌝ ∗ ⌜ RowsIn (now area) (from + n) ⌝ ∗ ⌜ n ≤ 4096 ⌝ }
+    ensures { λ r. ⌜ WindowSkips (now (runs .entry)) (now (area .entry)) (now (patterns .entry)) count target from n r ⌝ }
+{
+    let mut counts = [0u32; 4097];
+    count_skipped(area, patterns, count, target, from, n, &mut counts);
+    if words::word(&counts, n) == 0 {
+        return false;
+    }
+    some_run_passes(runs, from, n, &counts)
+}
+
+// Has some event's run a row that the flags skip? Window by window.
+fn some_window_skips(
+    runs: &[u32],
+    area: &[u32],
+    rows: usize,
+    patterns: &[u8],
+    count: usize,
+    target: CellBitSet,
+) -> bool
+    requires { ⌜ PatternsOk (now patterns) count ⌝ ∗ ⌜ RowsIn (now area) rows ⌝ ∗ ⌜ RunsIn (now runs) rows ⌝ }
+    ensures { λ r. ⌜ RunsSkip (now (runs .entry)) (now (area .entry)) (now (patterns .entry)) count target r ⌝ }
+{
+    let mut from: usize = 0;
+    while from < rows {
+        let n = words::smaller(rows - from, 4096);
+        if window_skips(runs, area, patterns, count, target, from, n) {
+            return true;
+        }
+        from += n;
+    }
+    false
+}
+
+// Do the flags skip some transfer? Runs may overlap, so no run is read row by row: that could take events times rows. Most often no row is skipped,
+// or some run has the first that is. Only where neither is so are the skipped rows counted, in windows of 4,096 rows, and in each window a run
+// is two look-ups: at most 16 passes over the events.
+fn skips_transfer(
+    runs: &[u32],
+    area: &[u32],
+    rows: usize,
+    patterns: &[u8],
+    count: usize,
+    target: CellBitSet,
+) -> bool
+    requires { ⌜ PatternsOk (now patterns) count ⌝ ∗ ⌜ RowsIn (now area) rows ⌝ ∗ ⌜ RunsIn (now runs) rows ⌝ }
+    ensures { λ r. ⌜ ((T : Tables) (Q : Query) → Patterned T (now (patterns .entry)) count → Transferring T (now (runs .entry)) (now (area .entry)) → target ≡ targetCells T Q → r ≡ skipsTransfer T Q) ⌝ }
+{
+    let k = first_skipped(area, patterns, count, target, rows);
+    if rows <= k {
+        return false;
+    }
+    if some_run_has(runs, k) {
+        return true;
+    }
+    some_window_skips(runs, area, rows, patterns, count, target)
+}
+
+// Are the flags in use: not put off, and do they skip some walk edge or transfer?
+pub fn flags_in_use(
+    t: &[u32],
+    c: Counts,
+    runs: &[u32],
+    area: &[u32],
+    rows: usize,
+    patterns: &[u8],
+    count: usize,
+    target: CellBitSet,
+    off: bool,
+) -> bool
+    requires { ⌜ Sane (now t) c ⌝ ∗ ⌜ PatternsOk (now patterns) count ⌝ ∗ ⌜ RowsIn (now area) rows ⌝ ∗ ⌜ RunsIn (now runs) rows ⌝ }
+    ensures { λ r. ⌜ ((T : Tables) (Q : Query) → T .timetable ≡ timetable (now (t .entry)) c → Patterned T (now (patterns .entry)) count → Transferring T (now (runs .entry)) (now (area .entry)) → target ≡ targetCells T Q → Q .flagsOff ≡ off → r ≡ flagsInUse T Q) ⌝ }
+{
+    if !use_arc_flags(count, target, off) {
+        return false;
+    }
+    if skips_edge(t, c, patterns, count, target) {
+        return true;
+    }
+    skips_transfer(runs, area, rows, patterns, count, target)
+}

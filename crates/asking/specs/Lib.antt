@@ -1,4 +1,0 @@
-pub mod Lent
-pub mod Door
-pub mod Sane
-pub mod Once

@@ -1,5 +1,0 @@
-pub mod Sections
-pub mod Starting
-pub mod Reading
-pub mod Laying
-pub mod Beginning

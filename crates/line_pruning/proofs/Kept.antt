@@ -1,0 +1,63 @@
+-- What a boarding and an arrival leave alone of each other: arrivals, egress table, lines. Assumes nothing.
+use Prim.Native.Nat.{ℕ, _+_, _*_, _≤_, _<_}
+use mathlib.Core.Path.{_≡_, sym, ap, _∙_}
+use mathlib.Core.List.{List}
+use native.Mathlib.Omega.{arith}
+use lib.ListN.{length, getD}
+use lib.Seq.{getD-take}
+use lib.Ieee.{Float}
+use Rattle.loops.specs.Iter.{Hit}
+use Rattle.tables.specs.declared.Counts.{Counts}
+use Rattle.query_types.specs.declared.Lay.{Lay}
+use Rattle.query_types.specs.declared.Head.{Head}
+use Rattle.search_state.specs.Part.{part}
+use Rattle.search_state.specs.Places.{Sized, Walks}
+use Rattle.query_types.specs.Layout.{restAt, positionsAt, tripStampsAt}
+use Rattle.search_state.specs.View.{memory, arrivalsOf}
+use Rattle.model.specs.Tables.{Tables}
+use Rattle.line_pruning.specs.Books.{Agrees, Noted}
+use Rattle.line_pruning.proofs.Chains.{part-ext}
+
+-- the lines where positions and FIFO flags are as they were
+agrees-by : (T : Tables) (lay : Lay) (c : Counts) (built w w′ : List ℕ) → ((i : ℕ) → positionsAt lay ≤ i → i < tripStampsAt lay → getD w′ i 0 ≡ getD w i 0)
+    → Agrees T lay c built w → Agrees T lay c built w′
+agrees-by T lay c built w w′ f ag =
+    record {
+      trips = ag .trips;
+      counted = ag .counted;
+      stops = ag .stops;
+      lines = record {
+        lines = ag .lines .lines;
+        lineOf = ag .lines .lineOf;
+        count = ag .lines .count;
+        entry = ag .lines .entry;
+        position = λ i h. ag .lines .position i h ∙ sym (f (c .stops * 5 + c .trips + 128 + i) (omega (arith, ag .stops, ag .counted)) (omega (arith, ag .stops, ag .counted, h)));
+        fifo = λ l h. ag .lines .fifo l h ∙ sym (f (c .stops * 5 + c .trips * 2 + 128 + l) (omega (arith, ag .stops, ag .counted)) (omega (arith, ag .stops, ag .counted, h)));
+      };
+    }
+
+-- after a boarding
+module _ (lay : Lay) (stamp : ℕ) (built : List ℕ) (adj : Hit) (t o dep : ℕ) (w w′ : List ℕ) (n : Noted lay stamp built adj t o dep w w′) where
+  pub noted-at : (i : ℕ) → i < tripStampsAt lay → getD w′ i 0 ≡ getD w i 0
+  noted-at i h = sym (getD-take (tripStampsAt lay) w′ i 0 h) ∙ ap (λ (l : List ℕ). getD l i 0) (n .below) ∙ getD-take (tripStampsAt lay) w i 0 h
+
+  pub walks-noted : Walks lay w → Walks lay w′
+  walks-noted e = record { small = λ s h. rw (noted-at (restAt lay + s) (omega (arith, h))) (e .small s h) }
+
+  -- a section below the egress table
+  pub part-noted : (b d : ℕ) → Sized lay (length w) b d → (a k : ℕ) → a + k ≤ restAt lay → part w′ a k ≡ part w a k
+  part-noted b d ok a k h = part-ext w w′ a k (n .size) (omega (arith, ok .sections .words, h)) (λ i u. noted-at (a + i) (omega (arith, h, u)))
+
+  pub arrivals-noted : (b d : ℕ) → Sized lay (length w) b d → (l : List ℕ) (m : List Float) (h : Head) → h .count ≤ lay .stops + 64 → (q : List ℕ)
+      → arrivalsOf lay (memory w′ l m h) q ≡ arrivalsOf lay (memory w l m h) q
+  arrivals-noted b d ok l m h few q =
+      let a = arrivalsOf lay (memory w l m h) q in
+      λ i. record {
+        labels = a .labels;
+        earliest = part-noted b d ok 0 (lay .stops) (omega arith) i;
+        best = a .best;
+        stopStamp = part-noted b d ok (lay .stops) (lay .stops) (omega arith) i;
+        reached = part-noted b d ok (lay .list) (h .count) (omega (arith, ok .sections .fits, few)) i;
+        segQueue = a .segQueue;
+        segReach = part-noted b d ok (lay .stops * 2) (lay .trips) (omega arith) i;
+      }

@@ -1,0 +1,6 @@
+pub mod Chains
+pub mod Stages
+pub mod Noting
+pub mod Reading
+pub mod Rounds
+pub mod Kept

@@ -1,0 +1,202 @@
+-- What the functions that only read answer. Assumes nothing.
+use Prim.Native.Nat.{ℕ, zero, suc, _+_, _*_, _-_, _≤_, _<_}
+use mathlib.Core.Path.{_≡_, refl, sym, ap, ap₂, _∙_}
+use mathlib.Core.Bool.{Bool, true, false, cond, not, _&&_, _||_}
+use mathlib.Core.List.{List, _∷_}
+use native.Mathlib.Omega.{arith}
+use lib.ListN.{getD, set}
+use lib.Dec.{ltb, eqb}
+use borrow.Author.Tests.{eq-eqb, ne-eqb, lt-ltb, le-ltb}
+use Rattle.loops.specs.Count.{one}
+use Rattle.loops.specs.Iter.{Hit}
+use Rattle.tables.specs.declared.Counts.{Counts}
+use Rattle.line_layout.specs.Layout.{fifoLine}
+use Rattle.query_types.specs.declared.Lay.{Lay}
+use Rattle.search_state.specs.Part.{part}
+use Rattle.search_state.proofs.Part.{part-at}
+use Rattle.model.specs.Tables.{Tables, Query, fifo}
+use Rattle.model.specs.Search.{Boardings, lineAt, undelayed, prunable, dominated, pruned, passedOver}
+use Rattle.query_types.specs.Layout.{positionsAt, fifoAt, tripStampsAt, boardedOffsetsAt, boardedDeparturesAt, lineStampsAt, headsAt, linksAt, leastAt}
+use Rattle.line_pruning.specs.Chain.{chainFirst, chainFrom, isIn, before, someBefore, lowered, listed, linked, stampedAs}
+use Rattle.line_pruning.specs.Books.{Agrees, Books, Inside}
+use Rattle.line_pruning.proofs.Chains.{in-here, in-there}
+use Rattle.line_pruning.proofs.Noting.{line-is, position-is}
+
+-- where a chain begins
+pub first-no : (lay : Lay) (stamp : ℕ) (w : List ℕ) (l : ℕ) → (getD w (lineStampsAt lay + l) 0 ≡ stamp → ⊥) → 0 ≡ chainFirst lay stamp w l
+unfolding chainFirst
+first-no lay stamp w l n = sym (ap (λ (b : Bool). cond b (getD w (headsAt lay + l) 0) 0) (ne-eqb (getD w (lineStampsAt lay + l) 0) stamp n))
+
+pub first-yes : (lay : Lay) (stamp : ℕ) (w : List ℕ) (l : ℕ) → getD w (lineStampsAt lay + l) 0 ≡ stamp → getD w (lineStampsAt lay + l + lay .lines) 0 ≡ chainFirst lay stamp w l
+unfolding chainFirst
+first-yes lay stamp w l e =
+    let z : lineStampsAt lay + l + lay .lines ≡ headsAt lay + l = omega arith in
+    ap (λ (i : ℕ). getD w i 0) z ∙ sym (ap (λ (b : Bool). cond b (getD w (headsAt lay + l) 0) 0) (eq-eqb (getD w (lineStampsAt lay + l) 0) stamp e))
+
+-- along a chain: at place k the rest of it begins with h
+pub record Walking (lay : Lay) (w : List ℕ) (p o first k h : ℕ) : Type 0 where
+  pub whole : someBefore lay w p o (chainFrom lay w (lay .trips) first) ≡ someBefore lay w p o (chainFrom lay w (lay .trips - k) h)
+  pub inside : Inside lay (chainFrom lay w (lay .trips - k) h)
+
+module _ (lay : Lay) (w : List ℕ) (p o first : ℕ) where
+  abbrev all : Bool
+  all = someBefore lay w p o (chainFrom lay w (lay .trips) first)
+
+  pub walking-start : Inside lay (chainFrom lay w (lay .trips) first) → Walking lay w p o first 0 first
+  walking-start i =
+      let z : lay .trips ≡ lay .trips - 0 = omega arith in
+      record { whole = ap (λ (n : ℕ). someBefore lay w p o (chainFrom lay w n first)) z; inside = rw (sym z) i }
+
+  empty : (n : ℕ) → false ≡ someBefore lay w p o (chainFrom lay w n 0)
+  unfolding chainFrom someBefore
+  empty zero = refl
+  empty (suc n) = refl
+
+  module _ (k h : ℕ) (at : Walking lay w p o first k h) where
+    pub walking-none : h ≡ 0 → false ≡ all
+    walking-none e = sym (at .whole ∙ ap (λ (x : ℕ). someBefore lay w p o (chainFrom lay w (lay .trips - k) x)) e ∙ sym (empty (lay .trips - k)))
+
+    pub walking-end : lay .trips ≤ k → false ≡ all
+    unfolding chainFrom someBefore
+    walking-end l =
+        let z : lay .trips - k ≡ 0 = omega (arith, l) in
+        sym (at .whole ∙ ap (λ (x : ℕ). someBefore lay w p o (chainFrom lay w x h)) z)
+
+    module _ (l : k < lay .trips) (n : h ≡ 0 → ⊥) where
+      abbrev next : List ℕ
+      next = chainFrom lay w (lay .trips - (k + 1)) (getD w (linksAt lay + (h - 1)) 0)
+
+      turn : chainFrom lay w (lay .trips - k) h ≡ (h - 1) ∷ next
+      unfolding chainFrom
+      turn =
+          let a : lay .trips - k ≡ suc (lay .trips - (k + 1)) = omega (arith, l) in
+          let b : h ≡ suc (h - 1) = omega (arith, n) in
+          ap₂ (λ (x y : ℕ). chainFrom lay w x y) a b
+
+      pub walking-below : h - 1 < lay .trips
+      walking-below = at .inside .at (h - 1) (ap (isIn (h - 1)) turn ∙ in-here (h - 1) next)
+
+      pub walking-yes : before lay w p o (h - 1) ≡ true → true ≡ all
+      unfolding someBefore
+      walking-yes e = sym (at .whole ∙ ap (someBefore lay w p o) turn ∙ ap (λ (b : Bool). b || someBefore lay w p o next) e)
+
+      pub walking-next : (g : ℕ) → before lay w p o (h - 1) ≡ false → g ≡ getD w (linksAt lay + (h - 1)) 0 → Walking lay w p o first (k + 1) g
+      unfolding someBefore
+      walking-next g e q =
+          record {
+            whole = at .whole ∙ ap (someBefore lay w p o) turn ∙ ap (λ (b : Bool). b || someBefore lay w p o next) e
+                ∙ ap (λ (x : ℕ). someBefore lay w p o (chainFrom lay w (lay .trips - (k + 1)) x)) (sym q);
+            inside = record {
+              at = λ x z. at .inside .at x (ap (isIn x) turn
+                  ∙ in-there x (h - 1) next (ap (λ (y : ℕ). isIn x (chainFrom lay w (lay .trips - (k + 1)) y)) (sym q) ∙ z));
+            };
+          }
+
+-- line pruning
+module _ (T : Tables) (Q : Query) (lay : Lay) (c : Counts) (built w : List ℕ) (adj : Hit) (t l : ℕ) (ag : Agrees T lay c built w) (ht : t < lay .trips) (el : l ≡ getD built t 0) where
+  prunable-as : (b : Bool) → fifo T l ≡ b → (undelayed adj && b) ≡ prunable T Q adj t
+  prunable-as b e = ap (λ (x : Bool). undelayed adj && x) (sym e ∙ ap (fifo T) (line-is T lay c built w t l ag ht el))
+
+  and-no : (a : Bool) → false ≡ (a && false)
+  and-no true = refl
+  and-no false = refl
+
+  pub prunable-past : lay .lines ≤ l → false ≡ prunable T Q adj t
+  unfolding fifo
+  prunable-past h = and-no (undelayed adj) ∙ prunable-as false past
+    where
+      past : fifo T l ≡ false
+      past = ap (λ (x : Bool). x && fifoLine (T .timetable) (T .line l)) (le-ltb l (T .lines) (omega (arith, ag .lines .lines, h)))
+
+  flag-is : (b : Bool) (x : ℕ) → one b ≡ x → b ≡ eqb x 1
+  flag-is true x e = sym (eq-eqb x 1 (sym e))
+  flag-is false x e = sym (ne-eqb x 1 (λ z. omega (arith, z, e)))
+
+  pub prunable-known : l < lay .lines → (r a : Bool) (x : ℕ) → r ≡ (a && eqb x 1) → a ≡ undelayed adj → x ≡ getD w (fifoAt lay + l) 0 → r ≡ prunable T Q adj t
+  prunable-known h r a x er ea ex =
+      let z : c .stops * 5 + c .trips * 2 + 128 + l ≡ fifoAt lay + l = omega (arith, ag .stops, ag .counted) in
+      er ∙ ap₂ (λ (u : Bool) (v : ℕ). u && eqb v 1) ea ex
+      ∙ prunable-as (eqb (getD w (fifoAt lay + l) 0) 1) (flag-is (fifo T l) (getD w (fifoAt lay + l) 0) (ag .lines .fifo l h ∙ ap (λ (i : ℕ). getD w i 0) z))
+
+pub dominated-is : (T : Tables) (Q : Query) (lay : Lay) (c : Counts) (built w : List ℕ) (stamp line t o p f : ℕ) (r : Bool) (b : Boardings) → Agrees T lay c built w → Books lay stamp T Q w b
+    → line ≡ lineAt T t → line < lay .lines → t < lay .trips → p ≡ getD w (positionsAt lay + t) 0 → f ≡ chainFirst lay stamp w line
+    → r ≡ someBefore lay w p o (chainFrom lay w (lay .trips) f) → r ≡ dominated T Q t o (b .lineBoards)
+dominated-is T Q lay c built w stamp line t o p f r b ag bk el hl ht ep ef er =
+    er ∙ ap₂ (λ (x y : ℕ). someBefore lay w x o (chainFrom lay w (lay .trips) y)) (ep ∙ sym (position-is T lay c built w t ag ht)) (ef ∙ ap (chainFirst lay stamp w) el)
+    ∙ sym (bk .test t o (omega (arith, el, hl)))
+
+pub pruned-no : (T : Tables) (Q : Query) (adj : Hit) (t o : ℕ) (b : Boardings) → prunable T Q adj t ≡ false → false ≡ pruned T Q adj t o b
+unfolding pruned
+pruned-no T Q adj t o b e = sym (ap (λ (x : Bool). x && dominated T Q t o (b .lineBoards)) e)
+
+pub pruned-yes : (T : Tables) (Q : Query) (adj : Hit) (t o : ℕ) (b : Boardings) (r : Bool) → prunable T Q adj t ≡ true → r ≡ dominated T Q t o (b .lineBoards) → r ≡ pruned T Q adj t o b
+unfolding pruned
+pruned-yes T Q adj t o b r e d = d ∙ sym (ap (λ (x : Bool). x && dominated T Q t o (b .lineBoards)) e)
+
+-- a boarding passed over
+module _ (T : Tables) (Q : Query) (lay : Lay) (stamp : ℕ) (w : List ℕ) (b : Boardings) (bk : Books lay stamp T Q w b) (t o dep : ℕ) (ht : t < lay .trips) where
+  section-at : (s : List ℕ) (a : ℕ) → s ≡ part w a (lay .trips) → getD s t 0 ≡ getD w (a + t) 0
+  section-at s a e = ap (λ (x : List ℕ). getD x t 0) e ∙ part-at w a (lay .trips) t ht
+
+  passed-as : (eqb (getD w (tripStampsAt lay + t) 0) stamp
+      && not (ltb dep (getD w (boardedDeparturesAt lay + t) 0) || (eqb dep (getD w (boardedDeparturesAt lay + t) 0) && ltb o (getD w (boardedOffsetsAt lay + t) 0)))) ≡ passedOver T Q stamp t o dep b
+  unfolding passedOver
+  passed-as =
+      sym (ap₂ (λ (x y : ℕ). eqb x stamp && not (ltb dep y || (eqb dep y && ltb o (getD (b .boardOffset) t 0))))
+      (section-at (b .tripStamp) (tripStampsAt lay) (bk .tripStamp)) (section-at (b .boardDeparture) (boardedDeparturesAt lay) (bk .boardDeparture))
+      ∙ ap (λ (x : ℕ). eqb (getD w (tripStampsAt lay + t) 0) stamp && not (ltb dep (getD w (boardedDeparturesAt lay + t) 0) || (eqb dep (getD w (boardedDeparturesAt lay + t) 0) && ltb o x)))
+      (section-at (b .boardOffset) (boardedOffsetsAt lay) (bk .boardOffset)))
+
+  pub passed-no : (getD w (tripStampsAt lay + t) 0 ≡ stamp → ⊥) → false ≡ passedOver T Q stamp t o dep b
+  passed-no n =
+      sym (ap (λ (x : Bool). x && not (ltb dep (getD w (boardedDeparturesAt lay + t) 0) || (eqb dep (getD w (boardedDeparturesAt lay + t) 0) && ltb o (getD w (boardedOffsetsAt lay + t) 0))))
+      (ne-eqb (getD w (tripStampsAt lay + t) 0) stamp n)) ∙ passed-as
+
+  pub passed-yes : (tie better : Bool) → getD w (tripStampsAt lay + t) 0 ≡ stamp
+      → tie ≡ (eqb dep (getD w (tripStampsAt lay + t + lay .trips * 2) 0) && ltb o (getD w (tripStampsAt lay + t + lay .trips) 0))
+      → better ≡ (ltb dep (getD w (tripStampsAt lay + t + lay .trips * 2) 0) || tie) → not better ≡ passedOver T Q stamp t o dep b
+  passed-yes tie better e et eb =
+      let x : tripStampsAt lay + t + lay .trips ≡ boardedOffsetsAt lay + t = omega arith in
+      let y : tripStampsAt lay + t + lay .trips * 2 ≡ boardedDeparturesAt lay + t = omega arith in
+      ap not (eb ∙ ap (λ (z : Bool). ltb dep (getD w (tripStampsAt lay + t + lay .trips * 2) 0) || z) et
+      ∙ ap₂ (λ (i j : ℕ). ltb dep (getD w i 0) || (eqb dep (getD w i 0) && ltb o (getD w j 0))) y x)
+      ∙ sym (ap (λ (z : Bool). z && not (ltb dep (getD w (boardedDeparturesAt lay + t) 0) || (eqb dep (getD w (boardedDeparturesAt lay + t) 0) && ltb o (getD w (boardedOffsetsAt lay + t) 0))))
+      (eq-eqb (getD w (tripStampsAt lay + t) 0) stamp e)) ∙ passed-as
+
+-- the stores by cases
+module _ (lay : Lay) (stamp l t o : ℕ) (w : List ℕ) where
+  pub lowered-no : getD w (leastAt lay + t) 0 ≤ o → w ≡ lowered lay t o w
+  lowered-no h = sym (ap (λ (b : Bool). cond b (set w (leastAt lay + t) o) w) (le-ltb o (getD w (leastAt lay + t) 0) h))
+
+  pub lowered-yes : o < getD w (leastAt lay + t) 0 → set w (leastAt lay + t) o ≡ lowered lay t o w
+  lowered-yes h = sym (ap (λ (b : Bool). cond b (set w (leastAt lay + t) o) w) (lt-ltb o (getD w (leastAt lay + t) 0) h))
+
+  pub listed-no : (pr : Bool) → pr ≡ false → w ≡ listed lay stamp pr l t o w
+  listed-no pr e = sym (ap (λ (b : Bool). listed lay stamp b l t o w) e)
+
+  pub listed-seen : (pr : Bool) (x : List ℕ) → pr ≡ true → getD w (tripStampsAt lay + t) 0 ≡ stamp → x ≡ lowered lay t o w → x ≡ listed lay stamp pr l t o w
+  listed-seen pr x e f g =
+      g ∙ sym (ap₂ (λ (a b : Bool). cond a (cond b (lowered lay t o w) (linked lay stamp l t o w)) w) e (eq-eqb (getD w (tripStampsAt lay + t) 0) stamp f))
+
+  pub listed-new : (pr : Bool) (x : List ℕ) → pr ≡ true → (getD w (tripStampsAt lay + t) 0 ≡ stamp → ⊥) → x ≡ linked lay stamp l t o w → x ≡ listed lay stamp pr l t o w
+  listed-new pr x e f g =
+      g ∙ sym (ap₂ (λ (a b : Bool). cond a (cond b (lowered lay t o w) (linked lay stamp l t o w)) w) e (ne-eqb (getD w (tripStampsAt lay + t) 0) stamp f))
+
+-- a sum of places
+pub linked-as : (lay : Lay) (stamp l t o f : ℕ) (w : List ℕ) → f ≡ chainFirst lay stamp w l
+    → set (set (set (set w (linksAt lay + t) f) (linksAt lay + t + lay .trips) o) (lineStampsAt lay + l + lay .lines) (t + 1)) (lineStampsAt lay + l) stamp ≡ linked lay stamp l t o w
+linked-as lay stamp l t o f w e =
+    let a : linksAt lay + t + lay .trips ≡ leastAt lay + t = omega arith in
+    let b : lineStampsAt lay + l + lay .lines ≡ headsAt lay + l = omega arith in
+    ap (λ (x : ℕ). set (set (set (set w (linksAt lay + t) x) (linksAt lay + t + lay .trips) o) (lineStampsAt lay + l + lay .lines) (t + 1)) (lineStampsAt lay + l) stamp) e
+    ∙ ap₂ (λ (x y : ℕ). set (set (set (set w (linksAt lay + t) (chainFirst lay stamp w l)) x o) y (t + 1)) (lineStampsAt lay + l) stamp) a b
+
+pub stamped-as : (lay : Lay) (stamp t o dep : ℕ) (w : List ℕ)
+    → set (set (set w (tripStampsAt lay + t) stamp) (tripStampsAt lay + t + lay .trips) o) (tripStampsAt lay + t + lay .trips + lay .trips) dep ≡ stampedAs lay stamp t o dep w
+stamped-as lay stamp t o dep w =
+    let a : tripStampsAt lay + t + lay .trips ≡ boardedOffsetsAt lay + t = omega arith in
+    let b : tripStampsAt lay + t + lay .trips + lay .trips ≡ boardedDeparturesAt lay + t = omega arith in
+    ap₂ (λ (x y : ℕ). set (set (set w (tripStampsAt lay + t) stamp) x o) y dep) a b
+
+pub never : false ≡ true → ⊥
+never e = let z : one false ≡ one true = ap one e in omega (arith, z)

@@ -1,0 +1,57 @@
+-- THE CLAIMS for a call, over all that is lent and all areas: `o` is the call's outcome and `a` the answer that the definitions give. Which calls
+-- and which days they are made of, Demands says. Definitions only.
+use Prim.Native.Nat.{ℕ, suc, _/_, _≤_, _<_}
+use mathlib.Core.Path.{_≡_}
+use mathlib.Core.Logic.{_⊎_}
+use mathlib.Core.Bool.{Bool, false}
+use mathlib.Core.List.{List·Memᴰ}
+use lib.ListN.{length}
+use Rattle.model.specs.Search.{SearchAnswer}
+use Rattle.model.specs.Lawful.{Lawful}
+use Rattle.joined.specs.Joined.{Joined, JoinedByDeparture}
+use Rattle.model.specs.Queue.{NoFrequency, allStopTimes}
+use Rattle.model.specs.Promise.{TripTimes, Demand3, Pareto}
+use Rattle.query_input.specs.Lent.{Lent, tablesOf, queryOf}
+use Rattle.query_door.specs.Door.{queryVerdict}
+use Rattle.query_reply.specs.Outcome.{QueryAreas, QueryOutcome, queryLengths, refused, overflown, answered}
+
+-- DEMAND 1: the door
+pub record DoorMet (x : Lent) (o : QueryAreas → QueryOutcome) (a : SearchAnswer) : Type 0 where
+  -- the first of questions 1 to 6 that is answered no is the code, and nothing is written
+  pub refused-by-first-no : (s : QueryAreas) (k : ℕ) → queryVerdict x (queryLengths s) ≡ suc k → o s ≡ refused (suc k) s
+  -- question 8 is answered no exactly where some round's queue has more segments than a half has rows
+  pub full : (s : QueryAreas) → queryVerdict x (queryLengths s) ≡ 0 → (m : ℕ) → List·Memᴰ m (a .queued) → length (s .queueA) / 4 < m → o s ≡ overflown s
+  pub fits : (s : QueryAreas) → queryVerdict x (queryLengths s) ≡ 0 → ((m : ℕ) → List·Memᴰ m (a .queued) → m ≤ length (s .queueA) / 4) → o s ≡ answered a s
+  pub answered-or-full : (s : QueryAreas) → queryVerdict x (queryLengths s) ≡ 0
+      → (o s ≡ answered a s) ⊎ ((o s ≡ overflown s) × (m : ℕ) × List·Memᴰ m (a .queued) × (length (s .queueA) / 4 < m))
+  -- a code of 0 is given only with the answer
+  pub only-answers : (s : QueryAreas) → o s .reply .code ≡ 0 → (queryVerdict x (queryLengths s) ≡ 0) × (o s ≡ answered a s)
+
+-- when question 8 is never answered no: without arc flags in use; and without frequency trips where a half has a row for each stop time of each trip
+pub record NeverFull (x : Lent) (o : QueryAreas → QueryOutcome) (a : SearchAnswer) (inUse : Bool) : Type 0 where
+  pub unflagged : (s : QueryAreas) → queryVerdict x (queryLengths s) ≡ 0 → inUse ≡ false → o s ≡ answered a s
+  pub no-frequency : (s : QueryAreas) → queryVerdict x (queryLengths s) ≡ 0 → NoFrequency (tablesOf x) → allStopTimes (tablesOf x) ≤ length (s .queueA) / 4
+      → o s ≡ answered a s
+
+-- DEMAND 2, besides that the answer is the definitions': with code 0 it is given, and it is lawful
+pub record LawsMet (x : Lent) (o : QueryAreas → QueryOutcome) (a : SearchAnswer) (inUse : Bool) : Type 0 where
+  pub lawful : (s : QueryAreas) → o s .reply .code ≡ 0 → Lawful (tablesOf x) (queryOf x) a × (o s ≡ answered a s)
+  -- where a ride was boarded, a label is no later than its departure; without arc flags in use by the change time
+  pub joined : (s : QueryAreas) → o s .reply .code ≡ 0 → JoinedByDeparture (tablesOf x) (queryOf x) (a .labels)
+  pub in-time : (s : QueryAreas) → o s .reply .code ≡ 0 → inUse ≡ false → Joined (tablesOf x) (queryOf x) (a .labels)
+
+-- DEMAND 3, by the trips' times W, and what we promise beyond it
+pub record PromiseMet (x : Lent) (o : QueryAreas → QueryOutcome) (a : SearchAnswer) (W : TripTimes) : Type 0 where
+  -- whatever passes the door is answered
+  pub answers : (s : QueryAreas) → queryVerdict x (queryLengths s) ≡ 0 → o s ≡ answered a s
+  -- with code 0 the answer is given, and it keeps the demand
+  pub demand3 : (s : QueryAreas) → o s .reply .code ≡ 0 → Demand3 (tablesOf x) (queryOf x) W a × (o s ≡ answered a s)
+  -- and its candidates are Pareto-complete
+  pub pareto : (s : QueryAreas) → o s .reply .code ≡ 0 → Pareto (tablesOf x) (queryOf x) W a
+
+-- the same of areas s for which nothing is left to ask: the code is 0, the answer is given, and it keeps the demand
+pub record PromiseKept (x : Lent) (s : QueryAreas) (o : QueryAreas → QueryOutcome) (a : SearchAnswer) (W : TripTimes) : Type 0 where
+  pub code : o s .reply .code ≡ 0
+  pub answer : o s ≡ answered a s
+  pub demand3 : Demand3 (tablesOf x) (queryOf x) W a
+  pub pareto : Pareto (tablesOf x) (queryOf x) W a

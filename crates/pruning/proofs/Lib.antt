@@ -1,4 +1,0 @@
-pub mod Chains
-pub mod Stages
-pub mod Noting
-pub mod Reading

@@ -1,0 +1,289 @@
+// query_call: the two calls that answer a query: `run_tbr`, the Rust's answer, and `query`, the promise's: `run_tbr` with arc flags put off where they
+// would skip nothing; and the call that says how long a workspace to lend.
+// Place: a call crate; only `exports`, the promise and programs use it.
+// Specs: the outcome of both (Call, a claim) and of the workspace's size (Workspace, a claim); the two calls as one (Parts, inner).
+// Proves: each call's whole outcome is its definition, on every input. Inside: after `search` memory holds the model's `final` in the mode of the call, or
+// question 8 is answered no. The three demands of the calls: crate `promise`.
+// Assumes nothing.
+ghost use mathlib.Core.Path.{_≡_};
+ghost use Rattle.query_call.specs.Workspace.{workspaceAnswer};
+ghost use mathlib.Core.List.{List};
+ghost use Prim.Native.Nat.{ℕ, _/_};
+ghost use lib.ListN.{length};
+ghost use lib.Ieee.{Float};
+ghost use Rattle.search_state.specs.View.{memory};
+ghost use Rattle.query_input.specs.Lent.{lent, queryOf};
+ghost use Rattle.query_types.specs.Layout.{layOf};
+ghost use Rattle.search_begin.specs.Begin.{netOf};
+ghost use Rattle.rounds.specs.Rounds.{Ended};
+ghost use Rattle.query_call.specs.Parts.{modeBy, Flagging, AdmittedWith, outcomeBy, answerBy};
+ghost use Rattle.query_input.specs.Sane.{Admitted};
+ghost use Rattle.query_reply.specs.Outcome.{queryAreas, queryLengths, queueFull, querySettled};
+ghost use Rattle.query_call.specs.Call.{runTbrOutcome, queryOutcome};
+ghost use Rattle.query_reply.specs.Finish.{queryOutcomeOf};
+use door::Answer;
+use query_reply::Reply;
+use query_types::Head;
+use query_types::Lengths;
+use query_types::Net;
+use query_types::QueryCounts;
+
+// How long a workspace the caller has to lend.
+pub fn workspace(n: QueryCounts) -> Answer
+    ensures { λ r. ⌜ r ≡ workspaceAnswer n ⌝ }
+{
+    if !query_door::counts_ok(n) {
+        return door::refused(1);
+    }
+    door::given(query_door::work_size(n) as u32)
+}
+
+// Are arc flags in use? Of `run_tbr` (rust) where they are not put off; of `query` where besides they skip something.
+fn in_use(
+    rust: bool,
+    n: QueryCounts,
+    t: &[u32],
+    built: &[u32],
+    transfers: &[u32],
+    patterns: &[u8],
+    net: Net,
+    off: bool,
+) -> bool
+    requires { ⌜ Flagging n (now t) (now built) (now transfers) (now patterns) ⌝ }
+    ensures { λ r. ⌜ ((d : List Float) (q : List ℕ) → net ≡ netOf (lent n (now (t .entry)) (now (built .entry)) (now (transfers .entry)) (now (patterns .entry)) d q) → queryOf (lent n (now (t .entry)) (now (built .entry)) (now (transfers .entry)) (now (patterns .entry)) d q) .flagsOff ≡ off → r ≡ modeBy rust (lent n (now (t .entry)) (now (built .entry)) (now (transfers .entry)) (now (patterns .entry)) d q)) ⌝ }
+{
+    if rust {
+        return arc_flags::use_arc_flags(n.patterns, net.target, off);
+    }
+    let runs = query_input::transfer_runs(built, n);
+    let rows = query_input::transfer_rows(n, transfers.len());
+    arc_flags::flags_in_use(
+        t,
+        n.timetable,
+        runs,
+        transfers,
+        rows,
+        patterns,
+        n.patterns,
+        net.target,
+        off,
+    )
+}
+
+// From the beginning to the end of the rounds.
+fn search(
+    rust: bool,
+    n: QueryCounts,
+    t: &[u32],
+    built: &[u32],
+    transfers: &[u32],
+    patterns: &[u8],
+    distances: &[f64],
+    q: &[u32],
+    labels: &mut [u32],
+    metres: &mut [f64],
+    work: &mut [u32],
+    queue_a: &mut [u32],
+    queue_b: &mut [u32],
+) -> Head
+    requires { ⌜ AdmittedWith (lent n (now t) (now built) (now transfers) (now patterns) (now distances) (now q)) (length (now labels)) (length (now metres)) (length (now work)) (length (now «queue_a»)) (length (now «queue_b»)) ⌝ }
+    ensures { λ h. ⌜ Ended (lent n (now (t .entry)) (now (built .entry)) (now (transfers .entry)) (now (patterns .entry)) (now (distances .entry)) (now (q .entry))) (modeBy rust (lent n (now (t .entry)) (now (built .entry)) (now (transfers .entry)) (now (patterns .entry)) (now (distances .entry)) (now (q .entry)))) (length (now («queue_a» .entry)) / 4) (layOf n) (memory (now (work .exit)) (now (labels .exit)) (now (metres .exit)) h) ⌝ }
+{
+    let lay = search_begin::lay_of(n);
+    let net = search_begin::net_of(n, t, built, distances, q);
+    let off = words::field(q, 6) == 1;
+    let flagged = in_use(rust, n, t, built, transfers, patterns, net, off);
+    let h = search_begin::begin(n, t, built, distances, q, lay, work, labels, metres);
+    rounds::rounds(
+        n,
+        t,
+        built,
+        transfers,
+        patterns,
+        distances,
+        q,
+        net,
+        flagged,
+        lay,
+        work,
+        labels,
+        metres,
+        queue_a,
+        queue_b,
+        h,
+    )
+}
+
+// A query that the door admits.
+fn answer_query(
+    rust: bool,
+    n: QueryCounts,
+    t: &[u32],
+    built: &[u32],
+    transfers: &[u32],
+    patterns: &[u8],
+    distances: &[f64],
+    q: &[u32],
+    labels: &mut [u32],
+    label_distances: &mut [f64],
+    work: &mut [u32],
+    queue_a: &mut [u32],
+    queue_b: &mut [u32],
+    candidates: &mut [u32],
+) -> Reply
+    requires { ⌜ Admitted (lent n (now t) (now built) (now transfers) (now patterns) (now distances) (now q)) (queryLengths (queryAreas (now labels) (now «label_distances») (now work) (now «queue_a») (now «queue_b») (now candidates))) ⌝ }
+    ensures { λ r. ⌜ queryOutcomeOf r (queryAreas (now (labels .exit)) (now («label_distances» .exit)) (now (work .exit)) (now («queue_a» .exit)) (now («queue_b» .exit)) (now (candidates .exit))) ≡ querySettled 0 (queueFull (answerBy rust (lent n (now (t .entry)) (now (built .entry)) (now (transfers .entry)) (now (patterns .entry)) (now (distances .entry)) (now (q .entry)))) (queryAreas (now (labels .entry)) (now («label_distances» .entry)) (now (work .entry)) (now («queue_a» .entry)) (now («queue_b» .entry)) (now (candidates .entry)))) (answerBy rust (lent n (now (t .entry)) (now (built .entry)) (now (transfers .entry)) (now (patterns .entry)) (now (distances .entry)) (now (q .entry)))) (queryAreas (now (labels .entry)) (now («label_distances» .entry)) (now (work .entry)) (now («queue_a» .entry)) (now («queue_b» .entry)) (now (candidates .entry))) ⌝ }
+{
+    let h = search(
+        rust,
+        n,
+        t,
+        built,
+        transfers,
+        patterns,
+        distances,
+        q,
+        labels,
+        label_distances,
+        work,
+        queue_a,
+        queue_b,
+    );
+    query_reply::finish(
+        n,
+        q,
+        h,
+        labels,
+        label_distances,
+        work,
+        queue_a,
+        queue_b,
+        candidates,
+    )
+}
+
+// The questions first; a no is returned at once.
+fn ask(
+    rust: bool,
+    n: QueryCounts,
+    t: &[u32],
+    built: &[u32],
+    transfers: &[u32],
+    patterns: &[u8],
+    distances: &[f64],
+    q: &[u32],
+    labels: &mut [u32],
+    label_distances: &mut [f64],
+    work: &mut [u32],
+    queue_a: &mut [u32],
+    queue_b: &mut [u32],
+    candidates: &mut [u32],
+) -> Reply
+    ensures { λ r. ⌜ queryOutcomeOf r (queryAreas (now (labels .exit)) (now («label_distances» .exit)) (now (work .exit)) (now («queue_a» .exit)) (now («queue_b» .exit)) (now (candidates .exit))) ≡ outcomeBy rust (lent n (now (t .entry)) (now (built .entry)) (now (transfers .entry)) (now (patterns .entry)) (now (distances .entry)) (now (q .entry))) (queryAreas (now (labels .entry)) (now («label_distances» .entry)) (now (work .entry)) (now («queue_a» .entry)) (now («queue_b» .entry)) (now (candidates .entry))) ⌝ }
+{
+    let l = Lengths {
+        labels: labels.len(),
+        label_distances: label_distances.len(),
+        work: work.len(),
+        queue_a: queue_a.len(),
+        queue_b: queue_b.len(),
+        candidates: candidates.len(),
+    };
+    let code = query_door::questions(n, t, built, transfers, patterns, distances, q, l);
+    if code != 0 {
+        return Reply {
+            code: code,
+            total: 0,
+            stop: 0,
+            candidates: 0,
+        };
+    }
+    answer_query(
+        rust,
+        n,
+        t,
+        built,
+        transfers,
+        patterns,
+        distances,
+        q,
+        labels,
+        label_distances,
+        work,
+        queue_a,
+        queue_b,
+        candidates,
+    )
+}
+
+// THE CALL `run_tbr`.
+pub fn run_tbr(
+    n: QueryCounts,
+    t: &[u32],
+    built: &[u32],
+    transfers: &[u32],
+    patterns: &[u8],
+    distances: &[f64],
+    q: &[u32],
+    labels: &mut [u32],
+    label_distances: &mut [f64],
+    work: &mut [u32],
+    queue_a: &mut [u32],
+    queue_b: &mut [u32],
+    candidates: &mut [u32],
+) -> Reply
+    ensures { λ r. ⌜ record { reply = r; areas = queryAreas (now (labels .exit)) (now («label_distances» .exit)) (now (work .exit)) (now («queue_a» .exit)) (now («queue_b» .exit)) (now (candidates .exit)) } ≡ runTbrOutcome (lent n (now (t .entry)) (now (built .entry)) (now (transfers .entry)) (now (patterns .entry)) (now (distances .entry)) (now (q .entry))) (queryAreas (now (labels .entry)) (now («label_distances» .entry)) (now (work .entry)) (now («queue_a» .entry)) (now («queue_b» .entry)) (now (candidates .entry))) ⌝ }
+{
+    ask(
+        true,
+        n,
+        t,
+        built,
+        transfers,
+        patterns,
+        distances,
+        q,
+        labels,
+        label_distances,
+        work,
+        queue_a,
+        queue_b,
+        candidates,
+    )
+}
+
+// THE CALL `query`.
+pub fn query(
+    n: QueryCounts,
+    t: &[u32],
+    built: &[u32],
+    transfers: &[u32],
+    patterns: &[u8],
+    distances: &[f64],
+    q: &[u32],
+    labels: &mut [u32],
+    label_distances: &mut [f64],
+    work: &mut [u32],
+    queue_a: &mut [u32],
+    queue_b: &mut [u32],
+    candidates: &mut [u32],
+) -> Reply
+    ensures { λ r. ⌜ record { reply = r; areas = queryAreas (now (labels .exit)) (now («label_distances» .exit)) (now (work .exit)) (now («queue_a» .exit)) (now («queue_b» .exit)) (now (candidates .exit)) } ≡ queryOutcome (lent n (now (t .entry)) (now (built .entry)) (now (transfers .entry)) (now (patterns .entry)) (now (distances .entry)) (now (q .entry))) (queryAreas (now (labels .entry)) (now («label_distances» .entry)) (now (work .entry)) (now («queue_a» .entry)) (now («queue_b» .entry)) (now (candidates .entry))) ⌝ }
+{
+    ask(
+        false,
+        n,
+        t,
+        built,
+        transfers,
+        patterns,
+        distances,
+        q,
+        labels,
+        label_distances,
+        work,
+        queue_a,
+        queue_b,
+        candidates,
+    )
+}

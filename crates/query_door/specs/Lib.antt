@@ -1,0 +1,3 @@
+pub mod Door
+pub mod Once
+pub mod Columns

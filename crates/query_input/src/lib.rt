@@ -1,0 +1,136 @@
+// query_input: what a query is lent to read: its sections, and the tables and the query that they say (document 01, items 9 and 10).
+// Place: the search.
+// Specs: where each section stands, the tables and the query that the lent slices say (Lent, a claim); what the door's yes gives (Sane, inner).
+// Proves: each function meets its definition; in proofs/Laws that what the door admits is what the model's door admits.
+// Assumes nothing.
+ghost use mathlib.Core.Path.{_≡_};
+ghost use Prim.Native.Nat.{_+_, _*_, _≤_};
+ghost use lib.ListN.{length};
+ghost use Rattle.tables.specs.Timetable.{timetable};
+ghost use Rattle.tables.specs.Sane.{CountsOk, SlicesOk, RunsOk};
+ghost use Rattle.departures.specs.Departures.{rowDeparture};
+ghost use Rattle.departures.specs.Listed.{RowKnown};
+ghost use Rattle.query_input.specs.Lent.{marksAt, transferRunsAt, querySize, section, lineRuns, lineEntries, stopRuns, departureRows, delayRows, stopRows, egressPart, transferRuns, transferRows};
+ghost use Rattle.query_input.specs.Sane.{Limits};
+use departures::DepartureRow;
+use query_types::QueryCounts;
+use tables::Counts;
+
+// Sections as parts of their slice.
+fn part(s: &[u32], first: usize, count: usize) -> &[u32]
+    requires { ⌜ first + count ≤ length (now s) ⌝ }
+    ensures { λ r. ⌜ now r ≡ section (now (s .entry)) first count ⌝ }
+{
+    &s[first..first + count]
+}
+
+pub fn line_runs(built: &[u32], n: QueryCounts) -> &[u32]
+    requires { ⌜ Limits n ⌝ ∗ ⌜ marksAt n ≤ length (now built) ⌝ }
+    ensures { λ r. ⌜ now r ≡ lineRuns (now (built .entry)) n ⌝ }
+{
+    part(built, n.timetable.trips, n.lines * 2)
+}
+
+pub fn line_entries(built: &[u32], n: QueryCounts) -> &[u32]
+    requires { ⌜ Limits n ⌝ ∗ ⌜ marksAt n ≤ length (now built) ⌝ }
+    ensures { λ r. ⌜ now r ≡ lineEntries (now (built .entry)) n ⌝ }
+{
+    part(built, n.timetable.trips + n.lines * 2, n.entries)
+}
+
+pub fn stop_runs(built: &[u32], n: QueryCounts) -> &[u32]
+    requires { ⌜ Limits n ⌝ ∗ ⌜ marksAt n ≤ length (now built) ⌝ }
+    ensures { λ r. ⌜ now r ≡ stopRuns (now (built .entry)) n ⌝ }
+{
+    part(
+        built,
+        n.timetable.trips + n.lines * 2 + n.entries,
+        n.timetable.stops * 2,
+    )
+}
+
+pub fn departure_rows(built: &[u32], n: QueryCounts) -> &[u32]
+    requires { ⌜ Limits n ⌝ ∗ ⌜ marksAt n ≤ length (now built) ⌝ }
+    ensures { λ r. ⌜ now r ≡ departureRows (now (built .entry)) n ⌝ }
+{
+    part(
+        built,
+        n.timetable.trips + n.lines * 2 + n.entries + n.timetable.stops * 2,
+        n.departures * 2,
+    )
+}
+
+pub fn delay_rows(q: &[u32], n: QueryCounts) -> &[u32]
+    requires { ⌜ Limits n ⌝ ∗ ⌜ querySize n ≤ length (now q) ⌝ }
+    ensures { λ r. ⌜ now r ≡ delayRows (now (q .entry)) n ⌝ }
+{
+    part(q, 7 + n.origins * 2 + n.egress * 2, n.delays * 2)
+}
+
+pub fn stop_rows(q: &[u32], n: QueryCounts) -> &[u32]
+    requires { ⌜ Limits n ⌝ ∗ ⌜ querySize n ≤ length (now q) ⌝ }
+    ensures { λ r. ⌜ now r ≡ stopRows (now (q .entry)) n ⌝ }
+{
+    part(
+        q,
+        7 + n.origins * 2 + n.egress * 2 + n.delays * 2,
+        n.stop_rows * 5,
+    )
+}
+
+pub fn egress_rows(q: &[u32], n: QueryCounts) -> &[u32]
+    requires { ⌜ Limits n ⌝ ∗ ⌜ querySize n ≤ length (now q) ⌝ }
+    ensures { λ r. ⌜ now r ≡ egressPart (now (q .entry)) n ⌝ }
+{
+    part(q, 7 + n.origins * 2, n.egress * 2)
+}
+
+pub fn transfer_runs(built: &[u32], n: QueryCounts) -> &[u32]
+    requires { ⌜ Limits n ⌝ ∗ ⌜ transferRunsAt n ≤ length (now built) ⌝ }
+    ensures { λ r. ⌜ now r ≡ transferRuns (now (built .entry)) n ⌝ }
+{
+    let first = transfer_runs_at(n);
+    &built[first..]
+}
+
+// Where the marks and the transfer runs begin, how many numbers a query has, and the workspace.
+pub fn marks_at(n: QueryCounts) -> usize
+    requires { ⌜ Limits n ⌝ }
+    ensures { λ r. ⌜ r ≡ marksAt n ⌝ ∗ ⌜ r ≤ 200000 ⌝ }
+{
+    n.timetable.trips + n.lines * 2 + n.entries + n.timetable.stops * 2 + n.departures * 2
+}
+
+pub fn transfer_runs_at(n: QueryCounts) -> usize
+    requires { ⌜ Limits n ⌝ }
+    ensures { λ r. ⌜ r ≡ transferRunsAt n ⌝ ∗ ⌜ r ≤ 300000 ⌝ }
+{
+    marks_at(n) + n.timetable.stops
+}
+
+pub fn query_size(n: QueryCounts) -> usize
+    requires { ⌜ Limits n ⌝ }
+    ensures { λ r. ⌜ r ≡ querySize n ⌝ }
+{
+    7 + n.origins * 2 + n.egress * 2 + n.delays * 2 + n.stop_rows * 5
+}
+
+// How many transfers the area of this length holds.
+pub fn transfer_rows(n: QueryCounts, area: usize) -> usize
+    ensures { λ r. ⌜ r ≡ transferRows n area ⌝ }
+{
+    let whole = area / 4;
+    if n.transfers < whole {
+        n.transfers
+    } else {
+        whole
+    }
+}
+
+// When a listed departure leaves.
+pub fn row_departure(t: &[u32], c: Counts, r: DepartureRow) -> usize
+    requires { ⌜ CountsOk c ⌝ ∗ ⌜ SlicesOk (now t) c ⌝ ∗ ⌜ RunsOk (now t) c ⌝ ∗ ⌜ RowKnown (now t) c r ⌝ }
+    ensures { λ b. ⌜ b ≡ rowDeparture (timetable (now (t .entry)) c) r ⌝ }
+{
+    tables::time(t, c, tables::trip(t, c, r.trip, 0) + r.offset, 2)
+}

@@ -1,0 +1,127 @@
+// query_types: the structs that a query hands on by value, and the layout of its workspace.
+// Place: the search; every crate of it rests on this one.
+// Specs: where each section of the working numbers begins, and how many numbers there are in all (Layout; the size is a claim, a caller lends it).
+// Proves: nothing; there is no function here.
+// Assumes nothing.
+use cell_bitset::CellBitSet;
+use delay_rows::Found;
+use tables::Counts;
+
+// How many stops, trips and lines, and where the list of reached stops that is being filled and the other one begin.
+pub struct Lay {
+    pub stops: usize,
+    pub trips: usize,
+    pub lines: usize,
+    pub list: usize,
+    pub other: usize,
+}
+
+// The best total so far, how many stops the list has, how many segments the queue has, and whether one did not fit.
+pub struct Head {
+    pub best: u32,
+    pub count: usize,
+    pub queued: usize,
+    pub full: bool,
+}
+
+// A segment of a trip: where it is boarded, and its time shift as bits.
+pub struct Seg {
+    pub trip: u32,
+    pub offset: u32,
+    pub stop: u32,
+    pub shift: u32,
+}
+
+// A ride: stamp, trip, boarding stop and offset, time shift.
+pub struct Ride {
+    pub stamp: u32,
+    pub trip: u32,
+    pub stop: u32,
+    pub offset: u32,
+    pub shift: u32,
+}
+
+// What of a query boarding goes by: wanted modes (seven bits, 0 means all), wheelchair, the delay margin, and how many trips
+// of a line are tried for a transfer.
+pub struct Terms {
+    pub modes: u32,
+    pub wheelchair: bool,
+    pub margin: u32,
+    pub line_scan: u32,
+}
+
+// Where the lines' tables stand: how many lines, each trip's line, the lines' runs and entries in `built`; positions and FIFO
+// flags in `work`.
+pub struct Lined {
+    pub lines: usize,
+    pub runs: usize,
+    pub entries: usize,
+    pub positions: usize,
+    pub fifo: usize,
+}
+
+// How many there are of each.
+pub struct QueryCounts {
+    pub timetable: Counts,
+    pub cells: usize,
+    pub patterns: usize,
+    pub lines: usize,
+    pub entries: usize,
+    pub departures: usize,
+    pub transfers: usize,
+    pub delays: usize,
+    pub stop_rows: usize,
+    pub origins: usize,
+    pub egress: usize,
+}
+
+// How long each slice is that a query writes.
+pub struct Lengths {
+    pub labels: usize,
+    pub label_distances: usize,
+    pub work: usize,
+    pub queue_a: usize,
+    pub queue_b: usize,
+    pub candidates: usize,
+}
+
+// What decides on a walk: the timetable's counts, how many patterns there are, the cells of the egress stops, whether arc flags are in
+// use, and whether it is a wheelchair query.
+pub struct Rules {
+    pub counts: Counts,
+    pub patterns: usize,
+    pub targets: CellBitSet,
+    pub flagged: bool,
+    pub wheelchair: bool,
+}
+
+// Where the tables of a query with arc flags stand, and what they are asked: the lines' tables, the query's terms, how many patterns,
+// the target cells; where the transfer runs begin in `built`, and the events before each trip in `work`.
+pub struct Net {
+    pub lined: Lined,
+    pub terms: Terms,
+    pub patterns: usize,
+    pub target: CellBitSet,
+    pub runs: usize,
+    pub events: usize,
+}
+
+// A trip that is scanned: the timetable's counts, what transfers read, where the query's numbers stand, the trip's delay row, the ride.
+pub struct Scan {
+    pub counts: Counts,
+    pub net: Net,
+    pub lay: Lay,
+    pub adj: Found,
+    pub ride: Ride,
+}
+
+// What stays the same in one round's ride phase: the query's counts, what transfers read, where the query's numbers stand, whether arc
+// flags are in use, the round's stamp, the change time before a boarding.
+pub struct Phase {
+    pub counts: QueryCounts,
+    pub net: Net,
+    pub lay: Lay,
+    pub flagged: bool,
+    pub stamp: u32,
+    pub change: u32,
+}

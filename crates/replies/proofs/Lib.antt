@@ -1,3 +1,0 @@
-pub mod Replying
-pub mod Ends
-pub mod Outcomes

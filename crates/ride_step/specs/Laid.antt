@@ -1,0 +1,57 @@
+-- What the ride phase reads, and which tables and queries agree with it. Definitions only.
+-- Inner: nobody has to believe this.
+use Prim.Native.Nat.{ℕ, _+_, _/_, _≤_, _<_}
+use mathlib.Core.Path.{_≡_}
+use mathlib.Core.List.{List}
+use lib.ListN.{length, getD}
+use Rattle.door.specs.Door.{timeLimit}
+use Rattle.stop_delay.specs.Times.{sizeOf}
+use Rattle.tables.specs.declared.Counts.{Counts}
+use Rattle.departures.specs.Departures.{listedAt}
+use Rattle.departures.specs.Listed.{RowsListed}
+use Rattle.model.specs.Tables.{Tables, Query}
+use Rattle.query_types.specs.declared.Lay.{Lay}
+use Rattle.search_state.specs.Part.{part}
+use Rattle.query_types.specs.Layout.{restAt, tripStampsAt, eventsAt}
+use Rattle.search_state.specs.Places.{otherAt}
+use Rattle.search_state.specs.View.{segmentAt}
+use Rattle.target_resolving.specs.Resolving.{linedOf}
+use Rattle.query_types.specs.declared.QueryCounts.{QueryCounts}
+use Rattle.query_input.specs.Lent.{marksAt, stopRuns, departureRows}
+use Rattle.query_input.specs.Sane.{Limits}
+use Rattle.query_types.specs.declared.Net.{Net}
+use Rattle.trip_scan.specs.Scan.{Nets, Netted}
+
+-- tables and a query that hold what the ride phase reads: what a scanned trip reads, and each stop's departures and mark
+pub record Rides (n : QueryCounts) (t rows stopRows built bytes area : List ℕ) (net : Net) (lay : Lay) (w : List ℕ) (T : Tables) (Q : Query) : Type 0 where
+  pub nets : Nets t (n .timetable) rows stopRows built bytes area net lay w T Q
+  pub departures : (x : ℕ) → x < n .timetable .stops → T .departures x ≡ listedAt (stopRuns built n) (departureRows built n) x
+  pub mark : (x : ℕ) → x < n .timetable .stops → T .mark x ≡ getD built (marksAt n + x) 0
+
+-- the slices are as the door and a query's beginning leave them: some tables and a query that the door admits are in them
+pub record Laid (n : QueryCounts) (t rows stopRows built bytes area : List ℕ) (net : Net) (lay : Lay) (w : List ℕ) : Type 0 where
+  pub netted : Netted t (n .timetable) rows stopRows built bytes area net lay w
+  pub rides : Rides n t rows stopRows built bytes area net lay w (netted .T) (netted .Q)
+  pub limits : Limits n
+  pub long : marksAt n + n .timetable .stops ≤ length built
+  pub listed : RowsListed t (n .timetable) (stopRuns built n) (departureRows built n) (n .departures)
+  pub lined : net .lined ≡ linedOf (n .timetable) (lay .lines)
+  pub events : net .events ≡ eventsAt lay
+
+-- as it came: the other list, and what is read of the working numbers (egress table, positions, FIFO flags, events before each trip)
+pub record Kept (lay : Lay) (w w′ : List ℕ) : Type 0 where
+  pub size : length w′ ≡ length w
+  pub list : part w′ (lay .other) (lay .stops + 64) ≡ part w (lay .other) (lay .stops + 64)
+  pub rest : (i : ℕ) → restAt lay ≤ i → i < tripStampsAt lay → getD w′ i 0 ≡ getD w i 0
+
+-- the n stops of the other list, to be boarded at: each one of the table's, and reached by 108,003,224, the latest arrival
+pub record Waiting (lay : Lay) (w : List ℕ) (n : ℕ) : Type 0 where
+  pub few : n ≤ lay .stops + 64
+  pub inside : (i : ℕ) → i < n → otherAt lay w i < lay .stops
+  pub early : (i : ℕ) → i < n → getD w (otherAt lay w i) 0 ≤ 108003224
+
+-- the first n segments of a queue, to be ridden: there, on trips of the table, with small shifts
+pub record Segments (c : Counts) (q : List ℕ) (n : ℕ) : Type 0 where
+  pub room : n ≤ length q / 4
+  pub trip : (k : ℕ) → k < n → segmentAt q k .trip < c .trips
+  pub shift : (k : ℕ) → k < n → sizeOf (segmentAt q k .shift) ≤ timeLimit

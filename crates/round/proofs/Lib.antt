@@ -1,5 +1,0 @@
-pub mod Tests
-pub mod Keep
-pub mod States
-pub mod Opening
-pub mod Closing

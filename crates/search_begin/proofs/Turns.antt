@@ -1,0 +1,122 @@
+-- From one phase of a query to the next: a new state with its egress table, the lists exchanged, a list emptied. Assumes nothing.
+use Prim.Native.Nat.{ℕ, _+_, _*_, _-_, _≤_, _<_}
+use mathlib.Core.Path.{_≡_, refl, sym, ap, _∙_}
+use mathlib.Core.Logic.{_⊎_, inl, inr}
+use mathlib.Core.List.{List}
+use native.Mathlib.Omega.{arith}
+use lib.ListN.{length, getD}
+use lib.Ieee.{Float}
+use Rattle.loops.proofs.Count.{tab-is}
+use Rattle.model.specs.Tables.{Tables, Query}
+use Rattle.model.specs.Search.{at, emptied}
+use Rattle.query_types.specs.declared.Lay.{Lay}
+use Rattle.query_types.specs.declared.Head.{Head}
+use Rattle.search_state.specs.Part.{part}
+use Rattle.search_state.specs.Places.{WorkSized, Sized, Same, Walks, turned}
+use Rattle.query_types.specs.Layout.{restAt}
+use Rattle.search_state.specs.View.{memory, Written, arrivalsOf, queueOf}
+use Rattle.search_state.specs.Step.{Ready, Starting, Stamp}
+use Rattle.search_begin.specs.Fill.{Egressed}
+use Rattle.search_state.proofs.Part.{part-at, part-length}
+
+-- two sections with the same numbers
+pub part-same-at : (w w′ : List ℕ) (a n : ℕ) → length w′ ≡ length w → a + n ≤ length w → ((i : ℕ) → a ≤ i → i < a + n → getD w′ i 0 ≡ getD w i 0) → part w′ a n ≡ part w a n
+part-same-at w w′ a n e r h =
+    tab-is (λ k. getD w (a + k) 0) n (part w′ a n) (part-length w′ a n (omega (arith, e, r))) (λ k u. part-at w′ a n k u ∙ h (a + k) (omega arith) (omega (arith, u)))
+    ∙ sym (tab-is (λ k. getD w (a + k) 0) n (part w a n) (part-length w a n r) (λ k u. part-at w a n k u))
+
+-- the first numbers of the other list are as they came
+pub other-kept : {lay : Lay} {w w′ : List ℕ} → WorkSized lay (length w) → Same lay w w′ → (n : ℕ) → n ≤ lay .stops + 64 → part w′ (lay .other) n ≡ part w (lay .other) n
+other-kept {lay} {w} {w′} ok p n h =
+    part-same-at w w′ (lay .other) n (p .size) (omega (arith, ok .words, ok .other-fits, h))
+    (λ i l u.
+    let e : lay .other + (i - lay .other) ≡ i = omega arith in
+    rw e at (sym (part-at w′ (lay .other) (lay .stops + 64) (i - lay .other) (omega (arith, u, h)))
+    ∙ ap (λ (x : List ℕ). getD x (i - lay .other) 0) (p .list)
+    ∙ part-at w (lay .other) (lay .stops + 64) (i - lay .other) (omega (arith, u, h))))
+
+-- what stands below `restAt` as it came holds the same state
+pub below-view : (lay : Lay) (w w′ l : List ℕ) (m : List Float) (h : Head) (q : List ℕ) → WorkSized lay (length w) → h .count ≤ lay .stops + 64 → length w′ ≡ length w
+    → ((i : ℕ) → i < restAt lay → getD w′ i 0 ≡ getD w i 0) → arrivalsOf lay (memory w′ l m h) q ≡ arrivalsOf lay (memory w l m h) q
+below-view lay w w′ l m h q ok few size below =
+    let low : (a n : ℕ) → a + n ≤ restAt lay → part w′ a n ≡ part w a n =
+    λ a n r. part-same-at w w′ a n size (omega (arith, r, ok .words)) (λ i v u. below i (omega (arith, u, r))) in
+    λ i. record {
+      labels = arrivalsOf lay (memory w l m h) q .labels;
+      earliest = low 0 (lay .stops) (omega arith) i;
+      best = h .best;
+      stopStamp = low (lay .stops) (lay .stops) (omega arith) i;
+      reached = low (lay .list) (h .count) (omega (arith, few, ok .fits)) i;
+      segQueue = arrivalsOf lay (memory w l m h) q .segQueue;
+      segReach = low (lay .stops * 2) (lay .trips) (omega arith) i;
+    }
+
+-- the egress table filled changes nothing of the state
+pub egressed-view : (lay : Lay) (es : List (ℕ × ℕ)) (w w′ l : List ℕ) (m : List Float) (h : Head) (q : List ℕ) → WorkSized lay (length w)
+    → h .count ≤ lay .stops + 64 → Egressed es lay w w′ → arrivalsOf lay (memory w′ l m h) q ≡ arrivalsOf lay (memory w l m h) q
+egressed-view lay es w w′ l m h q ok few p = below-view lay w w′ l m h q ok few (p .size) (p .below)
+
+-- so the first origin may be gone through
+pub egressed-starting : (lay : Lay) (es : List (ℕ × ℕ)) (w w′ l : List ℕ) (m : List Float) (h : Head) → Sized lay (length w) (length l) (length m) → h .count ≡ 0
+    → Egressed es lay w w′ → Written (lay .stops * 13) l m → Starting lay (memory w′ l m h)
+egressed-starting lay es w w′ l m h ok e p r = record { sized = rw (p .size) ok; walks = p .walks; room = omega (arith, e); written = r }
+
+-- THE LISTS EXCHANGED, the new one empty: the model's state with no stop reached
+pub turned-sections : {lay : Lay} {a : ℕ} → WorkSized lay a → WorkSized (turned lay) a
+turned-sections {lay} ok =
+    record {
+      stops = ok .stops;
+      trips = ok .trips;
+      lines = ok .lines;
+      words = ok .words;
+      first = ok .other-first;
+      fits = ok .other-fits;
+      other-first = ok .first;
+      other-fits = ok .fits;
+      apart = go (ok .apart);
+    }
+  where
+    go : (lay .list + (lay .stops + 64) ≤ lay .other) ⊎ (lay .other + (lay .stops + 64) ≤ lay .list)
+        → (lay .other + (lay .stops + 64) ≤ lay .list) ⊎ (lay .list + (lay .stops + 64) ≤ lay .other)
+    go (inl x) = inr x
+    go (inr x) = inl x
+
+pub turned-sized : {lay : Lay} {a b c : ℕ} → Sized lay a b c → Sized (turned lay) a b c
+turned-sized ok = record { sections = turned-sections (ok .sections); rows = ok .rows; metres = ok .metres }
+
+abbrev pub emptiedHead : ℕ → Head → Head
+emptiedHead queued h = record { best = h .best; count = 0; queued = queued; full = h .full }
+
+-- at a round's start (another queue, empty) and at a walk phase's (the same queue)
+pub turned-view : (T : Tables) (Q : Query) (lay : Lay) (w l : List ℕ) (m : List Float) (h : Head) (q q′ : List ℕ) (n : ℕ)
+    → arrivalsOf (turned lay) (memory w l m (emptiedHead n h)) q′ ≡ emptied T Q (queueOf q′ n) (arrivalsOf lay (memory w l m h) q)
+unfolding part
+turned-view T Q lay w l m h q q′ n = refl
+
+pub turned-ready : (lay : Lay) (stamp : ℕ) (w l : List ℕ) (m : List Float) (h : Head) (n : ℕ) → Sized lay (length w) (length l) (length m) → Walks lay w → Stamp stamp
+    → Written (lay .stops * 13) l m → Ready (turned lay) stamp (memory w l m (emptiedHead n h))
+turned-ready lay stamp w l m h n ok g s r =
+    record { sized = turned-sized ok; walks = record { small = g .small }; counted = record { fits = omega arith }; round = s; written = r }
+
+-- two stops, a trip, a line: the sections as they lie
+pub small : Lay
+small = record { stops = 2; trips = 1; lines = 1; list = 5; other = 71 }
+
+pub small-sized : Sized small 149 208 26
+unfolding small
+small-sized =
+    record {
+      sections = record {
+        stops = omega arith;
+        trips = omega arith;
+        lines = omega arith;
+        words = refl;
+        first = omega arith;
+        fits = omega arith;
+        other-first = omega arith;
+        other-fits = omega arith;
+        apart = inl (omega arith);
+      };
+      rows = refl;
+      metres = refl;
+    }

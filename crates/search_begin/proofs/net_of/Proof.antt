@@ -1,0 +1,76 @@
+use Rattle.query_input.proofs.Parts.{query-room}
+use denote.Ref.{now}
+use Rattle.search_begin.proofs.Reading.{askable-as, egress-in, egress-read, net-is, sane-of}
+use native.Mathlib.Omega.{arith}
+use borrow.Author.Needs.{needs}
+use Rattle.search_begin.proofs.net_of.Statement.{statement}
+use Rattle.search_begin.proofs.net_of.Tie as tie
+
+delay-rows-requires : tie.Need-delay-rows-requires
+delay-rows-requires c κs = let A = askable-as (c .before .before .before .before .before .pre) in (A .limits, query-room (A .sized))
+
+stop-rows-requires : tie.Need-stop-rows-requires
+stop-rows-requires c κs = let A = askable-as (c .before .before .before .before .before .before .pre) in (A .limits, query-room (A .sized))
+
+rt-margin-requires : tie.Need-rt-margin-requires
+rt-margin-requires c κs = search needs
+
+egress-rows-requires : tie.Need-egress-rows-requires
+egress-rows-requires c κs = let A = askable-as (c .before .before .before .before .before .before .before .before .pre) in (A .limits, query-room (A .sized))
+
+cast-target-cells : tie.Need-cast-target-cells
+cast-target-cells c = let A = askable-as (c .before .before .before .before .before .before .before .before .before .before .pre) in omega (arith, A .limits .cells)
+
+target-cells-requires : tie.Need-target-cells-requires
+target-cells-requires c κs = let A = askable-as (c .before .before .before .before .before .before .before .before .before .before .pre) in (sane-of _ _ A, (A .limits .cells, egress-read (egress-in _ _ A) (c .before .egress-rows .ensures)))
+
+shared-slice-read-t14 : tie.Need-shared-slice-read-t14
+shared-slice-read-t14 c = let A = askable-as (c .before .before .before .before .before .before .before .before .before .before .before .before .pre) in let r = query-room (A .sized) in omega (arith, r)
+
+shared-slice-read-t17 : tie.Need-shared-slice-read-t17
+shared-slice-read-t17 c = let A = askable-as (c .before .before .before .before .before .before .before .before .before .before .before .before .before .pre) in let r = query-room (A .sized) in omega (arith, r)
+
+line-tables-requires : tie.Need-line-tables-requires
+line-tables-requires c κs = let A = askable-as (c .before .before .before .before .before .before .before .before .before .before .before .before .before .pre) in (A .limits .counts, A .limits .lines)
+
+transfer-runs-at-requires : tie.Need-transfer-runs-at-requires
+transfer-runs-at-requires c κs = let A = askable-as (c .before .before .before .before .before .before .before .before .before .before .before .before .before .before .pre) in A .limits
+
+mul-t20 : tie.Need-mul-t20
+mul-t20 c = search needs
+
+mul-t21 : tie.Need-mul-t21
+mul-t21 c = search needs
+
+add-t22 : tie.Need-add-t22
+add-t22 c = search needs
+
+add-t23 : tie.Need-add-t23
+add-t23 c = search needs
+
+add-t24 : tie.Need-add-t24
+add-t24 c = search needs
+
+returns : tie.Need-returns
+returns c = λ x l B e. let A = askable-as (c .before .before .before .before .before .before .before .before .before .before .before .before .before .before .before .before .before .before .pre) in net-is (c .before .before .before .before .before .before .before .before .before .before .before .before .before .before .before .before .before .before .args .n) (now (c .before .before .before .before .before .before .before .before .before .before .before .before .before .before .before .before .before .before .args .t)) (now (c .before .before .before .before .before .before .before .before .before .before .before .before .before .before .before .before .before .before .args .built)) (now (c .before .before .before .before .before .before .before .before .before .before .before .before .before .before .before .before .before .before .args .q)) (now (c .before .before .before .before .before .before .before .before .before .before .before .before .before .before .before .before .before .before .args .distances)) x e (query-room (A .sized)) _ _ _ (c .before .before .before .before .before .before .before .before .before .before .before .before .delay-rows .ensures) (c .before .before .before .before .before .before .before .before .before .before .before .stop-rows .ensures) (c .before .before .before .before .before .before .before .before .before .egress-rows .ensures) _ _ _ _ (c .before .before .before .before .line-tables .ensures) (c .before .before .before .before .before .before .before .before .before .before .rt-margin .ensures) (c .before .before .before .before .before .before .before .target-cells .ensures) (c .before .before .before .transfer-runs-at .ensures .0)
+
+pub net-of-spec : {M : Type 1} → statement M
+net-of-spec =
+    tie.close
+    (tie.spec
+    delay-rows-requires
+    stop-rows-requires
+    rt-margin-requires
+    egress-rows-requires
+    cast-target-cells
+    target-cells-requires
+    shared-slice-read-t14
+    shared-slice-read-t17
+    line-tables-requires
+    transfer-runs-at-requires
+    mul-t20
+    mul-t21
+    add-t22
+    add-t23
+    add-t24
+    returns)

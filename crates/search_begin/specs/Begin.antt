@@ -1,0 +1,82 @@
+-- How a query begins: where its sections stand, what is laid out in the working numbers, the state before the first round. Definitions only.
+-- Inner: nobody has to believe this.
+use Prim.Native.Nat.{ℕ, _+_, _*_, _≤_, _<_}
+use mathlib.Core.Path.{_≡_}
+use mathlib.Core.Bool.{false}
+use mathlib.Core.List.{List}
+use lib.ListN.{length, getD}
+use lib.Ieee.{Float}
+use Rattle.tables.specs.Timetable.{timetable}
+use Rattle.line_layout.specs.Layout.{positionIn, lineTripsIn, fifoOf}
+use Rattle.event_transfers.specs.Transfers.{eventsBefore}
+use Rattle.model.specs.Tables.{Tables, Query}
+use Rattle.model.specs.Search.{targetCells, marginOf, newBoardings, begin}
+use Rattle.query_types.specs.declared.Lay.{Lay}
+use Rattle.search_state.specs.Places.{Sized, Walks, EgressTable, turned}
+use Rattle.query_types.specs.Layout.{restAt, positionsAt, fifoAt, tripStampsAt, eventsAt, layOf}
+use Rattle.search_state.specs.View.{Memory, arrivalsOf, Written}
+use Rattle.query_types.specs.declared.Terms.{Terms}
+use Rattle.target_resolving.specs.Resolving.{linedOf}
+use Rattle.line_pruning.specs.Books.{Chains, Books}
+use Rattle.query_types.specs.declared.QueryCounts.{QueryCounts}
+use Rattle.query_types.specs.declared.Lengths.{Lengths}
+use Rattle.query_input.specs.Lent.{Lent, tablesOf, queryOf, lineRuns, lineEntries, delayRows, stopRows, transferRunsAt}
+use Rattle.query_input.specs.Sane.{Admitted}
+use Rattle.query_types.specs.declared.Net.{Net}
+use Rattle.ride_step.specs.Laid.{Rides, Laid}
+
+-- what of a query boarding goes by
+abbrev pub termsOf : Tables → Query → Terms
+termsOf T Q = record { modes = Q .modes; wheelchair = Q .wheelchair; margin = marginOf T Q; «line_scan» = Q .settings .lineScan }
+
+-- where the tables stand, and what they are asked
+abbrev pub netOf : Lent → Net
+netOf x =
+    record {
+      lined = linedOf (x .n .timetable) (x .n .lines);
+      terms = termsOf (tablesOf x) (queryOf x);
+      patterns = x .n .patterns;
+      target = targetCells (tablesOf x) (queryOf x);
+      runs = transferRunsAt (x .n);
+      events = eventsAt (layOf (x .n));
+    }
+
+-- what is lent: these counts, this timetable, what the building calls wrote, these distances, these numbers of the query
+pub record Lends (x : Lent) (n : QueryCounts) (t built : List ℕ) (distances : List Float) (q : List ℕ) : Type 0 where
+  pub counts : x .n ≡ n
+  pub timetable-is : x .t ≡ t
+  pub built-is : x .built ≡ built
+  pub distances-are : x .distances ≡ distances
+  pub query-is : x .q ≡ q
+
+-- some lent areas that the door admits are these
+pub record Askable (n : QueryCounts) (t built : List ℕ) (distances : List Float) (q : List ℕ) : Type 0 where
+  pub x : Lent
+  pub l : Lengths
+  pub admitted : Admitted x l
+  pub lends : Lends x n t built distances q
+
+-- laid out from `restAt` on: egress table, positions, FIFO flags, events before each trip; all else is as it came
+pub record LaidOut (x : Lent) (lay : Lay) (w w′ : List ℕ) : Type 0 where
+  pub size : length w′ ≡ length w
+  pub egress : EgressTable (queryOf x .egress) lay w′
+  pub walks : Walks lay w′
+  pub position : (i : ℕ) → i < lay .trips → getD w′ (positionsAt lay + i) 0 ≡ positionIn (lineTripsIn (lineRuns (x .built) (x .n)) (lineEntries (x .built) (x .n))) (x .n .lines) i
+  pub fifo : (l : ℕ) → l < lay .lines → getD w′ (fifoAt lay + l) 0 ≡ fifoOf (timetable (x .t) (x .n .timetable)) (lineRuns (x .built) (x .n)) (lineEntries (x .built) (x .n)) l
+  pub events : (i : ℕ) → i < lay .trips → getD w′ (eventsAt lay + i) 0 ≡ eventsBefore (timetable (x .t) (x .n .timetable)) i
+  pub below : (i : ℕ) → i < restAt lay → getD w′ i 0 ≡ getD w i 0
+  pub above : (i : ℕ) → tripStampsAt lay ≤ i → getD w′ i 0 ≡ getD w i 0
+
+-- BEFORE THE FIRST ROUND memory holds the model's `begin`: the origins' stops in the other list, no segment, no boarding
+pub record Begun (x : Lent) (net : Net) (lay : Lay) (a : Memory) : Type 0 where
+  pub laid : Laid (x .n) (x .t) (delayRows (x .q) (x .n)) (stopRows (x .q) (x .n)) (x .built) (x .patterns) (x .transfers) net lay (a .work)
+  pub rides : Rides (x .n) (x .t) (delayRows (x .q) (x .n)) (stopRows (x .q) (x .n)) (x .built) (x .patterns) (x .transfers) net lay (a .work) (tablesOf x) (queryOf x)
+  pub view : (q : List ℕ) → begin (tablesOf x) (queryOf x) .arrivals ≡ arrivalsOf (turned lay) a q
+  pub books : Books lay 1 (tablesOf x) (queryOf x) (a .work) (newBoardings (tablesOf x) (queryOf x))
+  pub chains : Chains lay 1 (a .work)
+  pub sized : Sized lay (length (a .work)) (length (a .labels)) (length (a .distances))
+  pub walks : Walks lay (a .work)
+  pub few : a .head .count ≤ lay .stops + 64
+  pub queued : a .head .queued ≡ 0
+  pub full : a .head .full ≡ false
+  pub written : Written (lay .stops * 13) (a .labels) (a .distances)

@@ -1,0 +1,275 @@
+// search_begin: how a query begins: a new state, the egress table, positions, FIFO flags and events laid out in the working numbers, and the origins.
+// Place: the search.
+// Specs (inner): slices filled (Fill); what the rounds read and the state before the first of them (Begin); a section filled, the origins gone through
+// (Laying).
+// Proves: after `begin` memory holds the model's `begin` of the tables and the query that the lent slices say, and all that the rounds read.
+// proofs/Turns: from one phase to the next.
+// Assumes nothing.
+ghost use mathlib.Core.Path.{_≡_};
+ghost use Prim.Native.Nat.{_+_, _≤_, _<_, _*_};
+ghost use mathlib.Core.List.{[]};
+ghost use lib.ListN.{length, getD, set, replicate};
+ghost use Rattle.label.specs.Label.{noDistance};
+ghost use Rattle.search_state.specs.Places.{WorkSized, Sized, EgressTable, turned};
+ghost use Rattle.query_types.specs.Layout.{restAt, positionsAt, fifoAt, eventsAt, layOf};
+ghost use Rattle.search_state.specs.View.{memory};
+ghost use Rattle.search_begin.specs.Fill.{Fresh, EgressRows, Egressed, egressOf};
+ghost use Rattle.tables.specs.Timetable.{timetable};
+ghost use Rattle.tables.specs.Sane.{Sane};
+ghost use Rattle.line_layout.specs.Layout.{positionIn, lineTripsIn, fifoOf};
+ghost use Rattle.event_transfers.specs.Transfers.{eventsBefore};
+ghost use Rattle.model.specs.Search.{setOut};
+ghost use Rattle.search_state.specs.Step.{Starting, StartStep};
+ghost use Rattle.query_types.specs.declared.Lengths.{Lengths};
+ghost use Rattle.query_input.specs.Lent.{Lent, lent, lineRuns, lineEntries, originAt};
+ghost use Rattle.query_input.specs.Sane.{Limits, Admitted};
+ghost use Rattle.search_begin.specs.Begin.{netOf, Lends, Askable, LaidOut, Begun};
+ghost use Rattle.search_begin.specs.Laying.{LinesIn, Layable, Put, Origins, Accessed};
+use query_types::Head;
+use query_types::Lay;
+use query_types::Net;
+use query_types::QueryCounts;
+use query_types::Terms;
+
+// Labels, their distances and the working numbers become 0.
+fn zero_all(work: &mut [u32], labels: &mut [u32], distances: &mut [f64])
+    ensures { λ _. ⌜ now (work .exit) ≡ replicate (length (now (work .entry))) 0 ⌝ ∗ ⌜ now (labels .exit) ≡ replicate (length (now (labels .entry))) 0 ⌝ ∗ ⌜ now (distances .exit) ≡ replicate (length (now (distances .entry))) noDistance ⌝ }
+{
+    words::clear_words(work);
+    words::clear_words(labels);
+    label::zero_distances(distances);
+}
+
+// A new query's state.
+fn reset(lay: Lay, work: &mut [u32], labels: &mut [u32], distances: &mut [f64]) -> Head
+    requires { ⌜ Sized lay (length (now work)) (length (now labels)) (length (now distances)) ⌝ }
+    ensures { λ x. ⌜ Fresh lay (memory (now (work .exit)) (now (labels .exit)) (now (distances .exit)) x) ⌝ ∗ ⌜ now (distances .exit) ≡ replicate (length (now (distances .entry))) noDistance ⌝ }
+{
+    zero_all(work, labels, distances);
+    let reach = lay.stops * 2;
+    words::fill(work, 0, lay.stops, 4294967295);
+    words::fill(work, reach, reach + lay.trips, 4294967295);
+    Head {
+        best: 4294967295,
+        count: 0,
+        queued: 0,
+        full: false,
+    }
+}
+
+// One egress stop of the query, its row at `at`, into the egress table.
+fn put_egress(lay: Lay, q: &[u32], at: usize, work: &mut [u32])
+    requires { ⌜ WorkSized lay (length (now work)) ⌝ ∗ ⌜ at + 1 < length (now q) ⌝ ∗ ⌜ getD (now q) at 0 < lay .stops ⌝ ∗ ⌜ getD (now q) (at + 1) 0 ≤ 1048575 ⌝ }
+    ensures { λ _. ⌜ now (work .exit) ≡ set (now (work .entry)) (restAt lay + getD (now (q .entry)) at 0) (getD (now (q .entry)) (at + 1) 0 + 1) ⌝ }
+{
+    let i = lay.stops * 4 + lay.trips + 128 + words::field(q, at);
+    let d = q[at + 1];
+    work[i] = d + 1;
+}
+
+// All of them, into an empty egress table, the last row first.
+fn put_egresses(lay: Lay, q: &[u32], first: usize, n: usize, work: &mut [u32])
+    requires { ⌜ WorkSized lay (length (now work)) ⌝ ∗ ⌜ EgressRows lay (now q) first n ⌝ ∗ ⌜ Egressed [] lay (now work) (now work) ⌝ }
+    ensures { λ _. ⌜ Egressed (egressOf (now (q .entry)) first n) lay (now (work .entry)) (now (work .exit)) ⌝ }
+{
+    let mut k = n;
+    while 0 < k {
+        k -= 1;
+        put_egress(lay, q, first + 2 * k, work);
+    }
+}
+
+// The egress table: 0 for no egress stop, else its walk + 1.
+fn fill_egress(lay: Lay, q: &[u32], first: usize, n: usize, work: &mut [u32])
+    requires { ⌜ WorkSized lay (length (now work)) ⌝ ∗ ⌜ EgressRows lay (now q) first n ⌝ }
+    ensures { λ _. ⌜ Egressed (egressOf (now (q .entry)) first n) lay (now (work .entry)) (now (work .exit)) ⌝ }
+{
+    let rest = lay.stops * 4 + lay.trips + 128;
+    words::clear_part(work, rest, rest + lay.stops);
+    put_egresses(lay, q, first, n, work);
+}
+
+// The cap of the delay margin, and how many trips of a line are tried for a transfer.
+const MARGIN_CAP: u32 = 21600;
+
+const LINE_SCAN: u32 = 64;
+
+// Where the sections of the working numbers begin.
+pub fn lay_of(n: QueryCounts) -> Lay
+    requires { ⌜ Limits n ⌝ }
+    ensures { λ r. ⌜ r ≡ layOf n ⌝ }
+{
+    Lay {
+        stops: n.timetable.stops,
+        trips: n.timetable.trips,
+        lines: n.lines,
+        list: n.timetable.stops * 2 + n.timetable.trips,
+        other: n.timetable.stops * 3 + n.timetable.trips + 64,
+    }
+}
+
+// The same with the two lists exchanged.
+fn turn(lay: Lay) -> Lay
+    ensures { λ r. ⌜ r ≡ turned lay ⌝ }
+{
+    Lay {
+        stops: lay.stops,
+        trips: lay.trips,
+        lines: lay.lines,
+        list: lay.other,
+        other: lay.list,
+    }
+}
+
+// Where the tables stand, and what they are asked.
+pub fn net_of(n: QueryCounts, t: &[u32], built: &[u32], distances: &[f64], q: &[u32]) -> Net
+    requires { ⌜ Askable n (now t) (now built) (now distances) (now q) ⌝ }
+    ensures { λ r. ⌜ ((x : Lent) (l : Lengths) → Admitted x l → Lends x n (now (t .entry)) (now (built .entry)) (now (distances .entry)) (now (q .entry)) → r ≡ netOf x) ⌝ }
+{
+    let c = n.timetable;
+    let rows = query_input::delay_rows(q, n);
+    let stop_rows = query_input::stop_rows(q, n);
+    let margin = delay_lookup::rt_margin(rows, stop_rows, MARGIN_CAP);
+    let egress = query_input::egress_rows(q, n);
+    let target = arc_flags::target_cells(t, c, n.cells as u32, egress);
+    let terms = Terms {
+        modes: q[4],
+        wheelchair: q[5] == 1,
+        margin,
+        line_scan: LINE_SCAN,
+    };
+    let lined = target_resolving::line_tables(c, n.lines);
+    Net {
+        lined,
+        terms,
+        patterns: n.patterns,
+        target,
+        runs: query_input::transfer_runs_at(n),
+        events: c.stops * 5 + c.trips * 2 + n.lines + 128,
+    }
+}
+
+// Each trip's position in its line.
+fn put_positions(n: QueryCounts, built: &[u32], lay: Lay, work: &mut [u32])
+    requires { ⌜ LinesIn n (now built) ⌝ ∗ ⌜ lay ≡ layOf n ⌝ ∗ ⌜ WorkSized lay (length (now work)) ⌝ }
+    ensures { λ _. ⌜ Put (positionsAt lay) (lay .trips) (positionIn (lineTripsIn (lineRuns (now (built .entry)) n) (lineEntries (now (built .entry)) n)) (n .lines)) (now (work .entry)) (now (work .exit)) ⌝ }
+{
+    let a = lay.stops * 5 + lay.trips + 128;
+    let b = a + lay.trips;
+    let runs = query_input::line_runs(built, n);
+    let entries = query_input::line_entries(built, n);
+    line_layout::line_positions(n.timetable, n.lines, runs, entries, &mut work[a..b]);
+}
+
+// Each line's FIFO flag.
+fn put_fifo(n: QueryCounts, t: &[u32], built: &[u32], lay: Lay, work: &mut [u32])
+    requires { ⌜ LinesIn n (now built) ⌝ ∗ ⌜ Sane (now t) (n .timetable) ⌝ ∗ ⌜ lay ≡ layOf n ⌝ ∗ ⌜ WorkSized lay (length (now work)) ⌝ }
+    ensures { λ _. ⌜ Put (fifoAt lay) (lay .lines) (fifoOf (timetable (now (t .entry)) (n .timetable)) (lineRuns (now (built .entry)) n) (lineEntries (now (built .entry)) n)) (now (work .entry)) (now (work .exit)) ⌝ }
+{
+    let a = lay.stops * 5 + lay.trips * 2 + 128;
+    let b = a + lay.lines;
+    let runs = query_input::line_runs(built, n);
+    let entries = query_input::line_entries(built, n);
+    line_layout::line_fifo(t, n.timetable, n.lines, runs, entries, &mut work[a..b]);
+}
+
+// How many stop times the trips before each trip have.
+fn put_events(n: QueryCounts, t: &[u32], lay: Lay, work: &mut [u32])
+    requires { ⌜ Sane (now t) (n .timetable) ⌝ ∗ ⌜ lay ≡ layOf n ⌝ ∗ ⌜ WorkSized lay (length (now work)) ⌝ }
+    ensures { λ _. ⌜ Put (eventsAt lay) (lay .trips) (eventsBefore (timetable (now (t .entry)) (n .timetable))) (now (work .entry)) (now (work .exit)) ⌝ }
+{
+    let c = n.timetable;
+    let a = lay.stops * 5 + lay.trips * 2 + lay.lines + 128;
+    let trips = lay.trips;
+    let mut before: usize = 0;
+    let mut i: usize = 0;
+    while i < trips {
+        work[a + i] = before as u32;
+        before += tables::trip(t, c, i, 1);
+        i += 1;
+    }
+}
+
+// All that the rounds read of the working numbers.
+fn set_up(n: QueryCounts, t: &[u32], built: &[u32], q: &[u32], lay: Lay, work: &mut [u32])
+    requires { ⌜ Layable n (now t) (now built) (now q) ⌝ ∗ ⌜ lay ≡ layOf n ⌝ ∗ ⌜ WorkSized lay (length (now work)) ⌝ }
+    ensures { λ _. ⌜ LaidOut (lent n (now (t .entry)) (now (built .entry)) [] [] [] (now (q .entry))) lay (now (work .entry)) (now (work .exit)) ⌝ }
+{
+    fill_egress(lay, q, 7 + n.origins * 2, n.egress, work);
+    put_positions(n, built, lay, work);
+    put_fifo(n, t, built, lay, work);
+    put_events(n, t, lay, work);
+}
+
+// Origin k.
+fn set_out_at(
+    n: QueryCounts,
+    distances: &[f64],
+    q: &[u32],
+    lay: Lay,
+    k: usize,
+    work: &mut [u32],
+    labels: &mut [u32],
+    metres: &mut [f64],
+    h: Head,
+) -> Head
+    requires { ⌜ Origins n (lay .stops) (now q) (length (now distances)) ⌝ ∗ ⌜ k < n .origins ⌝ ∗ ⌜ Starting lay (memory (now work) (now labels) (now metres) h) ⌝ }
+    ensures { λ x. ⌜ StartStep lay (λ T Q. EgressTable (Q .egress) lay (now (work .entry)) × (Q .start ≡ getD (now (q .entry)) 0 0)) (λ T Q. setOut T Q (originAt (now (q .entry)) (now (distances .entry)) n k)) (memory (now (work .entry)) (now (labels .entry)) (now (metres .entry)) h) (memory (now (work .exit)) (now (labels .exit)) (now (metres .exit)) x) ⌝ }
+{
+    let at = n.timetable.edges + k;
+    search_state::set_out(
+        lay,
+        q[0],
+        q[7 + k * 2],
+        q[7 + 1 + k * 2],
+        distances[at],
+        work,
+        labels,
+        metres,
+        h,
+    )
+}
+
+// All origins.
+fn access(
+    n: QueryCounts,
+    distances: &[f64],
+    q: &[u32],
+    lay: Lay,
+    work: &mut [u32],
+    labels: &mut [u32],
+    metres: &mut [f64],
+    h: Head,
+) -> Head
+    requires { ⌜ Origins n (lay .stops) (now q) (length (now distances)) ⌝ ∗ ⌜ h .count ≡ 0 ⌝ ∗ ⌜ Starting lay (memory (now work) (now labels) (now metres) h) ⌝ }
+    ensures { λ x. ⌜ Accessed n (now (q .entry)) (now (distances .entry)) lay (memory (now (work .entry)) (now (labels .entry)) (now (metres .entry)) h) (memory (now (work .exit)) (now (labels .exit)) (now (metres .exit)) x) ⌝ }
+{
+    let end = n.origins;
+    let mut x = h;
+    let mut k: usize = 0;
+    while k < end {
+        x = set_out_at(n, distances, q, lay, k, work, labels, metres, x);
+        k += 1;
+    }
+    x
+}
+
+// The state before the first round.
+pub fn begin(
+    n: QueryCounts,
+    t: &[u32],
+    built: &[u32],
+    distances: &[f64],
+    q: &[u32],
+    lay: Lay,
+    work: &mut [u32],
+    labels: &mut [u32],
+    metres: &mut [f64],
+) -> Head
+    requires { ⌜ Askable n (now t) (now built) (now distances) (now q) ⌝ ∗ ⌜ lay ≡ layOf n ⌝ ∗ ⌜ Sized lay (length (now work)) (length (now labels)) (length (now metres)) ⌝ }
+    ensures { λ h. ⌜ ((x : Lent) (l : Lengths) → Admitted x l → Lends x n (now (t .entry)) (now (built .entry)) (now (distances .entry)) (now (q .entry)) → Begun x (netOf x) lay (memory (now (work .exit)) (now (labels .exit)) (now (metres .exit)) h)) ⌝ }
+{
+    let h = reset(lay, work, labels, metres);
+    set_up(n, t, built, q, lay, work);
+    access(n, distances, q, turn(lay), work, labels, metres, h)
+}

@@ -1,0 +1,67 @@
+use denote.Ref.{now}
+use mathlib.Core.Path.{sym, _∙_}
+use Rattle.search_state.proofs.Queue.{queue-not, queue-full, queue-put}
+use borrow.Author.Needs.{needs}
+use Rattle.search_state.proofs.enqueue.Statement.{statement}
+use Rattle.search_state.proofs.enqueue.Tie as tie
+
+mul-at : tie.Need-mul-at
+mul-at c = search needs
+
+cast-at : tie.Need-cast-at
+cast-at c = search needs
+
+add-at : tie.Need-add-at
+add-at c = search needs
+
+mul-both : tie.Need-mul-both
+mul-both c = search needs
+
+slice-read-both : tie.Need-slice-read-both
+slice-read-both c = search needs
+
+both-requires : tie.Need-both-requires
+both-requires c κs = search needs
+
+returns : tie.Need-returns
+returns c = λ stamp l m ok. let a = c .before .before .before .before .before .before .before in let x = a .args in let g = x .seg in queue-not (x .lay) stamp (now (x .work)) l m (x .h) (now (x .queue)) (x .plain) (g .trip) (g .offset) (g .stop) (g .shift) ok (a .pre .1 .0) (a .pre .1 .1) (sym (c .before .both .ensures) ∙ c .if1 .taken)
+
+returns-2 : tie.Need-returns-2
+returns-2 c = λ stamp l m ok. let a = c .before .before .before .before .before .before .before .before in let x = a .args in let g = x .seg in queue-full (x .lay) stamp (now (x .work)) l m (x .h) (now (x .queue)) (x .plain) (g .trip) (g .offset) (g .stop) (g .shift) ok (a .pre .1 .0) (a .pre .1 .1) (sym (c .before .before .both .ensures) ∙ c .before .if1 .left) (c .if2 .taken)
+
+put-segment-requires : tie.Need-put-segment-requires
+put-segment-requires c κs = search needs
+
+lower-requires : tie.Need-lower-requires
+lower-requires c κs = search needs
+
+add-t11 : tie.Need-add-t11
+add-t11 c = search needs
+
+same-length : tie.Need-same-length
+same-length c = search needs
+
+same-length-2 : tie.Need-same-length-2
+same-length-2 c = search needs
+
+returns-3 : tie.Need-returns-3
+returns-3 c = λ stamp l m ok. let a = c .before .before .before .before .before .before .before .before .before .before .before .before .before .before .before .before in let x = a .args in let g = x .seg in queue-put (x .lay) stamp (now (x .work)) l m (x .h) (now (x .queue)) (x .plain) (g .trip) (g .offset) (g .stop) (g .shift) ok (a .pre .1 .0) (a .pre .1 .1) _ _ (sym (c .before .before .before .before .before .before .before .before .before .before .both .ensures) ∙ c .before .before .before .before .before .before .before .before .before .if1 .left) (c .before .before .before .before .before .before .before .before .if2 .left) (c .before .before .before .before .before .before .put-segment .ensures) (c .before .before .lower .ensures)
+
+pub enqueue-spec : {M : Type 1} → statement M
+enqueue-spec =
+    tie.close
+    (tie.spec
+    mul-at
+    cast-at
+    add-at
+    mul-both
+    slice-read-both
+    both-requires
+    returns
+    returns-2
+    put-segment-requires
+    lower-requires
+    add-t11
+    same-length
+    same-length-2
+    returns-3)

@@ -1,0 +1,79 @@
+use denote.Ref.{now}
+use mathlib.Core.Path.{refl}
+use Rattle.search_state.proofs.Steps.{improve-is}
+use borrow.Author.Needs.{needs}
+use Rattle.search_state.proofs.improve.Statement.{statement}
+use Rattle.search_state.proofs.improve.Tie as tie
+
+mul-at : tie.Need-mul-at
+mul-at c = search needs
+
+add-at : tie.Need-add-at
+add-at c = search needs
+
+add-at-2 : tie.Need-add-at-2
+add-at-2 c = search needs
+
+add-at-3 : tie.Need-add-at-3
+add-at-3 c = search needs
+
+mul-best-after : tie.Need-mul-best-after
+mul-best-after c = search needs
+
+slice-read-best-after : tie.Need-slice-read-best-after
+slice-read-best-after c = search needs
+
+best-after-requires : tie.Need-best-after-requires
+best-after-requires c κs = let a = c .before .before .before .before .before .before in (a .pre .0 .walks .small (a .args .s) (a .pre .1 .0), a .pre .1 .1)
+
+mul-row : tie.Need-mul-row
+mul-row c = search needs
+
+sub-row : tie.Need-sub-row
+sub-row c = search needs
+
+cast-row : tie.Need-cast-row
+cast-row c = search needs
+
+add-row : tie.Need-add-row
+add-row c = search needs
+
+mark-requires : tie.Need-mark-requires
+mark-requires c κs = search needs
+
+store-label-requires : tie.Need-store-label-requires
+store-label-requires c κs = search needs
+
+same-length : tie.Need-same-length
+same-length c = search needs
+
+same-length-2 : tie.Need-same-length-2
+same-length-2 c = search needs
+
+same-length-3 : tie.Need-same-length-3
+same-length-3 c = search needs
+
+returns : tie.Need-returns
+returns c = let a = c .before .before .before .before .before .before .before .before .before .before .before .before .before .before .before .before .before .before in let x = a .args in improve-is (x .lay) (x .stamp) (x .s) (x .v) (x .how) (now (x .work)) (now (x .labels)) (now (x .distances)) (x .h) (a .pre .0) (a .pre .1 .0) _ _ _ _ _ _ (c .before .before .before .before .before .before .before .before .before .mark .ensures) refl (c .before .before .before .before .store-label .ensures .0) (c .before .before .before .before .store-label .ensures .1) (c .before .before .before .before .before .before .before .before .before .before .before .best-after .ensures)
+
+pub improve-spec : {M : Type 1} → statement M
+improve-spec =
+    tie.close
+    (tie.spec
+    mul-at
+    add-at
+    add-at-2
+    add-at-3
+    mul-best-after
+    slice-read-best-after
+    best-after-requires
+    mul-row
+    sub-row
+    cast-row
+    add-row
+    mark-requires
+    store-label-requires
+    same-length
+    same-length-2
+    same-length-3
+    returns)

@@ -1,4 +1,0 @@
-pub mod Queuing
-pub mod Keeping
-pub mod Taking
-pub mod Transfers

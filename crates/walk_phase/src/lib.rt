@@ -1,0 +1,275 @@
+// walks: the walk phase of a round.
+// Specs: what walks read and which tables and queries agree with it (Walking); the two lists of reached stops (Lists).
+// Proves: each function is the model's of the same name on a query's state in memory, for all tables and queries that agree with
+// what it reads; all else in memory is as it came; no stop's earliest arrival rises.
+// Assumes nothing.
+ghost use mathlib.Core.Path.{_≡_};
+ghost use mathlib.Core.List.{[], _∷_};
+ghost use Prim.Native.Nat.{_+_, _*_, _-_, _≤_, _<_};
+ghost use lib.ListN.{length};
+ghost use lib.Dec.{leb};
+ghost use Rattle.loops.specs.Order.{Halved};
+ghost use Rattle.tables.specs.Tables.{edgeOf};
+ghost use Rattle.tables.specs.Sane.{Sane, OrderOk};
+ghost use mathlib.Core.Bool.{not, _&&_};
+ghost use Rattle.model.specs.Tables.{Tables, Query, edgesFrom};
+ghost use Rattle.model.specs.Search.{targetCells, holdsTarget, walkFrom, walkAll};
+ghost use Rattle.search_state.specs.Part.{part};
+ghost use Rattle.search_state.specs.Places.{Sized, turned, Falls};
+ghost use Rattle.search_state.specs.View.{memory};
+ghost use Rattle.search_state.specs.Step.{Ready, Step};
+ghost use Rattle.walk_phase.specs.Walking.{WalkGround, WalksAgree};
+ghost use Rattle.arc_flags.specs.Skipping.{Patterned, PatternsOk};
+ghost use Rattle.walk_phase.specs.Lists.{StopsListed, bearing, Appended, WalkPhase};
+use label::Label;
+use query_types::Head;
+use query_types::Lay;
+use query_types::Rules;
+use tables::Counts;
+
+// Do the arc flags skip an edge of pattern p?
+fn skips(rules: Rules, patterns: &[u8], p: usize) -> bool
+    requires { ⌜ PatternsOk (now patterns) (rules .patterns) ⌝ }
+    ensures { λ r. ⌜ ((T : Tables) (Q : Query) → Patterned T (now (patterns .entry)) (rules .patterns) → rules .targets ≡ targetCells T Q → r ≡ (rules .flagged && not (holdsTarget T Q p))) ⌝ }
+{
+    if !rules.flagged {
+        return false;
+    }
+    let targets = rules.targets;
+    !arc_flags::holds_target(patterns, rules.patterns, targets, p)
+}
+
+// The first walk edge whose from-stop is not below x, by halving; the number of edges where there is none.
+fn first_edge(t: &[u32], c: Counts, x: usize) -> usize
+    requires { ⌜ Sane (now t) c ⌝ ∗ ⌜ OrderOk (now t) c ⌝ }
+    ensures { λ r. ⌜ Halved (λ i. leb x (edgeOf (now (t .entry)) c i 0)) (c .edges) r r ⌝ }
+{
+    let mut lo: usize = 0;
+    let mut hi = c.edges;
+    while lo < hi {
+        let mid = lo + (hi - lo) / 2;
+        if tables::edge(t, c, mid, 0) < x {
+            lo = mid + 1;
+            continue;
+        }
+        hi = mid;
+    }
+    lo
+}
+
+// One walk edge e of stop x, reached at v.
+fn walk_edge(
+    lay: Lay,
+    rules: Rules,
+    stamp: u32,
+    x: usize,
+    v: u32,
+    e: usize,
+    t: &[u32],
+    distances: &[f64],
+    patterns: &[u8],
+    work: &mut [u32],
+    labels: &mut [u32],
+    metres: &mut [f64],
+    h: Head,
+) -> Head
+    requires { ⌜ Ready lay stamp (memory (now work) (now labels) (now metres) h) ⌝ ∗ ⌜ WalkGround lay rules (now t) (length (now distances)) (length (now patterns)) ⌝ ∗ ⌜ x < lay .stops ⌝ ∗ ⌜ v < 29360128 ⌝ ∗ ⌜ e < rules .counts .edges ⌝ }
+    ensures { λ r. ⌜ Step lay stamp (WalksAgree lay rules (now (t .entry)) (now (distances .entry)) (now (patterns .entry)) (now (work .entry))) (λ T Q. walkFrom T Q (rules .flagged) stamp x v (e ∷ [])) (memory (now (work .entry)) (now (labels .entry)) (now (metres .entry)) h) (memory (now (work .exit)) (now (labels .exit)) (now (metres .exit)) r) ⌝ ∗ ⌜ Falls lay (now (work .entry)) (now (work .exit)) ⌝ }
+{
+    let c = rules.counts;
+    let row = tables::edge_row(t, c, e);
+    if skips(rules, patterns, row.pattern) {
+        return h;
+    }
+    let d = walk_time::effective_duration_s(
+        row.duration as u32,
+        row.pathway as u32,
+        rules.wheelchair,
+    );
+    let w = v + d;
+    if h.best <= w {
+        return h;
+    }
+    let how = Label::Walk {
+        arrival_s: w,
+        from_stop: x as u32,
+        to_stop: row.to as u32,
+        duration_s: d,
+        distance_m: distances[e],
+        prev_round: stamp - 1,
+    };
+    search_state::relax(lay, stamp, row.to, w, how, work, labels, metres, h)
+}
+
+// The walk edges of stop x, reached at v.
+fn walk_from(
+    lay: Lay,
+    rules: Rules,
+    stamp: u32,
+    x: usize,
+    v: u32,
+    t: &[u32],
+    distances: &[f64],
+    patterns: &[u8],
+    work: &mut [u32],
+    labels: &mut [u32],
+    metres: &mut [f64],
+    h: Head,
+) -> Head
+    requires { ⌜ Ready lay stamp (memory (now work) (now labels) (now metres) h) ⌝ ∗ ⌜ WalkGround lay rules (now t) (length (now distances)) (length (now patterns)) ⌝ ∗ ⌜ x < lay .stops ⌝ ∗ ⌜ v < 29360128 ⌝ }
+    ensures { λ r. ⌜ Step lay stamp (WalksAgree lay rules (now (t .entry)) (now (distances .entry)) (now (patterns .entry)) (now (work .entry))) (λ T Q. walkFrom T Q (rules .flagged) stamp x v (edgesFrom T x)) (memory (now (work .entry)) (now (labels .entry)) (now (metres .entry)) h) (memory (now (work .exit)) (now (labels .exit)) (now (metres .exit)) r) ⌝ ∗ ⌜ Falls lay (now (work .entry)) (now (work .exit)) ⌝ }
+{
+    let c = rules.counts;
+    let mut e = first_edge(t, c, x);
+    let mut g = h;
+    while e < c.edges {
+        if tables::edge(t, c, e, 0) != x {
+            return g;
+        }
+        g = walk_edge(
+            lay,
+            rules,
+            stamp,
+            x,
+            v,
+            e,
+            t,
+            distances,
+            patterns,
+            work,
+            labels,
+            metres,
+            g,
+        );
+        e += 1;
+    }
+    g
+}
+
+// The walks from the first n stops of the other list, each from when it is reached as its turn comes.
+fn walk_all(
+    lay: Lay,
+    rules: Rules,
+    stamp: u32,
+    n: usize,
+    t: &[u32],
+    distances: &[f64],
+    patterns: &[u8],
+    work: &mut [u32],
+    labels: &mut [u32],
+    metres: &mut [f64],
+    h: Head,
+) -> Head
+    requires { ⌜ Ready lay stamp (memory (now work) (now labels) (now metres) h) ⌝ ∗ ⌜ WalkGround lay rules (now t) (length (now distances)) (length (now patterns)) ⌝ ∗ ⌜ StopsListed lay (now work) n ⌝ }
+    ensures { λ r. ⌜ Step lay stamp (WalksAgree lay rules (now (t .entry)) (now (distances .entry)) (now (patterns .entry)) (now (work .entry))) (λ T Q. walkAll T Q (rules .flagged) stamp (part (now (work .entry)) (lay .other) n)) (memory (now (work .entry)) (now (labels .entry)) (now (metres .entry)) h) (memory (now (work .exit)) (now (labels .exit)) (now (metres .exit)) r) ⌝ ∗ ⌜ Falls lay (now (work .entry)) (now (work .exit)) ⌝ }
+{
+    let mut g = h;
+    let mut i: usize = 0;
+    while i < n {
+        let at = lay.other + i;
+        let x = work[at] as usize;
+        let v = work[x];
+        g = walk_from(
+            lay,
+            rules,
+            stamp,
+            x,
+            v,
+            t,
+            distances,
+            patterns,
+            work,
+            labels,
+            metres,
+            g,
+        );
+        i += 1;
+    }
+    g
+}
+
+// Stop s is put behind the list where it bears the stamp. The answer is how many stops the list has then.
+fn append_one(lay: Lay, stamp: u32, s: usize, work: &mut [u32], count: usize) -> usize
+    requires { ⌜ Sized lay (length (now work)) (lay .stops * 104) (lay .stops * 13) ⌝ ∗ ⌜ s < lay .stops ⌝ ∗ ⌜ count < lay .stops + 64 ⌝ }
+    ensures { λ r. ⌜ Appended lay (now (work .entry)) (now (work .exit)) count r (bearing lay stamp (now (work .entry)) (s ∷ [])) ⌝ }
+{
+    let at = lay.stops + s;
+    if work[at] != stamp {
+        return count;
+    }
+    let end = lay.list + count;
+    work[end] = s as u32;
+    count + 1
+}
+
+// Those of the first n stops of the other list that bear the stamp are put behind the list.
+fn append_stamped(lay: Lay, stamp: u32, n: usize, work: &mut [u32], count: usize) -> usize
+    requires { ⌜ Sized lay (length (now work)) (lay .stops * 104) (lay .stops * 13) ⌝ ∗ ⌜ StopsListed lay (now work) n ⌝ ∗ ⌜ count + n ≤ lay .stops + 64 ⌝ }
+    ensures { λ r. ⌜ Appended lay (now (work .entry)) (now (work .exit)) count r (bearing lay stamp (now (work .entry)) (part (now (work .entry)) (lay .other) n)) ⌝ }
+{
+    let mut k = count;
+    let mut i: usize = 0;
+    while i < n {
+        let at = lay.other + i;
+        let s = work[at] as usize;
+        k = append_one(lay, stamp, s, work, k);
+        i += 1;
+    }
+    k
+}
+
+// THE WALK PHASE of a round: walks from the stops that the ride phase left in the list, and the stops for the next round in the other
+// one: those reached on foot and, unflagged, after them those reached by transit.
+pub fn walk_phase(
+    lay: Lay,
+    rules: Rules,
+    stamp: u32,
+    t: &[u32],
+    distances: &[f64],
+    patterns: &[u8],
+    work: &mut [u32],
+    labels: &mut [u32],
+    metres: &mut [f64],
+    h: Head,
+) -> Head
+    requires { ⌜ Ready lay stamp (memory (now work) (now labels) (now metres) h) ⌝ ∗ ⌜ WalkGround lay rules (now t) (length (now distances)) (length (now patterns)) ⌝ ∗ ⌜ StopsListed (turned lay) (now work) (h .count) ⌝ }
+    ensures { λ r. ⌜ WalkPhase lay (rules .flagged) stamp (WalksAgree lay rules (now (t .entry)) (now (distances .entry)) (now (patterns .entry)) (now (work .entry))) (memory (now (work .entry)) (now (labels .entry)) (now (metres .entry)) h) (memory (now (work .exit)) (now (labels .exit)) (now (metres .exit)) r) ⌝ }
+{
+    let back = Lay {
+        stops: lay.stops,
+        trips: lay.trips,
+        lines: lay.lines,
+        list: lay.other,
+        other: lay.list,
+    };
+    let n = h.count;
+    let g = Head {
+        best: h.best,
+        count: 0,
+        queued: h.queued,
+        full: h.full,
+    };
+    let x = walk_all(
+        back,
+        rules,
+        stamp,
+        n,
+        t,
+        distances,
+        patterns,
+        work,
+        labels,
+        metres,
+        g,
+    );
+    if rules.flagged {
+        return x;
+    }
+    let count = append_stamped(back, stamp, n, work, x.count);
+    Head {
+        best: x.best,
+        count,
+        queued: x.queued,
+        full: x.full,
+    }
+}
