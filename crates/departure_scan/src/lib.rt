@@ -25,6 +25,7 @@ ghost use Rattle.tables.specs.Sane.{Sane};
 ghost use Rattle.search_state.specs.View.{memory};
 ghost use Rattle.ride_step.specs.Laid.{Rides};
 ghost use Rattle.ride_step.specs.Going.{Going, Rode, taken};
+ghost use Rattle.query_types.specs.Slices.{slices};
 use delay_rows::Found;
 use departures::DepartureRow;
 use frequency::FreqBoard;
@@ -34,6 +35,7 @@ use query_types::Phase;
 use query_types::QueryCounts;
 use query_types::Ride;
 use query_types::Scan;
+use query_types::StopScan;
 use query_types::Terms;
 use tables::Counts;
 
@@ -163,8 +165,7 @@ fn take_departure(
     bytes: &[u8],
     area: &[u32],
     p: Phase,
-    x: u32,
-    after: u32,
+    at: StopScan,
     d: DepartureRow,
     work: &mut [u32],
     labels: &mut [u32],
@@ -172,14 +173,13 @@ fn take_departure(
     queue: &mut [u32],
     h: Head,
 ) -> Head
-    requires { ⌜ Going (p .counts) (now t) (now rows) (now «stop_rows») (now built) (now bytes) (now area) (p .net) (p .lay) (p .stamp) (memory (now work) (now labels) (now distances) h) (now queue) ⌝ ∗ ⌜ Event (now t) (p .counts .timetable) (d .trip) (d .offset) ⌝ ∗ ⌜ after < 134217728 ⌝ }
-    ensures { λ r. ⌜ Rode (p .lay) (p .stamp) (Rides (p .counts) (now (t .entry)) (now (rows .entry)) (now («stop_rows» .entry)) (now (built .entry)) (now (bytes .entry)) (now (area .entry)) (p .net) (p .lay) (now (work .entry))) (λ T Q. taken T Q (p .flagged) (p .stamp - 2) (p .stamp) x after d) (memory (now (work .entry)) (now (labels .entry)) (now (distances .entry)) h) (memory (now (work .exit)) (now (labels .exit)) (now (distances .exit)) r) (now (queue .entry)) (now (queue .exit)) ⌝ }
+    requires { ⌜ Going (p .context) (slices (now t) (now rows) (now «stop_rows») (now built) (now bytes) (now area)) (p .stamp) (memory (now work) (now labels) (now distances) h) (now queue) ⌝ ∗ ⌜ Event (now t) (p .context .counts .timetable) (d .trip) (d .offset) ⌝ ∗ ⌜ at .after < 134217728 ⌝ }
+    ensures { λ r. ⌜ Rode (p .context .lay) (p .stamp) (Rides (p .context) (slices (now (t .entry)) (now (rows .entry)) (now («stop_rows» .entry)) (now (built .entry)) (now (bytes .entry)) (now (area .entry))) (now (work .entry))) (λ T Q. taken T Q (p .context .flagged) (p .stamp - 2) (p .stamp) (at .stop) (at .after) d) (memory (now (work .entry)) (now (labels .entry)) (now (distances .entry)) h) (memory (now (work .exit)) (now (labels .exit)) (now (distances .exit)) r) (now (queue .entry)) (now (queue .exit)) ⌝ }
 {
     let trip = d.trip as u32;
     let off = d.offset as u32;
-    let counts = p.counts.timetable;
-    let net = p.net;
-    let lay = p.lay;
+    let counts = p.context.counts.timetable;
+    let lay = p.context.lay;
     let adj = trip_boarding::delay_of(rows, trip);
     let found = board_listed(
         t,
@@ -187,13 +187,13 @@ fn take_departure(
         rows,
         stop_rows,
         built,
-        net.terms,
+        p.context.net.terms,
         lay,
         p.stamp,
         adj,
         d.trip,
         d.offset,
-        after,
+        at.after,
         h.best,
         work,
     );
@@ -204,17 +204,12 @@ fn take_departure(
     let ride = Ride {
         stamp: p.stamp,
         trip,
-        stop: x,
+        stop: at.stop,
         offset: off,
         shift: b.time_shift_s,
     };
-    let s = Scan {
-        counts,
-        net,
-        lay,
-        adj,
-        ride,
-    };
+    let context = p.context;
+    let s = Scan { context, adj, ride };
     trip_scan::scan_trip_forward(
         t,
         rows,
@@ -223,7 +218,6 @@ fn take_departure(
         bytes,
         area,
         s,
-        p.flagged,
         work,
         labels,
         distances,
@@ -234,12 +228,13 @@ fn take_departure(
 
 // At a stop without frequency trips: does a trip depart so late that no delay brings it before the best total?
 fn too_late(t: &[u32], p: Phase, has_freq: bool, d: DepartureRow, best: u32) -> bool
-    requires { ⌜ Sane (now t) (p .counts .timetable) ⌝ ∗ ⌜ Event (now t) (p .counts .timetable) (d .trip) (d .offset) ⌝ }
-    ensures { λ r. ⌜ ((T : Tables) (Q : Query) → T .timetable ≡ timetable (now (t .entry)) (p .counts .timetable) → Asks Q (p .net .terms) → r ≡ (not «has_freq» && leb (best + marginOf T Q) (departure T (d .trip) (d .offset)))) ⌝ }
+    requires { ⌜ Sane (now t) (p .context .counts .timetable) ⌝ ∗ ⌜ Event (now t) (p .context .counts .timetable) (d .trip) (d .offset) ⌝ }
+    ensures { λ r. ⌜ ((T : Tables) (Q : Query) → T .timetable ≡ timetable (now (t .entry)) (p .context .counts .timetable) → Asks Q (p .context .net .terms) → r ≡ (not «has_freq» && leb (best + marginOf T Q) (departure T (d .trip) (d .offset)))) ⌝ }
 {
-    let first = tables::trip(t, p.counts.timetable, d.trip, 0);
-    let dep = tables::time(t, p.counts.timetable, first + d.offset, 2) as u64;
-    let late = best as u64 + p.net.terms.margin as u64 <= dep;
+    let first = tables::trip(t, p.context.counts.timetable, d.trip, 0);
+    let dep = tables::time(t, p.context.counts.timetable, first + d.offset, 2) as u64;
+    let terms = p.context.net.terms;
+    let late = best as u64 + terms.margin as u64 <= dep;
     door::both(!has_freq, late)
 }
 
@@ -252,9 +247,7 @@ pub fn scan_departures(
     bytes: &[u8],
     area: &[u32],
     p: Phase,
-    has_freq: bool,
-    x: u32,
-    after: u32,
+    at: StopScan,
     list: &[u32],
     work: &mut [u32],
     labels: &mut [u32],
@@ -262,15 +255,15 @@ pub fn scan_departures(
     queue: &mut [u32],
     h: Head,
 ) -> Head
-    requires { ⌜ Going (p .counts) (now t) (now rows) (now «stop_rows») (now built) (now bytes) (now area) (p .net) (p .lay) (p .stamp) (memory (now work) (now labels) (now distances) h) (now queue) ⌝ ∗ ⌜ RowsKnown (now t) (p .counts .timetable) (now list) (length (now list) / 2) ⌝ ∗ ⌜ after < 134217728 ⌝ }
-    ensures { λ r. ⌜ Rode (p .lay) (p .stamp) (Rides (p .counts) (now (t .entry)) (now (rows .entry)) (now («stop_rows» .entry)) (now (built .entry)) (now (bytes .entry)) (now (area .entry)) (p .net) (p .lay) (now (work .entry))) (λ T Q. scanDepartures T Q (p .flagged) «has_freq» (p .stamp - 2) (p .stamp) x after (rowsOf (now (list .entry)) (length (now (list .entry)) / 2))) (memory (now (work .entry)) (now (labels .entry)) (now (distances .entry)) h) (memory (now (work .exit)) (now (labels .exit)) (now (distances .exit)) r) (now (queue .entry)) (now (queue .exit)) ⌝ }
+    requires { ⌜ Going (p .context) (slices (now t) (now rows) (now «stop_rows») (now built) (now bytes) (now area)) (p .stamp) (memory (now work) (now labels) (now distances) h) (now queue) ⌝ ∗ ⌜ RowsKnown (now t) (p .context .counts .timetable) (now list) (length (now list) / 2) ⌝ ∗ ⌜ at .after < 134217728 ⌝ }
+    ensures { λ r. ⌜ Rode (p .context .lay) (p .stamp) (Rides (p .context) (slices (now (t .entry)) (now (rows .entry)) (now («stop_rows» .entry)) (now (built .entry)) (now (bytes .entry)) (now (area .entry))) (now (work .entry))) (λ T Q. scanDepartures T Q (p .context .flagged) (at .«has_freq») (p .stamp - 2) (p .stamp) (at .stop) (at .after) (rowsOf (now (list .entry)) (length (now (list .entry)) / 2))) (memory (now (work .entry)) (now (labels .entry)) (now (distances .entry)) h) (memory (now (work .exit)) (now (labels .exit)) (now (distances .exit)) r) (now (queue .entry)) (now (queue .exit)) ⌝ }
 {
     let m = list.len() / 2;
     let mut g = h;
     let mut i: usize = 0;
     while i < m {
         let d = departures::departure_row(list, i);
-        if too_late(t, p, has_freq, d, g.best) {
+        if too_late(t, p, at.has_freq, d, g.best) {
             return g;
         }
         g = take_departure(
@@ -281,8 +274,7 @@ pub fn scan_departures(
             bytes,
             area,
             p,
-            x,
-            after,
+            at,
             d,
             work,
             labels,

@@ -26,9 +26,10 @@ use Rattle.query_input.proofs.Parts.{rows-room}
 use Rattle.query_input.proofs.Laws.{events-below}
 use Rattle.query_types.specs.declared.Net.{Net}
 use Rattle.query_types.specs.Layout.{layOf}
-use Rattle.search_begin.specs.Begin.{netOf, Lends, Askable, Begun}
+use Rattle.search_begin.specs.Begin.{netOf, Lends, Askable, Begun, contextOf}
 use Rattle.rounds.specs.Rounds.{Started, Ended}
 use Rattle.query_call.specs.Parts.{modeBy, Flagging}
+use Rattle.query_types.specs.Slices.{slices}
 
 -- the transfer runs, as a part of what the building calls wrote
 module _ (built : List ℕ) (n : QueryCounts) (events : ℕ) (long : length built ≡ transferRunsAt n + events * 2) (e : ℕ) (h : e < events) where
@@ -104,8 +105,10 @@ module _ {x : Lent} {l : Lengths} (A : Admitted x l) where
   pub sized-at : {lay : Lay} → lay ≡ layOf (x .n) → Sized lay (l .work) (l .labels) (l .«label_distances»)
   sized-at e = subst (λ (y : Lay). Sized y (l .work) (l .labels) (l .«label_distances»)) (sym e) sized
 
-  pub started : {net : Net} {lay : Lay} {a : Memory} {qa qb : ℕ} → net ≡ netOf x → lay ≡ layOf (x .n) → Begun x (netOf x) lay a → qa ≡ qb → Started x net lay a qa qb
-  started {net} {lay} {a} en el b e = record { l = l; admitted = A; net-is = en; lay-is = el; begun = subst (λ (m : Net). Begun x m lay a) (sym en) b; halves = e }
+  pub started : {net : Net} {lay : Lay} {flagged : Bool} {a : Memory} {qa qb : ℕ} → net ≡ netOf x → Begun x (contextOf x (netOf x) lay flagged) a → qa ≡ qb
+      → Started x (contextOf x net lay flagged) a qa qb
+  started {net} {lay} {flagged} {a} en b e =
+      record { l = l; admitted = A; counts-are = refl; change-is = refl; begun = subst (λ (m : Net). Begun x (contextOf x m lay flagged) a) (sym en) b; halves = e }
 
 -- the transfers of the tables are these
 pub transferring : (n : QueryCounts) (t built transfers patterns : List ℕ) (d : List Float) (q : List ℕ) → Flagging n t built transfers patterns

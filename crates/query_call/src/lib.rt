@@ -23,6 +23,7 @@ ghost use Rattle.query_call.specs.Call.{runTbrOutcome, queryOutcome};
 ghost use Rattle.query_reply.specs.Finish.{queryOutcomeOf};
 use door::Answer;
 use query_reply::Reply;
+use query_types::Context;
 use query_types::Head;
 use query_types::Lengths;
 use query_types::Net;
@@ -94,17 +95,22 @@ fn search(
     let off = words::field(q, 6) == 1;
     let flagged = in_use(rust, n, t, built, transfers, patterns, net, off);
     let h = search_begin::begin(n, t, built, distances, q, lay, work, labels, metres);
+    let change = q[1];
+    let ctx = Context {
+        counts: n,
+        lay,
+        net,
+        flagged,
+        change,
+    };
     rounds::rounds(
-        n,
+        ctx,
         t,
         built,
         transfers,
         patterns,
         distances,
         q,
-        net,
-        flagged,
-        lay,
         work,
         labels,
         metres,

@@ -85,16 +85,6 @@ pub struct Lengths {
     pub candidates: usize,
 }
 
-// What decides on a walk: the timetable's counts, how many patterns there are, the cells of the egress stops, whether arc flags are in
-// use, and whether it is a wheelchair query.
-pub struct Rules {
-    pub counts: Counts,
-    pub patterns: usize,
-    pub targets: CellBitSet,
-    pub flagged: bool,
-    pub wheelchair: bool,
-}
-
 // Where the tables of a query with arc flags stand, and what they are asked: the lines' tables, the query's terms, how many patterns,
 // the target cells; where the transfer runs begin in `built`, and the events before each trip in `work`.
 pub struct Net {
@@ -106,22 +96,39 @@ pub struct Net {
     pub events: usize,
 }
 
-// A trip that is scanned: the timetable's counts, what transfers read, where the query's numbers stand, the trip's delay row, the ride.
-pub struct Scan {
-    pub counts: Counts,
-    pub net: Net,
+// What a query computes once: its counts, where its numbers stand in the workspace, the tables that transfers read and what they are asked, whether
+// arc flags are in use, and the change time.
+pub struct Context {
+    pub counts: QueryCounts,
     pub lay: Lay,
+    pub net: Net,
+    pub flagged: bool,
+    pub change: u32,
+}
+
+// A trip that is scanned: its delay row, the ride.
+pub struct Scan {
+    pub context: Context,
     pub adj: Found,
     pub ride: Ride,
 }
 
-// What stays the same in one round's ride phase: the query's counts, what transfers read, where the query's numbers stand, whether arc
-// flags are in use, the round's stamp, the change time before a boarding.
+// One round's ride phase: its stamp, the change time before a boarding in it.
 pub struct Phase {
-    pub counts: QueryCounts,
-    pub net: Net,
-    pub lay: Lay,
-    pub flagged: bool,
+    pub context: Context,
     pub stamp: u32,
     pub change: u32,
+}
+
+// A round's number, and whether it is even: whether it reads the first half of the queue and fills the second.
+pub struct Turn {
+    pub round: u32,
+    pub even: bool,
+}
+
+// A stop whose departures are scanned: from which time on, and whether a frequency trip is listed there.
+pub struct StopScan {
+    pub stop: u32,
+    pub after: u32,
+    pub has_freq: bool,
 }

@@ -26,10 +26,8 @@ use Rattle.search_state.specs.Part.{part}
 use Rattle.search_state.specs.Places.{Sized, otherAt}
 use Rattle.search_state.specs.View.{Memory, memory}
 use Rattle.search_state.proofs.Part.{first-at, part-at, part-length}
-use Rattle.query_types.specs.declared.QueryCounts.{QueryCounts}
 use Rattle.query_input.specs.Lent.{marksAt, stopRuns, departureRows}
 use Rattle.query_input.proofs.Laws.{order-next}
-use Rattle.query_types.specs.declared.Net.{Net}
 use Rattle.departure_scan.specs.Listed.{RowsOrdered}
 use Rattle.ride_step.specs.Laid.{Rides, Laid, Kept, Waiting}
 use Rattle.ride_step.specs.Phase.{Seen}
@@ -37,6 +35,8 @@ use Rattle.ride_step.specs.Going.{Going, Rode, Changing}
 use Rattle.ride_phase.specs.Scanned.{listAt, listedRows, scanned}
 use Rattle.ride_step.proofs.Keep.{other-kept}
 use Rattle.ride_step.proofs.Riding.{ride-none, ride-as}
+use Rattle.query_types.specs.Slices.{Slices}
+use Rattle.query_types.specs.declared.Context.{Context}
 
 module _ (T : Tables) (Q : Query) (flagged : Bool) (round stamp : ℕ) where
   -- one stop, by its two tests
@@ -109,21 +109,21 @@ order-at T f n r i (suc d) u =
     rw e (omega (arith, order-at T f n r i d (omega arith), order-next T f 0 n r (i + d) (omega arith) (omega arith)))
 
 -- THE DEPARTURES of a stop, as they are handed on
-module _ {n : QueryCounts} {t rows stopRows built bytes area : List ℕ} {net : Net} {lay : Lay} {w : List ℕ} (L : Laid n t rows stopRows built bytes area net lay w)
-    (x : ℕ) (in-stops : x < n .timetable .stops) (list : List ℕ) (is : list ≡ listAt built n x) where
-  run-known : RowsKnown t (n .timetable) list (runLength (stopRuns built n) x)
-  run-known = rw is (stop-known t (n .timetable) (stopRuns built n) (departureRows built n) (n .departures) x (L .listed .known) (L .listed .stops) in-stops)
+module _ {ctx : Context} {sl : Slices} {w : List ℕ} (L : Laid ctx sl w)
+    (x : ℕ) (in-stops : x < ctx .counts .timetable .stops) (list : List ℕ) (is : list ≡ listAt (sl .built) (ctx .counts) x) where
+  run-known : RowsKnown (sl .tables) (ctx .counts .timetable) list (runLength (stopRuns (sl .built) (ctx .counts)) x)
+  run-known = rw is (stop-known (sl .tables) (ctx .counts .timetable) (stopRuns (sl .built) (ctx .counts)) (departureRows (sl .built) (ctx .counts)) (ctx .counts .departures) x (L .listed .known) (L .listed .stops) in-stops)
 
-  halves : length list / 2 ≡ runLength (stopRuns built n) x
+  halves : length list / 2 ≡ runLength (stopRuns (sl .built) (ctx .counts)) x
   halves = omega (arith, run-known .size)
 
-  pub list-known : RowsKnown t (n .timetable) list (length list / 2)
+  pub list-known : RowsKnown (sl .tables) (ctx .counts .timetable) list (length list / 2)
   list-known = rw halves run-known
 
-  rows-are : (T : Tables) (Q : Query) → Rides n t rows stopRows built bytes area net lay w T Q → T .departures x ≡ rowsOf list (length list / 2)
+  rows-are : (T : Tables) (Q : Query) → Rides ctx sl w T Q → T .departures x ≡ rowsOf list (length list / 2)
   rows-are T Q y = y .departures x in-stops ∙ ap₂ (λ (l : List ℕ) (k : ℕ). rowsOf l k) (sym is) (sym halves)
 
-  pub list-ordered : RowsOrdered t (n .timetable) list (length list / 2)
+  pub list-ordered : RowsOrdered (sl .tables) (ctx .counts .timetable) list (length list / 2)
   list-ordered =
       record {
         known = list-known;
@@ -140,14 +140,14 @@ module _ {n : QueryCounts} {t rows stopRows built bytes area : List ℕ} {net : 
       }
 
   -- in the model
-  in-table : (T : Tables) (Q : Query) → Rides n t rows stopRows built bytes area net lay w T Q → ltb x (stops T) ≡ true
+  in-table : (T : Tables) (Q : Query) → Rides ctx sl w T Q → ltb x (stops T) ≡ true
   in-table T Q y = lt-ltb x (stops T) (omega (arith, in-stops, ap (λ (z : Timetable). z .stops) (y .nets .agree .timetable)))
 
-  listed-are : (T : Tables) (Q : Query) → Rides n t rows stopRows built bytes area net lay w T Q → departuresAt T x ≡ rowsOf list (length list / 2)
+  listed-are : (T : Tables) (Q : Query) → Rides ctx sl w T Q → departuresAt T x ≡ rowsOf list (length list / 2)
   unfolding departuresAt
   listed-are T Q y = ap (λ (b : Bool). elim b as (λ z. List DepartureRow) [ true ↦ T .departures x | false ↦ [] ]) (in-table T Q y) ∙ rows-are T Q y
 
-  mark-is : (T : Tables) (Q : Query) → Rides n t rows stopRows built bytes area net lay w T Q → markAt T x ≡ eqb (getD built (marksAt n + x) 0) 1
+  mark-is : (T : Tables) (Q : Query) → Rides ctx sl w T Q → markAt T x ≡ eqb (getD (sl .built) (marksAt (ctx .counts) + x) 0) 1
   unfolding markAt
   mark-is T Q y = ap (λ (b : Bool). b && eqb (T .mark x) 1) (in-table T Q y) ∙ ap (λ (k : ℕ). eqb k 1) (y .mark x in-stops)
 
@@ -164,32 +164,32 @@ module _ (t : List ℕ) (c : Counts) (list d : List ℕ) (mark : Bool) (m : ℕ)
   late-scanned e r o g = (o .known, λ T y. g T y ∙ ap (λ (l : List ℕ). notBefore T m (listedRows l)) is ∙ ap (λ (b : Bool). scanned T b m (listedRows list)) (sym e))
 
 -- ONE STOP
-module _ {n : QueryCounts} {t rows stopRows built bytes area : List ℕ} {net : Net} {lay : Lay} {stamp : ℕ} {w l : List ℕ} {m : List Float} {h : Head} {q : List ℕ}
-    (G : Going n t rows stopRows built bytes area net lay stamp (memory w l m h) q) (flagged : Bool) (round change x : ℕ) (in-stops : x < n .timetable .stops)
+module _ {ctx : Context} {sl : Slices} {stamp : ℕ} {w l : List ℕ} {m : List Float} {h : Head} {q : List ℕ}
+    (G : Going ctx sl stamp (memory w l m h) q) (flagged : Bool) (round change x : ℕ) (in-stops : x < ctx .counts .timetable .stops)
     (early : getD w x 0 ≤ 108003224) where
   abbrev agree : Tables → Query → Type 0
-  agree = Changing n t rows stopRows built bytes area net lay round change w
+  agree = Changing ctx sl round change w
 
-  reached-at : (T : Tables) (Q : Query) (s : State) → Seen lay stamp T Q (memory w l m h) q s → at (s .arrivals) x ≡ getD w x 0
-  reached-at T Q s e = ap (λ (a : Arrivals). at a x) (e .arrivals) ∙ first-at w (lay .stops) x (omega (arith, in-stops, G .laid .netted .stops))
+  reached-at : (T : Tables) (Q : Query) (s : State) → Seen (ctx .lay) stamp T Q (memory w l m h) q s → at (s .arrivals) x ≡ getD w x 0
+  reached-at T Q s e = ap (λ (a : Arrivals). at a x) (e .arrivals) ∙ first-at w (ctx .lay .stops) x (omega (arith, in-stops, G .laid .netted .stops))
 
-  after-is : (T : Tables) (Q : Query) → agree T Q → (s : State) → Seen lay stamp T Q (memory w l m h) q s → at (s .arrivals) x + changeBefore Q round ≡ getD w x 0 + change
+  after-is : (T : Tables) (Q : Query) → agree T Q → (s : State) → Seen (ctx .lay) stamp T Q (memory w l m h) q s → at (s .arrivals) x + changeBefore Q round ≡ getD w x 0 + change
   after-is T Q y s e = ap₂ (λ (i j : ℕ). i + j) (reached-at T Q s e) (y .before)
 
-  late-is : (T : Tables) (Q : Query) → agree T Q → (s : State) → Seen lay stamp T Q (memory w l m h) q s → lateAt T Q flagged round stamp x s ≡ leb (h .best) (getD w x 0 + change)
+  late-is : (T : Tables) (Q : Query) → agree T Q → (s : State) → Seen (ctx .lay) stamp T Q (memory w l m h) q s → lateAt T Q flagged round stamp x s ≡ leb (h .best) (getD w x 0 + change)
   late-is T Q y s e =
       ap (λ (b : Bool). b || leb (s .arrivals .best) (at (s .arrivals) x + changeBefore Q round)) (ne-eqb (at (s .arrivals) x) never (λ z. omega (arith, z, reached-at T Q s e, early)))
       ∙ ap₂ (λ (i j : ℕ). leb i j) (ap (λ (a : Arrivals). a .best) (e .arrivals)) (after-is T Q y s e)
 
   -- no earlier than the best total
-  pub stop-late : h .best ≤ getD w x 0 + change → Rode lay stamp agree (λ T Q. scanStops T Q flagged round stamp (x ∷ [])) (memory w l m h) (memory w l m h) q q
+  pub stop-late : h .best ≤ getD w x 0 + change → Rode (ctx .lay) stamp agree (λ T Q. scanStops T Q flagged round stamp (x ∷ [])) (memory w l m h) (memory w l m h) q q
   stop-late u =
       ride-none (λ T Q. scanStops T Q flagged round stamp (x ∷ [])) (memory w l m h) q (G .ready) (G .chains) (G .room)
       (λ T Q y s e. sym (ap (λ (b : Bool). stopBy T Q flagged round stamp b (markAt T x) x s) (late-is T Q y s e ∙ le-leb (h .best) (getD w x 0 + change) u)) ∙ stop-one T Q flagged round stamp x s)
 
-  module _ (u : getD w x 0 + change < h .best) (list : List ℕ) (is : list ≡ listAt built n x)
-      (mark : Bool) (told : mark ≡ eqb (getD built (marksAt n + x) 0) 1) where
-    stop-by : (b : Bool) → mark ≡ b → (T : Tables) (Q : Query) → agree T Q → (s : State) → Seen lay stamp T Q (memory w l m h) q s
+  module _ (u : getD w x 0 + change < h .best) (list : List ℕ) (is : list ≡ listAt (sl .built) (ctx .counts) x)
+      (mark : Bool) (told : mark ≡ eqb (getD (sl .built) (marksAt (ctx .counts) + x) 0) 1) where
+    stop-by : (b : Bool) → mark ≡ b → (T : Tables) (Q : Query) → agree T Q → (s : State) → Seen (ctx .lay) stamp T Q (memory w l m h) q s
         → stopBy T Q flagged round stamp false b x s ≡ scanStops T Q flagged round stamp (x ∷ []) s
     stop-by b o T Q y s e =
         ap₂ (λ (i j : Bool). stopBy T Q flagged round stamp i j x s) (sym (late-is T Q y s e ∙ lt-leb (h .best) (getD w x 0 + change) u))
@@ -197,10 +197,10 @@ module _ {n : QueryCounts} {t rows stopRows built bytes area : List ℕ} {net : 
         ∙ stop-one T Q flagged round stamp x s
 
     -- those of its departures that are scanned: of an unmarked one those that a delay may bring to the time or later
-    pub stop-scanned : (from : ℕ) → from ≡ getD w x 0 + change - net .terms .margin → (ds : List ℕ)
-        → ((T : Tables) → T .timetable ≡ timetable t (n .timetable) → listedRows ds ≡ scanned T mark from (listedRows list)) → {b : Memory} {q′ : List ℕ}
-        → Rode lay stamp (Rides n t rows stopRows built bytes area net lay w) (λ T Q. scanDepartures T Q flagged mark round stamp x (getD w x 0 + change) (listedRows ds)) (memory w l m h) b q q′
-        → Rode lay stamp agree (λ T Q. scanStops T Q flagged round stamp (x ∷ [])) (memory w l m h) b q q′
+    pub stop-scanned : (from : ℕ) → from ≡ getD w x 0 + change - ctx .net .terms .margin → (ds : List ℕ)
+        → ((T : Tables) → T .timetable ≡ timetable (sl .tables) (ctx .counts .timetable) → listedRows ds ≡ scanned T mark from (listedRows list)) → {b : Memory} {q′ : List ℕ}
+        → Rode (ctx .lay) stamp (Rides ctx sl w) (λ T Q. scanDepartures T Q flagged mark round stamp x (getD w x 0 + change) (listedRows ds)) (memory w l m h) b q q′
+        → Rode (ctx .lay) stamp agree (λ T Q. scanStops T Q flagged round stamp (x ∷ [])) (memory w l m h) b q q′
     stop-scanned from f ds g z =
         ride-as (λ T Q. scanStops T Q flagged round stamp (x ∷ [])) z (λ T Q y. y .rides)
         (λ T Q y s e.

@@ -25,11 +25,13 @@ ghost use Rattle.query_input.specs.Sane.{Limits};
 ghost use Rattle.departure_scan.specs.Listed.{RowsOrdered};
 ghost use Rattle.ride_step.specs.Phase.{Opening, RidePhase};
 ghost use Rattle.ride_phase.specs.Scanned.{listAt, listedRows, scanned};
+ghost use Rattle.query_types.specs.Slices.{slices};
 use query_types::Head;
 use query_types::Phase;
 use query_types::QueryCounts;
 use query_types::Ride;
 use query_types::Scan;
+use query_types::StopScan;
 
 // The ride of segment k of `from`.
 fn ride_of(from: &[u32], stamp: u32, k: usize) -> Ride
@@ -67,24 +69,17 @@ fn ride_segment(
     queue: &mut [u32],
     h: Head,
 ) -> Head
-    requires { ⌜ Going (p .counts) (now t) (now rows) (now «stop_rows») (now built) (now bytes) (now area) (p .net) (p .lay) (p .stamp) (memory (now work) (now labels) (now distances) h) (now queue) ⌝ ∗ ⌜ Segments (p .counts .timetable) (now from) (k + 1) ⌝ }
-    ensures { λ r. ⌜ Rode (p .lay) (p .stamp) (Rides (p .counts) (now (t .entry)) (now (rows .entry)) (now («stop_rows» .entry)) (now (built .entry)) (now (bytes .entry)) (now (area .entry)) (p .net) (p .lay) (now (work .entry))) (λ T Q. rideSegments T Q (p .flagged) (p .stamp - 2) (p .stamp) (segmentAt (now (from .entry)) k ∷ [])) (memory (now (work .entry)) (now (labels .entry)) (now (distances .entry)) h) (memory (now (work .exit)) (now (labels .exit)) (now (distances .exit)) r) (now (queue .entry)) (now (queue .exit)) ⌝ }
+    requires { ⌜ Going (p .context) (slices (now t) (now rows) (now «stop_rows») (now built) (now bytes) (now area)) (p .stamp) (memory (now work) (now labels) (now distances) h) (now queue) ⌝ ∗ ⌜ Segments (p .context .counts .timetable) (now from) (k + 1) ⌝ }
+    ensures { λ r. ⌜ Rode (p .context .lay) (p .stamp) (Rides (p .context) (slices (now (t .entry)) (now (rows .entry)) (now («stop_rows» .entry)) (now (built .entry)) (now (bytes .entry)) (now (area .entry))) (now (work .entry))) (λ T Q. rideSegments T Q (p .context .flagged) (p .stamp - 2) (p .stamp) (segmentAt (now (from .entry)) k ∷ [])) (memory (now (work .entry)) (now (labels .entry)) (now (distances .entry)) h) (memory (now (work .exit)) (now (labels .exit)) (now (distances .exit)) r) (now (queue .entry)) (now (queue .exit)) ⌝ }
 {
     let ride = ride_of(from, p.stamp, k);
-    let counts = p.counts.timetable;
-    let net = p.net;
-    if !trip_boarding::permitted(t, counts, net.terms, ride.trip as usize) {
+    let counts = p.context.counts.timetable;
+    if !trip_boarding::permitted(t, counts, p.context.net.terms, ride.trip as usize) {
         return h;
     }
     let adj = trip_boarding::delay_of(rows, ride.trip);
-    let lay = p.lay;
-    let s = Scan {
-        counts,
-        net,
-        lay,
-        adj,
-        ride,
-    };
+    let context = p.context;
+    let s = Scan { context, adj, ride };
     trip_scan::scan_trip_forward(
         t,
         rows,
@@ -93,7 +88,6 @@ fn ride_segment(
         bytes,
         area,
         s,
-        p.flagged,
         work,
         labels,
         distances,
@@ -119,8 +113,8 @@ fn ride_segments(
     queue: &mut [u32],
     h: Head,
 ) -> Head
-    requires { ⌜ Going (p .counts) (now t) (now rows) (now «stop_rows») (now built) (now bytes) (now area) (p .net) (p .lay) (p .stamp) (memory (now work) (now labels) (now distances) h) (now queue) ⌝ ∗ ⌜ Segments (p .counts .timetable) (now from) m ⌝ }
-    ensures { λ r. ⌜ Rode (p .lay) (p .stamp) (Rides (p .counts) (now (t .entry)) (now (rows .entry)) (now («stop_rows» .entry)) (now (built .entry)) (now (bytes .entry)) (now (area .entry)) (p .net) (p .lay) (now (work .entry))) (λ T Q. rideSegments T Q (p .flagged) (p .stamp - 2) (p .stamp) (queueOf (now (from .entry)) m)) (memory (now (work .entry)) (now (labels .entry)) (now (distances .entry)) h) (memory (now (work .exit)) (now (labels .exit)) (now (distances .exit)) r) (now (queue .entry)) (now (queue .exit)) ⌝ }
+    requires { ⌜ Going (p .context) (slices (now t) (now rows) (now «stop_rows») (now built) (now bytes) (now area)) (p .stamp) (memory (now work) (now labels) (now distances) h) (now queue) ⌝ ∗ ⌜ Segments (p .context .counts .timetable) (now from) m ⌝ }
+    ensures { λ r. ⌜ Rode (p .context .lay) (p .stamp) (Rides (p .context) (slices (now (t .entry)) (now (rows .entry)) (now («stop_rows» .entry)) (now (built .entry)) (now (bytes .entry)) (now (area .entry))) (now (work .entry))) (λ T Q. rideSegments T Q (p .context .flagged) (p .stamp - 2) (p .stamp) (queueOf (now (from .entry)) m)) (memory (now (work .entry)) (now (labels .entry)) (now (distances .entry)) h) (memory (now (work .exit)) (now (labels .exit)) (now (distances .exit)) r) (now (queue .entry)) (now (queue .exit)) ⌝ }
 {
     let mut g = h;
     let mut k: usize = 0;
@@ -204,17 +198,23 @@ fn scan_stop(
     queue: &mut [u32],
     h: Head,
 ) -> Head
-    requires { ⌜ Going (p .counts) (now t) (now rows) (now «stop_rows») (now built) (now bytes) (now area) (p .net) (p .lay) (p .stamp) (memory (now work) (now labels) (now distances) h) (now queue) ⌝ ∗ ⌜ x < p .counts .timetable .stops ⌝ ∗ ⌜ getD (now work) x 0 ≤ 108003224 ⌝ ∗ ⌜ p .change ≤ timeLimit ⌝ }
-    ensures { λ r. ⌜ Rode (p .lay) (p .stamp) (Changing (p .counts) (now (t .entry)) (now (rows .entry)) (now («stop_rows» .entry)) (now (built .entry)) (now (bytes .entry)) (now (area .entry)) (p .net) (p .lay) (p .stamp - 2) (p .change) (now (work .entry))) (λ T Q. scanStops T Q (p .flagged) (p .stamp - 2) (p .stamp) (x ∷ [])) (memory (now (work .entry)) (now (labels .entry)) (now (distances .entry)) h) (memory (now (work .exit)) (now (labels .exit)) (now (distances .exit)) r) (now (queue .entry)) (now (queue .exit)) ⌝ }
+    requires { ⌜ Going (p .context) (slices (now t) (now rows) (now «stop_rows») (now built) (now bytes) (now area)) (p .stamp) (memory (now work) (now labels) (now distances) h) (now queue) ⌝ ∗ ⌜ x < p .context .counts .timetable .stops ⌝ ∗ ⌜ getD (now work) x 0 ≤ 108003224 ⌝ ∗ ⌜ p .change ≤ timeLimit ⌝ }
+    ensures { λ r. ⌜ Rode (p .context .lay) (p .stamp) (Changing (p .context) (slices (now (t .entry)) (now (rows .entry)) (now («stop_rows» .entry)) (now (built .entry)) (now (bytes .entry)) (now (area .entry))) (p .stamp - 2) (p .change) (now (work .entry))) (λ T Q. scanStops T Q (p .context .flagged) (p .stamp - 2) (p .stamp) (x ∷ [])) (memory (now (work .entry)) (now (labels .entry)) (now (distances .entry)) h) (memory (now (work .exit)) (now (labels .exit)) (now (distances .exit)) r) (now (queue .entry)) (now (queue .exit)) ⌝ }
 {
     let after = work[x] + p.change;
     if h.best <= after {
         return h;
     }
-    let has_freq = marked(p.counts, built, x);
-    let margin = p.net.terms.margin;
+    let has_freq = marked(p.context.counts, built, x);
+    let margin = p.context.net.terms.margin;
     let from = less(after, margin);
-    let list = departures_from(t, p.counts, built, x, has_freq, from);
+    let list = departures_from(t, p.context.counts, built, x, has_freq, from);
+    let stop = x as u32;
+    let at = StopScan {
+        stop,
+        after,
+        has_freq,
+    };
     departure_scan::scan_departures(
         t,
         rows,
@@ -223,9 +223,7 @@ fn scan_stop(
         bytes,
         area,
         p,
-        has_freq,
-        x as u32,
-        after,
+        at,
         list,
         work,
         labels,
@@ -251,13 +249,13 @@ fn scan_stops(
     queue: &mut [u32],
     h: Head,
 ) -> Head
-    requires { ⌜ Going (p .counts) (now t) (now rows) (now «stop_rows») (now built) (now bytes) (now area) (p .net) (p .lay) (p .stamp) (memory (now work) (now labels) (now distances) h) (now queue) ⌝ ∗ ⌜ Waiting (p .lay) (now work) count ⌝ ∗ ⌜ p .change ≤ timeLimit ⌝ }
-    ensures { λ r. ⌜ Rode (p .lay) (p .stamp) (Changing (p .counts) (now (t .entry)) (now (rows .entry)) (now («stop_rows» .entry)) (now (built .entry)) (now (bytes .entry)) (now (area .entry)) (p .net) (p .lay) (p .stamp - 2) (p .change) (now (work .entry))) (λ T Q. scanStops T Q (p .flagged) (p .stamp - 2) (p .stamp) (part (now (work .entry)) (p .lay .other) count)) (memory (now (work .entry)) (now (labels .entry)) (now (distances .entry)) h) (memory (now (work .exit)) (now (labels .exit)) (now (distances .exit)) r) (now (queue .entry)) (now (queue .exit)) ⌝ }
+    requires { ⌜ Going (p .context) (slices (now t) (now rows) (now «stop_rows») (now built) (now bytes) (now area)) (p .stamp) (memory (now work) (now labels) (now distances) h) (now queue) ⌝ ∗ ⌜ Waiting (p .context .lay) (now work) count ⌝ ∗ ⌜ p .change ≤ timeLimit ⌝ }
+    ensures { λ r. ⌜ Rode (p .context .lay) (p .stamp) (Changing (p .context) (slices (now (t .entry)) (now (rows .entry)) (now («stop_rows» .entry)) (now (built .entry)) (now (bytes .entry)) (now (area .entry))) (p .stamp - 2) (p .change) (now (work .entry))) (λ T Q. scanStops T Q (p .context .flagged) (p .stamp - 2) (p .stamp) (part (now (work .entry)) (p .context .lay .other) count)) (memory (now (work .entry)) (now (labels .entry)) (now (distances .entry)) h) (memory (now (work .exit)) (now (labels .exit)) (now (distances .exit)) r) (now (queue .entry)) (now (queue .exit)) ⌝ }
 {
     let mut g = h;
     let mut i: usize = 0;
     while i < count {
-        let at = p.lay.other + i;
+        let at = p.context.lay.other + i;
         let x = work[at] as usize;
         g = scan_stop(
             t,
@@ -306,11 +304,11 @@ pub fn ride_phase(
     queue: &mut [u32],
     h: Head,
 ) -> Head
-    requires { ⌜ Laid (p .counts) (now t) (now rows) (now «stop_rows») (now built) (now bytes) (now area) (p .net) (p .lay) (now work) ⌝ ∗ ⌜ Opening (p .counts .timetable) (p .lay) (p .stamp) (p .change) (memory (now work) (now labels) (now distances) h) (now from) ⌝ }
-    ensures { λ x. ⌜ RidePhase (p .lay) (p .flagged) (p .stamp) (p .change) (Rides (p .counts) (now (t .entry)) (now (rows .entry)) (now («stop_rows» .entry)) (now (built .entry)) (now (bytes .entry)) (now (area .entry)) (p .net) (p .lay) (now (work .entry))) (memory (now (work .entry)) (now (labels .entry)) (now (distances .entry)) h) (memory (now (work .exit)) (now (labels .exit)) (now (distances .exit)) x) (now (from .entry)) (now (queue .entry)) (now (queue .exit)) ⌝ }
+    requires { ⌜ Laid (p .context) (slices (now t) (now rows) (now «stop_rows») (now built) (now bytes) (now area)) (now work) ⌝ ∗ ⌜ Opening (p .context .counts .timetable) (p .context .lay) (p .stamp) (p .change) (memory (now work) (now labels) (now distances) h) (now from) ⌝ }
+    ensures { λ x. ⌜ RidePhase (p .context .lay) (p .context .flagged) (p .stamp) (p .change) (Rides (p .context) (slices (now (t .entry)) (now (rows .entry)) (now («stop_rows» .entry)) (now (built .entry)) (now (bytes .entry)) (now (area .entry))) (now (work .entry))) (memory (now (work .entry)) (now (labels .entry)) (now (distances .entry)) h) (memory (now (work .exit)) (now (labels .exit)) (now (distances .exit)) x) (now (from .entry)) (now (queue .entry)) (now (queue .exit)) ⌝ }
 {
     let count = h.count;
-    let m = ridden(p.flagged, h.queued);
+    let m = ridden(p.context.flagged, h.queued);
     let g = Head {
         best: h.best,
         count: 0,

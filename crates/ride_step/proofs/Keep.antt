@@ -22,11 +22,12 @@ use Rattle.search_state.proofs.Part.{part-at, drop-at}
 use Rattle.target_resolving.specs.Resolving.{linedOf}
 use Rattle.line_pruning.specs.Books.{Agrees, Noted}
 use Rattle.line_pruning.proofs.Kept.{noted-at, walks-noted, part-noted}
-use Rattle.query_types.specs.declared.QueryCounts.{QueryCounts}
 use Rattle.query_types.specs.declared.Net.{Net}
 use Rattle.trip_scan.specs.Scan.{eventAt, eventRunAt, Nets, Netted}
 use Rattle.ride_step.specs.Laid.{Rides, Laid, Kept, Waiting}
 use Rattle.ride_step.specs.Going.{Changing}
+use Rattle.query_types.specs.Slices.{Slices}
+use Rattle.query_types.specs.declared.Context.{Context}
 
 pub kept-refl : (lay : Lay) (w : List ℕ) → Kept lay w w
 kept-refl lay w = record { size = refl; list = refl; rest = λ i l h. refl }
@@ -90,67 +91,67 @@ module _ {c : Counts} {net : Net} {lay : Lay} {w w′ : List ℕ} (g : Read c ne
   egress-kept : {es : List (ℕ × ℕ)} → EgressTable es lay w → EgressTable es lay w′
   egress-kept e = record { at = λ s h. k .rest (restAt lay + s) (omega arith) (omega (arith, h)) ∙ e .at s h }
 
-  module _ {t rows stopRows built bytes area : List ℕ} where
-    pub nets-kept : {T : Tables} {Q : Query} → Nets t c rows stopRows built bytes area net lay w T Q → Nets t c rows stopRows built bytes area net lay w′ T Q
-    nets-kept {T} {Q} n =
-        record {
-          agree = n .agree;
-          egress = egress-kept (n .egress);
-          asks = n .asks;
-          lines = record {
-            lines = n .lines .lines;
-            lineOf = n .lines .lineOf;
-            count = n .lines .count;
-            entry = n .lines .entry;
-            position = λ i h. n .lines .position i h ∙ sym (position-at i h);
-            fifo = λ l h. n .lines .fifo l h ∙ sym (fifo-at l h);
-          };
-          patterned = n .patterned;
-          target = n .target;
-          transfers = λ i o h j. n .transfers i o h j ∙ ap (transfersAt area) (run-kept built i o h);
-        }
+module _ {ctx : Context} {sl : Slices} {w w′ : List ℕ} (g : Read (ctx .counts .timetable) (ctx .net) (ctx .lay)) (k : Kept (ctx .lay) w w′) where
+  pub nets-kept : {T : Tables} {Q : Query} → Nets ctx sl w T Q → Nets ctx sl w′ T Q
+  nets-kept {T} {Q} n =
+      record {
+        agree = n .agree;
+        egress = egress-kept g k (n .egress);
+        asks = n .asks;
+        lines = record {
+          lines = n .lines .lines;
+          lineOf = n .lines .lineOf;
+          count = n .lines .count;
+          entry = n .lines .entry;
+          position = λ i h. n .lines .position i h ∙ sym (position-at g k i h);
+          fifo = λ l h. n .lines .fifo l h ∙ sym (fifo-at g k l h);
+        };
+        patterned = n .patterned;
+        target = n .target;
+        transfers = λ i o h j. n .transfers i o h j ∙ ap (transfersAt (sl .transfers)) (run-kept g k (sl .built) i o h);
+      }
 
-    netted-kept : Netted t c rows stopRows built bytes area net lay w → Netted t c rows stopRows built bytes area net lay w′
-    netted-kept n =
-        let e = k .size in
-        let same-event : (i o : ℕ) → i < c .trips → eventAt net w′ i o ≡ eventAt net w i o = λ i o h. ap (λ (k : ℕ). k + o) (event-at i h) in
-        record {
-          ground = n .ground;
-          stops = n .stops;
-          trips = n .trips;
-          held = record {
-            few = n .held .few;
-            near = n .held .near;
-            trips = n .held .trips;
-            runs = n .held .runs;
-            entries = n .held .entries;
-            positions = rw e (n .held .positions);
-            fifo = rw e (n .held .fifo);
-          };
-          patterns = n .patterns;
-          events = rw e (n .events);
-          words = λ i o h j. rw (same-event i o h) (n .words i o h j);
-          run = λ i o h j. rw (same-event i o h) (n .run i o h j);
-          past = n .past;
-          T = n .T;
-          Q = n .Q;
-          door = n .door;
-          nets = nets-kept (n .nets);
-        }
+  netted-kept : Netted ctx sl w → Netted ctx sl w′
+  netted-kept n =
+      let e = k .size in
+      let same-event : (i o : ℕ) → i < ctx .counts .timetable .trips → eventAt (ctx .net) w′ i o ≡ eventAt (ctx .net) w i o = λ i o h. ap (λ (e : ℕ). e + o) (event-at g k i h) in
+      record {
+        ground = n .ground;
+        stops = n .stops;
+        trips = n .trips;
+        held = record {
+          few = n .held .few;
+          near = n .held .near;
+          trips = n .held .trips;
+          runs = n .held .runs;
+          entries = n .held .entries;
+          positions = rw e (n .held .positions);
+          fifo = rw e (n .held .fifo);
+        };
+        patterns = n .patterns;
+        events = rw e (n .events);
+        words = λ i o h j. rw (same-event i o h) (n .words i o h j);
+        run = λ i o h j. rw (same-event i o h) (n .run i o h j);
+        past = n .past;
+        T = n .T;
+        Q = n .Q;
+        door = n .door;
+        nets = nets-kept (n .nets);
+      }
 
-module _ {n : QueryCounts} {t rows stopRows built bytes area : List ℕ} {net : Net} {lay : Lay} {w : List ℕ} (L : Laid n t rows stopRows built bytes area net lay w) where
-  pub read-of : Read (n .timetable) net lay
+module _ {ctx : Context} {sl : Slices} {w : List ℕ} (L : Laid ctx sl w) where
+  pub read-of : Read (ctx .counts .timetable) (ctx .net) (ctx .lay)
   read-of = record { stops = L .netted .stops; trips = L .netted .trips; lined = L .lined; events = L .events }
 
-  module _ {w′ : List ℕ} (k : Kept lay w w′) where
-    pub rides-kept : {T : Tables} {Q : Query} → Rides n t rows stopRows built bytes area net lay w T Q → Rides n t rows stopRows built bytes area net lay w′ T Q
+  module _ {w′ : List ℕ} (k : Kept (ctx .lay) w w′) where
+    pub rides-kept : {T : Tables} {Q : Query} → Rides ctx sl w T Q → Rides ctx sl w′ T Q
     rides-kept r = record { nets = nets-kept read-of k (r .nets); departures = r .departures; mark = r .mark }
 
-    pub changing-kept : {round change : ℕ} {T : Tables} {Q : Query} → Changing n t rows stopRows built bytes area net lay round change w T Q
-        → Changing n t rows stopRows built bytes area net lay round change w′ T Q
+    pub changing-kept : {round change : ℕ} {T : Tables} {Q : Query} → Changing ctx sl round change w T Q
+        → Changing ctx sl round change w′ T Q
     changing-kept r = record { rides = rides-kept (r .rides); before = r .before }
 
-    pub laid-kept : Laid n t rows stopRows built bytes area net lay w′
+    pub laid-kept : Laid ctx sl w′
     unfolding netted-kept
     laid-kept =
         record {
@@ -164,7 +165,7 @@ module _ {n : QueryCounts} {t rows stopRows built bytes area : List ℕ} {net : 
         }
 
   -- the lines, as boarding has them
-  pub agrees-of : {T : Tables} {Q : Query} → Rides n t rows stopRows built bytes area net lay w T Q → Agrees T lay (n .timetable) built w
+  pub agrees-of : {T : Tables} {Q : Query} → Rides ctx sl w T Q → Agrees T (ctx .lay) (ctx .counts .timetable) (sl .built) w
   agrees-of {T} r =
       record {
         trips = ap (λ (z : Timetable). z .trips) (r .nets .agree .timetable) ∙ L .netted .trips;

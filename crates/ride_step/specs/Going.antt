@@ -15,18 +15,18 @@ use Rattle.query_types.specs.declared.Ride.{Ride}
 use Rattle.search_state.specs.View.{Memory}
 use Rattle.search_state.specs.Step.{Ready}
 use Rattle.line_pruning.specs.Books.{Chains}
-use Rattle.query_types.specs.declared.QueryCounts.{QueryCounts}
-use Rattle.query_types.specs.declared.Net.{Net}
 use Rattle.trip_scan.specs.Scan.{Open}
 use Rattle.ride_step.specs.Laid.{Rides, Laid}
 use Rattle.ride_step.specs.Phase.{RideStep}
 use Rattle.search_state.specs.Places.{Falls}
+use Rattle.query_types.specs.Slices.{Slices}
+use Rattle.query_types.specs.declared.Context.{Context}
 
 -- a state from which a part of the ride phase may go on: what it reads is laid, and no segment was refused so far
-pub record Going (n : QueryCounts) (t rows stopRows built bytes area : List ℕ) (net : Net) (lay : Lay) (stamp : ℕ) (a : Memory) (queue : List ℕ) : Type 0 where
-  pub laid : Laid n t rows stopRows built bytes area net lay (a .work)
-  pub ready : Ready lay stamp a
-  pub chains : Chains lay stamp (a .work)
+pub record Going (ctx : Context) (sl : Slices) (stamp : ℕ) (a : Memory) (queue : List ℕ) : Type 0 where
+  pub laid : Laid ctx sl (a .work)
+  pub ready : Ready (ctx .lay) stamp a
+  pub chains : Chains (ctx .lay) stamp (a .work)
   pub room : Open (a .head) (length queue)
 
 -- THE CONTRACT of a part of the ride phase: it boards as f does and, where all segments fit, raises no earliest arrival
@@ -35,8 +35,8 @@ pub record Rode (lay : Lay) (stamp : ℕ) (agree : Tables → Query → Type 0) 
   pub falls : b .head .full ≡ false → Falls lay (a .work) (b .work)
 
 -- tables and a query that hold what is read of them where stops are boarded at, with this change time before
-pub record Changing (n : QueryCounts) (t rows stopRows built bytes area : List ℕ) (net : Net) (lay : Lay) (round change : ℕ) (w : List ℕ) (T : Tables) (Q : Query) : Type 0 where
-  pub rides : Rides n t rows stopRows built bytes area net lay w T Q
+pub record Changing (ctx : Context) (sl : Slices) (round change : ℕ) (w : List ℕ) (T : Tables) (Q : Query) : Type 0 where
+  pub rides : Rides ctx sl w T Q
   pub before : changeBefore Q round ≡ change
 
 -- one listed departure of stop x, tried and, where it is boarded so, taken

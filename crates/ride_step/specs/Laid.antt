@@ -16,27 +16,27 @@ use Rattle.query_types.specs.Layout.{restAt, tripStampsAt, eventsAt}
 use Rattle.search_state.specs.Places.{otherAt}
 use Rattle.search_state.specs.View.{segmentAt}
 use Rattle.target_resolving.specs.Resolving.{linedOf}
-use Rattle.query_types.specs.declared.QueryCounts.{QueryCounts}
 use Rattle.query_input.specs.Lent.{marksAt, stopRuns, departureRows}
 use Rattle.query_input.specs.Sane.{Limits}
-use Rattle.query_types.specs.declared.Net.{Net}
 use Rattle.trip_scan.specs.Scan.{Nets, Netted}
+use Rattle.query_types.specs.Slices.{Slices}
+use Rattle.query_types.specs.declared.Context.{Context}
 
 -- tables and a query that hold what the ride phase reads: what a scanned trip reads, and each stop's departures and mark
-pub record Rides (n : QueryCounts) (t rows stopRows built bytes area : List ℕ) (net : Net) (lay : Lay) (w : List ℕ) (T : Tables) (Q : Query) : Type 0 where
-  pub nets : Nets t (n .timetable) rows stopRows built bytes area net lay w T Q
-  pub departures : (x : ℕ) → x < n .timetable .stops → T .departures x ≡ listedAt (stopRuns built n) (departureRows built n) x
-  pub mark : (x : ℕ) → x < n .timetable .stops → T .mark x ≡ getD built (marksAt n + x) 0
+pub record Rides (ctx : Context) (sl : Slices) (w : List ℕ) (T : Tables) (Q : Query) : Type 0 where
+  pub nets : Nets ctx sl w T Q
+  pub departures : (x : ℕ) → x < ctx .counts .timetable .stops → T .departures x ≡ listedAt (stopRuns (sl .built) (ctx .counts)) (departureRows (sl .built) (ctx .counts)) x
+  pub mark : (x : ℕ) → x < ctx .counts .timetable .stops → T .mark x ≡ getD (sl .built) (marksAt (ctx .counts) + x) 0
 
 -- the slices are as the door and a query's beginning leave them: some tables and a query that the door admits are in them
-pub record Laid (n : QueryCounts) (t rows stopRows built bytes area : List ℕ) (net : Net) (lay : Lay) (w : List ℕ) : Type 0 where
-  pub netted : Netted t (n .timetable) rows stopRows built bytes area net lay w
-  pub rides : Rides n t rows stopRows built bytes area net lay w (netted .T) (netted .Q)
-  pub limits : Limits n
-  pub long : marksAt n + n .timetable .stops ≤ length built
-  pub listed : RowsListed t (n .timetable) (stopRuns built n) (departureRows built n) (n .departures)
-  pub lined : net .lined ≡ linedOf (n .timetable) (lay .lines)
-  pub events : net .events ≡ eventsAt lay
+pub record Laid (ctx : Context) (sl : Slices) (w : List ℕ) : Type 0 where
+  pub netted : Netted ctx sl w
+  pub rides : Rides ctx sl w (netted .T) (netted .Q)
+  pub limits : Limits (ctx .counts)
+  pub long : marksAt (ctx .counts) + ctx .counts .timetable .stops ≤ length (sl .built)
+  pub listed : RowsListed (sl .tables) (ctx .counts .timetable) (stopRuns (sl .built) (ctx .counts)) (departureRows (sl .built) (ctx .counts)) (ctx .counts .departures)
+  pub lined : ctx .net .lined ≡ linedOf (ctx .counts .timetable) (ctx .lay .lines)
+  pub events : ctx .net .events ≡ eventsAt (ctx .lay)
 
 -- as it came: the other list, and what is read of the working numbers (egress table, positions, FIFO flags, events before each trip)
 pub record Kept (lay : Lay) (w w′ : List ℕ) : Type 0 where

@@ -1,19 +1,21 @@
 -- What is read of the working numbers is kept by the walk phase too, which fills the other list. Assumes nothing.
 use Prim.Native.Nat.{ℕ}
 use mathlib.Core.List.{List}
-use Rattle.tables.specs.declared.Counts.{Counts}
 use Rattle.model.specs.Tables.{Tables, Query}
-use Rattle.query_types.specs.declared.Lay.{Lay}
 use Rattle.search_state.specs.Places.{Same, turned}
-use Rattle.query_types.specs.declared.QueryCounts.{QueryCounts}
-use Rattle.query_types.specs.declared.Net.{Net}
 use Rattle.trip_scan.specs.Scan.{Nets}
 use Rattle.ride_step.specs.Laid.{Rides, Laid}
 use Rattle.ride_step.proofs.Keep.{kept-same, rides-kept, laid-kept}
+use Rattle.query_types.specs.Slices.{Slices}
+use Rattle.query_types.specs.declared.Context.{Context}
+
+-- the context with the two lists of stops in each other's place
+abbrev turnedIn : Context → Context
+turnedIn ctx = record { counts = ctx .counts; lay = turned (ctx .lay); net = ctx .net; flagged = ctx .flagged; change = ctx .change }
 
 -- what is read is the same where the lists have changed places
-turned-nets : {c : Counts} {t rows stopRows built bytes area : List ℕ} {net : Net} {lay : Lay} {w : List ℕ} {T : Tables} {Q : Query}
-    → Nets t c rows stopRows built bytes area net lay w T Q → Nets t c rows stopRows built bytes area net (turned lay) w T Q
+turned-nets : {ctx : Context} {sl : Slices} {w : List ℕ} {T : Tables} {Q : Query}
+    → Nets ctx sl w T Q → Nets (turnedIn ctx) sl w T Q
 turned-nets m =
     record {
       agree = m .agree;
@@ -25,11 +27,11 @@ turned-nets m =
       transfers = m .transfers;
     }
 
-module _ {n : QueryCounts} {t rows stopRows built bytes area : List ℕ} {net : Net} {lay : Lay} where
-  turned-rides : {w : List ℕ} {T : Tables} {Q : Query} → Rides n t rows stopRows built bytes area net lay w T Q → Rides n t rows stopRows built bytes area net (turned lay) w T Q
+module _ {ctx : Context} {sl : Slices} where
+  turned-rides : {w : List ℕ} {T : Tables} {Q : Query} → Rides ctx sl w T Q → Rides (turnedIn ctx) sl w T Q
   turned-rides r = record { nets = turned-nets (r .nets); departures = r .departures; mark = r .mark }
 
-  turned-laid : {w : List ℕ} → Laid n t rows stopRows built bytes area net lay w → Laid n t rows stopRows built bytes area net (turned lay) w
+  turned-laid : {w : List ℕ} → Laid ctx sl w → Laid (turnedIn ctx) sl w
   turned-laid L =
       let m = L .netted in
       record {
@@ -57,10 +59,10 @@ module _ {n : QueryCounts} {t rows stopRows built bytes area : List ℕ} {net : 
       }
 
 -- BY THE WALK PHASE
-module _ {n : QueryCounts} {t rows stopRows built bytes area : List ℕ} {net : Net} {lay : Lay} {w w′ : List ℕ}
-    (L : Laid n t rows stopRows built bytes area net lay w) (s : Same (turned lay) w w′) where
-  pub laid-walked : Laid n t rows stopRows built bytes area net lay w′
+module _ {ctx : Context} {sl : Slices} {w w′ : List ℕ}
+    (L : Laid ctx sl w) (s : Same (turned (ctx .lay)) w w′) where
+  pub laid-walked : Laid ctx sl w′
   laid-walked = turned-laid (laid-kept (turned-laid L) (kept-same s))
 
-  pub rides-walked : {T : Tables} {Q : Query} → Rides n t rows stopRows built bytes area net lay w T Q → Rides n t rows stopRows built bytes area net lay w′ T Q
+  pub rides-walked : {T : Tables} {Q : Query} → Rides ctx sl w T Q → Rides ctx sl w′ T Q
   rides-walked r = turned-rides (rides-kept (turned-laid L) (kept-same s) (turned-rides r))

@@ -1,7 +1,7 @@
 -- From the state before a round to its ride phase, and from there to its walk phase. Assumes nothing.
 use Prim.Native.Nat.{ℕ, zero, suc, _+_, _≤_, _<_}
 use mathlib.Core.Path.{_≡_, sym, ap, subst, _∙_}
-use mathlib.Core.Bool.{Bool, false}
+use mathlib.Core.Bool.{false}
 use mathlib.Core.List.{List, List·Memᴰ}
 use native.Mathlib.Omega.{arith}
 use lib.ListN.{length, getD}
@@ -24,16 +24,15 @@ use Rattle.search_state.proofs.Queue.{queue-length}
 use Rattle.search_begin.proofs.Turns.{turned-sized}
 use Rattle.line_pruning.specs.Books.{Chains, Books}
 use Rattle.line_pruning.proofs.Rounds.{chains-next, books-next}
-use Rattle.query_types.specs.declared.QueryCounts.{QueryCounts}
-use Rattle.query_types.specs.declared.Net.{Net}
-use Rattle.query_types.specs.declared.Rules.{Rules}
 use Rattle.walk_phase.specs.Walking.{WalkGround, WalksAgree}
 use Rattle.walk_phase.specs.Lists.{StopsListed}
-use Rattle.ride_step.specs.Laid.{Rides as Riding, Laid}
+use Rattle.ride_step.specs.Laid.{Rides, Laid}
 use Rattle.ride_step.proofs.Keep.{rides-kept, laid-kept}
 use Rattle.ride_step.specs.Phase.{Opening, Before, Seen, RidePhase}
 use Rattle.rounds.specs.Round.{stateAt, Fed, Between, Holds}
 use Rattle.rounds.proofs.States.{stands-in, run-early, state-ran}
+use Rattle.query_types.specs.Slices.{Slices}
+use Rattle.query_types.specs.declared.Context.{Context}
 
 -- WHAT STANDS IN MEMORY IS IN THE MODEL'S STATE: the stops listed, the earliest arrivals, the segments queued
 module _ (lay : Lay) (a : Memory) (q : List ℕ) {A : Arrivals} (view : A ≡ arrivalsOf lay a q) where
@@ -62,19 +61,19 @@ change-small Q zero h = omega arith
 change-small Q (suc r) h = h
 
 -- BEFORE A RIDE PHASE
-module _ {n : QueryCounts} {t rows stopRows built bytes area : List ℕ} {distances : List Float} {net : Net} {lay : Lay} {flagged : Bool} {change r : ℕ} {a : Memory} {from : List ℕ}
-    (B : Between n t rows stopRows built bytes area net lay a) (T : Tables) (Q : Query) (F : Fed n t distances change T Q)
-    (H : Holds n t rows stopRows built bytes area net lay flagged T Q r a from) where
+module _ {ctx : Context} {sl : Slices} {distances : List Float} {r : ℕ} {a : Memory} {from : List ℕ}
+    (B : Between ctx sl a) (T : Tables) (Q : Query) (F : Fed ctx sl distances T Q)
+    (H : Holds ctx sl T Q r a from) where
   abbrev s₀ : State
-  s₀ = stateAt T Q flagged r
+  s₀ = stateAt T Q (ctx .flagged) r
 
   abbrev ran : Ran T Q r s₀
-  ran = state-ran T Q (F .door) flagged r
+  ran = state-ran T Q (F .door) (ctx .flagged) r
 
-  pub stops-are : stops T ≡ lay .stops
+  pub stops-are : stops T ≡ ctx .lay .stops
   stops-are = ap (λ (z : Timetable). z .stops) (H .rides .nets .agree .timetable) ∙ B .laid .netted .stops
 
-  pub trips-are : trips T ≡ n .timetable .trips
+  pub trips-are : trips T ≡ ctx .counts .timetable .trips
   trips-are = ap (λ (z : Timetable). z .trips) (H .rides .nets .agree .timetable)
 
   module _ (early : r < 12) where
@@ -84,11 +83,11 @@ module _ {n : QueryCounts} {t rows stopRows built bytes area : List ℕ} {distan
     pub stamp-right : (stamp : ℕ) → stamp ≡ suc (suc r) → Stamp stamp
     stamp-right stamp e = record { low = omega (arith, e); high = omega (arith, e, early) }
 
-    pub opening : (stamp before : ℕ) → stamp ≡ suc (suc r) → changeBefore Q r ≡ before → Opening (n .timetable) lay stamp before a from
+    pub opening : (stamp before : ℕ) → stamp ≡ suc (suc r) → changeBefore Q r ≡ before → Opening (ctx .counts .timetable) (ctx .lay) stamp before a from
     opening stamp before e ch =
         let ok = turned-sized (B .sized) .sections in
-        let here : (i : ℕ) → i < a .head .count → List·Memᴰ (getD (a .work) (lay .other + i) 0) (s₀ .arrivals .reached) = λ i h. stop-in (turned lay) a from (H .view) i ok (H .few) h in
-        let inside : (i : ℕ) → i < a .head .count → getD (a .work) (lay .other + i) 0 < lay .stops = λ i h. omega (arith, sound .reached _ (here i h), stops-are) in
+        let here : (i : ℕ) → i < a .head .count → List·Memᴰ (getD (a .work) (ctx .lay .other + i) 0) (s₀ .arrivals .reached) = λ i h. stop-in (turned (ctx .lay)) a from (H .view) i ok (H .few) h in
+        let inside : (i : ℕ) → i < a .head .count → getD (a .work) (ctx .lay .other + i) 0 < ctx .lay .stops = λ i h. omega (arith, sound .reached _ (here i h), stops-are) in
         record {
           ready = record {
             sized = B .sized;
@@ -97,61 +96,57 @@ module _ {n : QueryCounts} {t rows stopRows built bytes area : List ℕ} {distan
             round = stamp-right stamp e;
             written = B .written;
           };
-          chains = subst (λ (z : ℕ). Chains lay z (a .work)) (sym e) (chains-next lay (suc r) (a .work) (H .chains));
+          chains = subst (λ (z : ℕ). Chains (ctx .lay) z (a .work)) (sym e) (chains-next (ctx .lay) (suc r) (a .work) (H .chains));
           waiting = record {
             few = H .few;
             inside = inside;
-            early = λ i h. omega (arith, run-early T Q (F .door) (ran .arrivals) _ (here i h), time-at (turned lay) a from (H .view) (getD (a .work) (lay .other + i) 0) (inside i h));
+            early = λ i h. omega (arith, run-early T Q (F .door) (ran .arrivals) _ (here i h), time-at (turned (ctx .lay)) a from (H .view) (getD (a .work) (ctx .lay .other + i) 0) (inside i h));
           };
           segments = record {
             room = H .room;
-            trip = λ k h. omega (arith, sound .segments (segmentAt from k) (segment-in (turned lay) a from (H .view) k h) .trip, trips-are);
-            shift = λ k h. sound .segments (segmentAt from k) (segment-in (turned lay) a from (H .view) k h) .shifts;
+            trip = λ k h. omega (arith, sound .segments (segmentAt from k) (segment-in (turned (ctx .lay)) a from (H .view) k h) .trip, trips-are);
+            shift = λ k h. sound .segments (segmentAt from k) (segment-in (turned (ctx .lay)) a from (H .view) k h) .shifts;
           };
           small = omega (arith, ch, change-small Q r (F .door .change-small));
         }
 
-  pub before-ride : (stamp : ℕ) → stamp ≡ suc (suc r) → Before lay stamp T Q a from s₀
+  pub before-ride : (stamp : ℕ) → stamp ≡ suc (suc r) → Before (ctx .lay) stamp T Q a from s₀
   before-ride stamp e =
       record {
         arrivals = H .view;
-        boardings = subst (λ (z : ℕ). Books lay z T Q (a .work) (roundStart T Q s₀ .boardings)) (sym e) (books-next lay (suc r) T Q (a .work) s₀ (H .chains) (H .books));
+        boardings = subst (λ (z : ℕ). Books (ctx .lay) z T Q (a .work) (roundStart T Q s₀ .boardings)) (sym e) (books-next (ctx .lay) (suc r) T Q (a .work) s₀ (H .chains) (H .books));
       }
 
   -- BEFORE THE WALK PHASE
   module _ {stamp before : ℕ} {b : Memory} {q q′ : List ℕ} (e : stamp ≡ suc (suc r)) (ch : changeBefore Q r ≡ before)
-      (p : RidePhase lay flagged stamp before (Riding n t rows stopRows built bytes area net lay (a .work)) a b from q q′) (early : r < 12) where
-    pub rode-laid : Laid n t rows stopRows built bytes area net lay (b .work)
+      (p : RidePhase (ctx .lay) (ctx .flagged) stamp before (Rides ctx sl (a .work)) a b from q q′) (early : r < 12) where
+    pub rode-laid : Laid ctx sl (b .work)
     rode-laid = laid-kept (B .laid) (p .kept)
 
-    pub rode-rides : Riding n t rows stopRows built bytes area net lay (b .work) T Q
+    pub rode-rides : Rides ctx sl (b .work) T Q
     rode-rides = rides-kept (B .laid) (p .kept) (H .rides)
 
-    pub seen : b .head .full ≡ false → Seen lay stamp T Q b q′ (ridePhase T Q flagged r s₀)
+    pub seen : b .head .full ≡ false → Seen (ctx .lay) stamp T Q b q′ (ridePhase T Q (ctx .flagged) r s₀)
     seen f = p .view f T Q (H .rides) r e ch s₀ (before-ride stamp e)
 
-    pub walkers : b .head .full ≡ false → StopsListed (turned lay) (b .work) (b .head .count)
+    pub walkers : b .head .full ≡ false → StopsListed (turned (ctx .lay)) (b .work) (b .head .count)
     walkers f =
-        let few : b .head .count ≤ lay .stops = counted-stops lay (b .work) (p .ready .sized .sections) stamp (b .head .count) (p .ready .counted) in
-        let A = ridePhase T Q flagged r s₀ .arrivals in
-        let S = rode T Q (F .door) flagged r s₀ (ran .queue) in
-        let here : (i : ℕ) → i < b .head .count → List·Memᴰ (getD (b .work) (lay .list + i) 0) (A .reached) =
-        λ i h. stop-in lay b q′ (seen f .arrivals) i (p .ready .sized .sections) (omega (arith, few)) h in
-        let inside : (i : ℕ) → i < b .head .count → getD (b .work) (lay .list + i) 0 < lay .stops =
+        let few : b .head .count ≤ ctx .lay .stops = counted-stops (ctx .lay) (b .work) (p .ready .sized .sections) stamp (b .head .count) (p .ready .counted) in
+        let A = ridePhase T Q (ctx .flagged) r s₀ .arrivals in
+        let S = rode T Q (F .door) (ctx .flagged) r s₀ (ran .queue) in
+        let here : (i : ℕ) → i < b .head .count → List·Memᴰ (getD (b .work) (ctx .lay .list + i) 0) (A .reached) =
+        λ i h. stop-in (ctx .lay) b q′ (seen f .arrivals) i (p .ready .sized .sections) (omega (arith, few)) h in
+        let inside : (i : ℕ) → i < b .head .count → getD (b .work) (ctx .lay .list + i) 0 < ctx .lay .stops =
         λ i h. omega (arith, ride-sound T Q (F .door) (ran .arrivals) (omega arith) S .reached _ (here i h), stops-are) in
         record {
           few = omega (arith, few);
           inside = inside;
-          early = λ i h. omega (arith, reached-early T Q (F .door) (s₀ .arrivals) S _ (here i h), time-at lay b q′ (seen f .arrivals) (getD (b .work) (lay .list + i) 0) (inside i h));
+          early = λ i h. omega (arith, reached-early T Q (F .door) (s₀ .arrivals) S _ (here i h), time-at (ctx .lay) b q′ (seen f .arrivals) (getD (b .work) (ctx .lay .list + i) 0) (inside i h));
         }
 
--- how the walks of a round are ruled
-abbrev pub rulesOf : QueryCounts → Net → Bool → Rules
-rulesOf n net flagged = record { counts = n .timetable; patterns = net .patterns; targets = net .target; flagged = flagged; wheelchair = net .terms .wheelchair }
-
-module _ {n : QueryCounts} {t rows stopRows built bytes area : List ℕ} {distances : List Float} {net : Net} {lay : Lay} {change : ℕ} {w : List ℕ} {T : Tables} {Q : Query} (flagged : Bool)
-    (L : Laid n t rows stopRows built bytes area net lay w) (F : Fed n t distances change T Q) where
-  pub walk-ground : WalkGround lay (rulesOf n net flagged) t (length distances) (length bytes)
+module _ {ctx : Context} {sl : Slices} {distances : List Float} {w : List ℕ} {T : Tables} {Q : Query}
+    (L : Laid ctx sl w) (F : Fed ctx sl distances T Q) where
+  pub walk-ground : WalkGround (ctx .lay) ctx (sl .tables) (length distances) (length (sl .patterns))
   walk-ground =
       record {
         sane = L .netted .ground .sane;
@@ -162,7 +157,7 @@ module _ {n : QueryCounts} {t rows stopRows built bytes area : List ℕ} {distan
         bytes = L .netted .patterns .long;
       }
 
-  pub walk-agree : Riding n t rows stopRows built bytes area net lay w T Q → WalksAgree lay (rulesOf n net flagged) t distances bytes w T Q
+  pub walk-agree : Rides ctx sl w T Q → WalksAgree (ctx .lay) ctx (sl .tables) distances (sl .patterns) w T Q
   walk-agree g =
       record {
         timetable = g .nets .agree .timetable;

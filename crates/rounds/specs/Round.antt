@@ -11,14 +11,13 @@ use Rattle.tables.specs.Sane.{OrderOk}
 use Rattle.model.specs.Tables.{Tables, Query}
 use Rattle.model.specs.Door.{Door}
 use Rattle.model.specs.Search.{State, ridePhase, walkPhase, begin, rounds, final, overflows}
-use Rattle.query_types.specs.declared.Lay.{Lay}
 use Rattle.query_types.specs.declared.Head.{Head}
 use Rattle.search_state.specs.Places.{Sized, Walks, turned}
 use Rattle.search_state.specs.View.{Memory, arrivalsOf, Written}
 use Rattle.line_pruning.specs.Books.{Chains, Books}
-use Rattle.query_types.specs.declared.QueryCounts.{QueryCounts}
-use Rattle.query_types.specs.declared.Net.{Net}
 use Rattle.ride_step.specs.Laid.{Rides, Laid}
+use Rattle.query_types.specs.Slices.{Slices}
+use Rattle.query_types.specs.declared.Context.{Context}
 
 -- the model's state before round r, where no round before it was idle
 unfoldable pub stateAt : Tables → Query → Bool → ℕ → State
@@ -37,57 +36,57 @@ abbrev pub filled : Bool → List ℕ → List ℕ → List ℕ
 filled even a b = cond even b a
 
 -- tables and a query that the door admits, with these walk edges and this change time
-pub record Fed (n : QueryCounts) (t : List ℕ) (distances : List Float) (change : ℕ) (T : Tables) (Q : Query) : Type 0 where
+pub record Fed (ctx : Context) (sl : Slices) (distances : List Float) (T : Tables) (Q : Query) : Type 0 where
   pub door : Door T Q
-  pub order : OrderOk t (n .timetable)
-  pub long : n .timetable .edges ≤ length distances
-  pub distance : (e : ℕ) → e < n .timetable .edges → T .distance e ≡ getD distances e nan
-  pub changes : Q .change ≡ change
+  pub order : OrderOk (sl .tables) (ctx .counts .timetable)
+  pub long : ctx .counts .timetable .edges ≤ length distances
+  pub distance : (e : ℕ) → e < ctx .counts .timetable .edges → T .distance e ≡ getD distances e nan
+  pub changes : Q .change ≡ (ctx .change)
 
 -- what holds of memory between the rounds, whether or not all segments fitted
-pub record Between (n : QueryCounts) (t rows stopRows built bytes area : List ℕ) (net : Net) (lay : Lay) (a : Memory) : Type 0 where
-  pub laid : Laid n t rows stopRows built bytes area net lay (a .work)
-  pub sized : Sized lay (length (a .work)) (length (a .labels)) (length (a .distances))
-  pub walks : Walks lay (a .work)
-  pub written : Written (lay .stops * 13) (a .labels) (a .distances)
+pub record Between (ctx : Context) (sl : Slices) (a : Memory) : Type 0 where
+  pub laid : Laid ctx sl (a .work)
+  pub sized : Sized (ctx .lay) (length (a .work)) (length (a .labels)) (length (a .distances))
+  pub walks : Walks (ctx .lay) (a .work)
+  pub written : Written (ctx .lay .stops * 13) (a .labels) (a .distances)
 
 -- BEFORE ROUND r memory holds the model's state: its stops in `lay .other`, its segments in q; all segments of the rounds before fitted
-pub record Holds (n : QueryCounts) (t rows stopRows built bytes area : List ℕ) (net : Net) (lay : Lay) (flagged : Bool) (T : Tables) (Q : Query) (r : ℕ) (a : Memory) (q : List ℕ) : Type 0 where
-  pub rides : Rides n t rows stopRows built bytes area net lay (a .work) T Q
-  pub view : stateAt T Q flagged r .arrivals ≡ arrivalsOf (turned lay) a q
-  pub books : Books lay (suc r) T Q (a .work) (stateAt T Q flagged r .boardings)
-  pub chains : Chains lay (suc r) (a .work)
-  pub few : a .head .count ≤ lay .stops + 64
+pub record Holds (ctx : Context) (sl : Slices) (T : Tables) (Q : Query) (r : ℕ) (a : Memory) (q : List ℕ) : Type 0 where
+  pub rides : Rides ctx sl (a .work) T Q
+  pub view : stateAt T Q (ctx .flagged) r .arrivals ≡ arrivalsOf (turned (ctx .lay)) a q
+  pub books : Books (ctx .lay) (suc r) T Q (a .work) (stateAt T Q (ctx .flagged) r .boardings)
+  pub chains : Chains (ctx .lay) (suc r) (a .work)
+  pub few : a .head .count ≤ ctx .lay .stops + 64
   pub room : a .head .queued ≤ length q / 4
-  pub fits : overflows (length q / 4) (stateAt T Q flagged r .boardings .queued) ≡ false
+  pub fits : overflows (length q / 4) (stateAt T Q (ctx .flagged) r .boardings .queued) ≡ false
 
 -- memory holds that state, or question 8 is answered no by then
-pub record Reached (n : QueryCounts) (t rows stopRows built bytes area : List ℕ) (net : Net) (lay : Lay) (flagged : Bool) (T : Tables) (Q : Query) (r : ℕ) (a : Memory) (q : List ℕ) : Type 0 where
-  pub on : a .head .full ≡ false → Holds n t rows stopRows built bytes area net lay flagged T Q r a q
-  pub over : a .head .full ≡ true → overflows (length q / 4) (stateAt T Q flagged r .boardings .queued) ≡ true
+pub record Reached (ctx : Context) (sl : Slices) (T : Tables) (Q : Query) (r : ℕ) (a : Memory) (q : List ℕ) : Type 0 where
+  pub on : a .head .full ≡ false → Holds ctx sl T Q r a q
+  pub over : a .head .full ≡ true → overflows (length q / 4) (stateAt T Q (ctx .flagged) r .boardings .queued) ≡ true
 
 -- some tables and query are so before round r, which has room for so many numbers
-pub record BeforeRound (n : QueryCounts) (t rows stopRows built bytes area : List ℕ) (distances : List Float) (net : Net) (lay : Lay) (flagged : Bool) (change r : ℕ) (a : Memory) (q : List ℕ) (room : ℕ) : Type 0 where
-  pub between : Between n t rows stopRows built bytes area net lay a
+pub record BeforeRound (ctx : Context) (sl : Slices) (distances : List Float) (r : ℕ) (a : Memory) (q : List ℕ) (room : ℕ) : Type 0 where
+  pub between : Between ctx sl a
   pub T : Tables
   pub Q : Query
-  pub fed : Fed n t distances change T Q
-  pub holds : Holds n t rows stopRows built bytes area net lay flagged T Q r a q
+  pub fed : Fed ctx sl distances T Q
+  pub holds : Holds ctx sl T Q r a q
   pub early : r < 12
   pub halves : length q ≡ room
 
 -- THE CONTRACT of a round, which reads `from` and fills q
-pub record Round (n : QueryCounts) (t rows stopRows built bytes area : List ℕ) (distances : List Float) (net : Net) (lay : Lay) (flagged : Bool) (change r : ℕ) (a b : Memory) (from q q′ : List ℕ) : Type 0 where
-  pub between : Between n t rows stopRows built bytes area net lay b
-  pub view : (T : Tables) (Q : Query) → Fed n t distances change T Q → Holds n t rows stopRows built bytes area net lay flagged T Q r a from
-      → Reached n t rows stopRows built bytes area net lay flagged T Q (suc r) b q′
+pub record Round (ctx : Context) (sl : Slices) (distances : List Float) (r : ℕ) (a b : Memory) (from q q′ : List ℕ) : Type 0 where
+  pub between : Between ctx sl b
+  pub view : (T : Tables) (Q : Query) → Fed ctx sl distances T Q → Holds ctx sl T Q r a from
+      → Reached ctx sl T Q (suc r) b q′
   pub size : length q′ ≡ length q
 
 -- while the rounds run: before round r, as many rounds to come as the limit leaves; both halves of the queue have `size` numbers
-pub record Running (n : QueryCounts) (t rows stopRows built bytes area : List ℕ) (net : Net) (lay : Lay) (flagged : Bool) (T : Tables) (Q : Query) (limit r : ℕ) (even : Bool) (size : ℕ) (a : Memory) (qa qb : List ℕ) : Type 0 where
-  pub between : Between n t rows stopRows built bytes area net lay a
-  pub reached : Reached n t rows stopRows built bytes area net lay flagged T Q r a (read even qa qb)
-  pub onward : (k : ℕ) → r + k ≡ limit → rounds T Q flagged k r (stateAt T Q flagged r) ≡ final T Q flagged
+pub record Running (ctx : Context) (sl : Slices) (T : Tables) (Q : Query) (limit r : ℕ) (even : Bool) (size : ℕ) (a : Memory) (qa qb : List ℕ) : Type 0 where
+  pub between : Between ctx sl a
+  pub reached : Reached ctx sl T Q r a (read even qa qb)
+  pub onward : (k : ℕ) → r + k ≡ limit → rounds T Q (ctx .flagged) k r (stateAt T Q (ctx .flagged) r) ≡ final T Q (ctx .flagged)
   pub few : r ≤ limit
   pub first : length qa ≡ size
   pub second : length qb ≡ size

@@ -11,17 +11,16 @@ use Rattle.search_state.specs.View.{Memory, labelsOf, Written}
 use Rattle.query_types.specs.declared.Lengths.{Lengths}
 use Rattle.query_input.specs.Lent.{Lent, tablesOf, queryOf}
 use Rattle.query_input.specs.Sane.{Admitted}
-use Rattle.query_types.specs.declared.Net.{Net}
-use Rattle.query_types.specs.Layout.{layOf}
-use Rattle.search_begin.specs.Begin.{netOf, Begun}
+use Rattle.search_begin.specs.Begin.{Begun}
+use Rattle.query_types.specs.declared.Context.{Context}
 
 -- what the rounds begin from: what is lent is admitted, and memory holds `begin`; both queue halves are as long
-pub record Started (x : Lent) (net : Net) (lay : Lay) (a : Memory) (qa qb : ℕ) : Type 0 where
+pub record Started (x : Lent) (ctx : Context) (a : Memory) (qa qb : ℕ) : Type 0 where
   pub l : Lengths
   pub admitted : Admitted x l
-  pub net-is : net ≡ netOf x
-  pub lay-is : lay ≡ layOf (x .n)
-  pub begun : Begun x net lay a
+  pub counts-are : ctx .counts ≡ x .n
+  pub change-is : ctx .change ≡ queryOf x .change
+  pub begun : Begun x ctx a
   pub halves : qa ≡ qb
 
 -- AFTER THE ROUNDS: `full` says question 8 of all rounds' queues; where they fit, labels and earliest arrivals are the model's

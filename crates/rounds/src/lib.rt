@@ -13,12 +13,11 @@ ghost use mathlib.Core.Bool.{_||_};
 ghost use Prim.Native.Nat.{_/_};
 ghost use Rattle.query_input.specs.Lent.{lent};
 ghost use Rattle.rounds.specs.Rounds.{Started, Ended};
+ghost use Rattle.query_types.specs.Slices.{slices};
+use query_types::Context;
 use query_types::Head;
-use query_types::Lay;
-use query_types::Net;
 use query_types::Phase;
-use query_types::QueryCounts;
-use query_types::Rules;
+use query_types::Turn;
 
 // The change time before a boarding in round r: none in the first.
 fn change_before(r: u32, change: u32) -> u32
@@ -29,7 +28,8 @@ fn change_before(r: u32, change: u32) -> u32
 
 // ONE ROUND: the segments in `from` are ridden, the stops of lay.other boarded at; then walks. Segments are queued in `to`.
 fn round(
-    n: QueryCounts,
+    ctx: Context,
+    r: u32,
     t: &[u32],
     rows: &[u32],
     stop_rows: &[u32],
@@ -37,11 +37,6 @@ fn round(
     bytes: &[u8],
     area: &[u32],
     distances: &[f64],
-    net: Net,
-    flagged: bool,
-    change: u32,
-    r: u32,
-    lay: Lay,
     from: &[u32],
     work: &mut [u32],
     labels: &mut [u32],
@@ -49,18 +44,15 @@ fn round(
     to: &mut [u32],
     h: Head,
 ) -> Head
-    requires { ⌜ BeforeRound n (now t) (now rows) (now «stop_rows») (now built) (now bytes) (now area) (now distances) net lay flagged change r (memory (now work) (now labels) (now metres) h) (now from) (length (now to)) ⌝ }
-    ensures { λ x. ⌜ Round n (now (t .entry)) (now (rows .entry)) (now («stop_rows» .entry)) (now (built .entry)) (now (bytes .entry)) (now (area .entry)) (now (distances .entry)) net lay flagged change r (memory (now (work .entry)) (now (labels .entry)) (now (metres .entry)) h) (memory (now (work .exit)) (now (labels .exit)) (now (metres .exit)) x) (now (from .entry)) (now (to .entry)) (now (to .exit)) ⌝ }
+    requires { ⌜ BeforeRound ctx (slices (now t) (now rows) (now «stop_rows») (now built) (now bytes) (now area)) (now distances) r (memory (now work) (now labels) (now metres) h) (now from) (length (now to)) ⌝ }
+    ensures { λ x. ⌜ Round ctx (slices (now (t .entry)) (now (rows .entry)) (now («stop_rows» .entry)) (now (built .entry)) (now (bytes .entry)) (now (area .entry))) (now (distances .entry)) r (memory (now (work .entry)) (now (labels .entry)) (now (metres .entry)) h) (memory (now (work .exit)) (now (labels .exit)) (now (metres .exit)) x) (now (from .entry)) (now (to .entry)) (now (to .exit)) ⌝ }
 {
     let stamp = r + 2;
-    let before = change_before(r, change);
+    let change = change_before(r, ctx.change);
     let p = Phase {
-        counts: n,
-        net,
-        lay,
-        flagged,
+        context: ctx,
         stamp,
-        change: before,
+        change,
     };
     let g = ride_phase::ride_phase(
         t,
@@ -80,33 +72,13 @@ fn round(
     if g.full {
         return g;
     }
-    let counts = n.timetable;
-    let targets = net.target;
-    let terms = net.terms;
-    let rules = Rules {
-        counts,
-        patterns: net.patterns,
-        targets,
-        flagged,
-        wheelchair: terms.wheelchair,
-    };
-    walk_phase::walk_phase(
-        lay,
-        rules,
-        stamp,
-        t,
-        distances,
-        bytes,
-        work,
-        labels,
-        metres,
-        g,
-    )
+    walk_phase::walk_phase(ctx, stamp, t, distances, bytes, work, labels, metres, g)
 }
 
 // The same with the halves of the queue in turn: an even round reads the first and fills the second.
 fn turn(
-    n: QueryCounts,
+    ctx: Context,
+    at: Turn,
     t: &[u32],
     rows: &[u32],
     stop_rows: &[u32],
@@ -114,12 +86,6 @@ fn turn(
     bytes: &[u8],
     area: &[u32],
     distances: &[f64],
-    net: Net,
-    flagged: bool,
-    change: u32,
-    r: u32,
-    even: bool,
-    lay: Lay,
     work: &mut [u32],
     labels: &mut [u32],
     metres: &mut [f64],
@@ -127,12 +93,13 @@ fn turn(
     queue_b: &mut [u32],
     h: Head,
 ) -> Head
-    requires { ⌜ BeforeRound n (now t) (now rows) (now «stop_rows») (now built) (now bytes) (now area) (now distances) net lay flagged change r (memory (now work) (now labels) (now metres) h) (read even (now «queue_a») (now «queue_b»)) (length (filled even (now «queue_a») (now «queue_b»))) ⌝ }
-    ensures { λ x. ⌜ Round n (now (t .entry)) (now (rows .entry)) (now («stop_rows» .entry)) (now (built .entry)) (now (bytes .entry)) (now (area .entry)) (now (distances .entry)) net lay flagged change r (memory (now (work .entry)) (now (labels .entry)) (now (metres .entry)) h) (memory (now (work .exit)) (now (labels .exit)) (now (metres .exit)) x) (read even (now («queue_a» .entry)) (now («queue_b» .entry))) (filled even (now («queue_a» .entry)) (now («queue_b» .entry))) (filled even (now («queue_a» .exit)) (now («queue_b» .exit))) ⌝ }
+    requires { ⌜ BeforeRound ctx (slices (now t) (now rows) (now «stop_rows») (now built) (now bytes) (now area)) (now distances) (at .round) (memory (now work) (now labels) (now metres) h) (read (at .even) (now «queue_a») (now «queue_b»)) (length (filled (at .even) (now «queue_a») (now «queue_b»))) ⌝ }
+    ensures { λ x. ⌜ Round ctx (slices (now (t .entry)) (now (rows .entry)) (now («stop_rows» .entry)) (now (built .entry)) (now (bytes .entry)) (now (area .entry))) (now (distances .entry)) (at .round) (memory (now (work .entry)) (now (labels .entry)) (now (metres .entry)) h) (memory (now (work .exit)) (now (labels .exit)) (now (metres .exit)) x) (read (at .even) (now («queue_a» .entry)) (now («queue_b» .entry))) (filled (at .even) (now («queue_a» .entry)) (now («queue_b» .entry))) (filled (at .even) (now («queue_a» .exit)) (now («queue_b» .exit))) ⌝ }
 {
-    if even {
+    if at.even {
         return round(
-            n,
+            ctx,
+            at.round,
             t,
             rows,
             stop_rows,
@@ -140,11 +107,6 @@ fn turn(
             bytes,
             area,
             distances,
-            net,
-            flagged,
-            change,
-            r,
-            lay,
             queue_a,
             work,
             labels,
@@ -154,7 +116,8 @@ fn turn(
         );
     }
     round(
-        n,
+        ctx,
+        at.round,
         t,
         rows,
         stop_rows,
@@ -162,11 +125,6 @@ fn turn(
         bytes,
         area,
         distances,
-        net,
-        flagged,
-        change,
-        r,
-        lay,
         queue_b,
         work,
         labels,
@@ -201,16 +159,13 @@ fn ends(flagged: bool, h: Head) -> bool
 
 // THE ROUNDS of a query.
 pub fn rounds(
-    n: QueryCounts,
+    ctx: Context,
     t: &[u32],
     built: &[u32],
     transfers: &[u32],
     patterns: &[u8],
     distances: &[f64],
     q: &[u32],
-    net: Net,
-    flagged: bool,
-    lay: Lay,
     work: &mut [u32],
     labels: &mut [u32],
     metres: &mut [f64],
@@ -218,22 +173,23 @@ pub fn rounds(
     queue_b: &mut [u32],
     h: Head,
 ) -> Head
-    requires { ⌜ Started (lent n (now t) (now built) (now transfers) (now patterns) (now distances) (now q)) net lay (memory (now work) (now labels) (now metres) h) (length (now «queue_a»)) (length (now «queue_b»)) ⌝ }
-    ensures { λ x. ⌜ Ended (lent n (now (t .entry)) (now (built .entry)) (now (transfers .entry)) (now (patterns .entry)) (now (distances .entry)) (now (q .entry))) flagged (length (now («queue_a» .entry)) / 4) lay (memory (now (work .exit)) (now (labels .exit)) (now (metres .exit)) x) ⌝ }
+    requires { ⌜ Started (lent (ctx .counts) (now t) (now built) (now transfers) (now patterns) (now distances) (now q)) ctx (memory (now work) (now labels) (now metres) h) (length (now «queue_a»)) (length (now «queue_b»)) ⌝ }
+    ensures { λ x. ⌜ Ended (lent (ctx .counts) (now (t .entry)) (now (built .entry)) (now (transfers .entry)) (now (patterns .entry)) (now (distances .entry)) (now (q .entry))) (ctx .flagged) (length (now («queue_a» .entry)) / 4) (ctx .lay) (memory (now (work .exit)) (now (labels .exit)) (now (metres .exit)) x) ⌝ }
 {
-    let rows = query_input::delay_rows(q, n);
-    let stop_rows = query_input::stop_rows(q, n);
-    let change = q[1];
+    let rows = query_input::delay_rows(q, ctx.counts);
+    let stop_rows = query_input::stop_rows(q, ctx.counts);
     let limit = walk_time::tbr_max_rounds(q[2], q[3]);
     let mut g = h;
     let mut even = true;
     let mut r: u32 = 0;
     while r < limit {
-        if ends(flagged, g) {
+        if ends(ctx.flagged, g) {
             return g;
         }
+        let at = Turn { round: r, even };
         g = turn(
-            n,
+            ctx,
+            at,
             t,
             rows,
             stop_rows,
@@ -241,12 +197,6 @@ pub fn rounds(
             patterns,
             transfers,
             distances,
-            net,
-            flagged,
-            change,
-            r,
-            even,
-            lay,
             work,
             labels,
             metres,

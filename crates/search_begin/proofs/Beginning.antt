@@ -1,6 +1,7 @@
 -- The state before the first round. Assumes nothing.
 use Prim.Native.Nat.{ℕ}
 use mathlib.Core.Path.{_≡_, refl, sym, ap, _∙_, subst}
+use mathlib.Core.Bool.{Bool}
 use mathlib.Core.List.{List, []}
 use native.Mathlib.Omega.{arith}
 use lib.ListN.{length}
@@ -21,7 +22,7 @@ use Rattle.query_types.specs.declared.Lengths.{Lengths}
 use Rattle.query_input.specs.Lent.{Lent, tablesOf, queryOf, lent}
 use Rattle.query_input.specs.Sane.{Admitted}
 use Rattle.query_types.specs.Layout.{layOf}
-use Rattle.search_begin.specs.Begin.{netOf, Lends, Askable, LaidOut, Begun}
+use Rattle.search_begin.specs.Begin.{netOf, Lends, Askable, LaidOut, Begun, contextOf}
 use Rattle.search_begin.specs.Laying.{Origins, Accessed}
 use Rattle.search_begin.proofs.Reading.{lends-is, admitted-as, askable-as, origins-of}
 use Rattle.search_begin.proofs.Laying.{held, zeros, rides, laid, laid-as}
@@ -67,13 +68,13 @@ module _ (x : Lent) (l : Lengths) (A : Admitted x l) (w w′ w″ ls ls″ : Lis
       g .view (tablesOf x) (queryOf x) (record { at = p .egress .at }) refl q
       ∙ ap (access (tablesOf x) (queryOf x) (queryOf x .origins)) (ap (λ (k : Head). arrivalsOf (turned lay) (memory w′ ls m k) q) (f .head) ∙ new-turned (tablesOf x) (queryOf x) lay w′ ls m q new)
 
-  pub begun : Begun x (netOf x) lay (memory w″ ls″ m″ h″)
-  begun =
+  pub begun : (flagged : Bool) → Begun x (contextOf x (netOf x) lay flagged) (memory w″ ls″ m″ h″)
+  begun flagged =
       let H = held x w w′ w″ (ok .sections .words) p (g .same) in
       let z = zeros x w w′ w″ p (g .same) (λ i u. f .zero i (omega (arith, u))) in
       record {
-        laid = laid x l A w″ H;
-        rides = rides x l A w″ H;
+        laid = laid x l A w″ H flagged;
+        rides = rides x l A w″ H flagged;
         view = λ q. sym (view-of q);
         books = books-zero lay (tablesOf x) (queryOf x) w″ (H .size) refl z;
         chains = chains-zero lay w″ z;
@@ -89,12 +90,12 @@ module _ (x : Lent) (l : Lengths) (A : Admitted x l) (w w′ w″ ls ls″ : Lis
 pub begins : (n : QueryCounts) (t built q : List ℕ) (distances : List Float) (lay lay′ : Lay) (w w′ w″ ls ls″ : List ℕ) (m m″ : List Float) (h h″ : Head) → lay′ ≡ turned lay → lay ≡ layOf n
     → Sized lay (length w) (length ls) (length m) → Fresh lay (memory w ls m h) → LaidOut (lent n t built [] [] [] q) lay w w′
     → Accessed n q distances lay′ (memory w′ ls m h) (memory w″ ls″ m″ h″)
-    → (x : Lent) (l : Lengths) → Admitted x l → Lends x n t built distances q → Begun x (netOf x) lay (memory w″ ls″ m″ h″)
-begins n t built q distances lay lay′ w w′ w″ ls ls″ m m″ h h″ d e ok f p g x l A s =
+    → (x : Lent) (l : Lengths) → Admitted x l → Lends x n t built distances q → (flagged : Bool) → Begun x (contextOf x (netOf x) lay flagged) (memory w″ ls″ m″ h″)
+begins n t built q distances lay lay′ w w′ w″ ls ls″ m m″ h h″ d e ok f p g x l A s flagged =
     let y : Lent = lent n t built (x .transfers) (x .patterns) distances q in
-    subst (λ (z : Lent). Begun z (netOf z) lay (memory w″ ls″ m″ h″)) (sym (lends-is s))
-    (subst (λ (k : Lay). Begun y (netOf y) k (memory w″ ls″ m″ h″)) (sym e)
+    subst (λ (z : Lent). Begun z (contextOf z (netOf z) lay flagged) (memory w″ ls″ m″ h″)) (sym (lends-is s))
+    (subst (λ (k : Lay). Begun y (contextOf y (netOf y) k flagged) (memory w″ ls″ m″ h″)) (sym e)
     (begun y l (admitted-as A s) w w′ w″ ls ls″ m m″ h h″ (subst (λ (k : Lay). Sized k (length w) (length ls) (length m)) e ok)
     (subst (λ (k : Lay). Fresh k (memory w ls m h)) e f)
     (laid-as y (layOf n) w w′ (subst (λ (k : Lay). LaidOut (lent n t built [] [] [] q) k w w′) e p))
-    (subst (λ (k : Lay). Accessed n q distances k (memory w′ ls m h) (memory w″ ls″ m″ h″)) (d ∙ ap turned e) g)))
+    (subst (λ (k : Lay). Accessed n q distances k (memory w′ ls m h) (memory w″ ls″ m″ h″)) (d ∙ ap turned e) g) flagged))

@@ -28,7 +28,7 @@ use Rattle.query_input.proofs.Parts.{part-at, entries-size, marks-room, runs-ro
 use Rattle.query_input.proofs.Laws.{events-below, door-of}
 use Rattle.trip_scan.specs.Scan.{Nets, Netted, RunIn, eventAt}
 use Rattle.ride_step.specs.Laid.{Rides, Laid}
-use Rattle.search_begin.specs.Begin.{netOf, LaidOut}
+use Rattle.search_begin.specs.Begin.{netOf, LaidOut, contextOf, slicesOf}
 use Rattle.search_begin.specs.Laying.{Put}
 use Rattle.search_begin.proofs.Reading.{sane-of, egress-rows}
 
@@ -161,8 +161,8 @@ module _ (x : Lent) (l : Lengths) (A : Admitted x l) (w : List ℕ) (H : Held x 
         small = λ k h. A .ranged .transfer (transferRunAt (x .built) (x .n) e .first + k) (omega (arith, p, h));
       }
 
-  nets : Nets (x .t) (x .n .timetable) (delayRows (x .q) (x .n)) (stopRows (x .q) (x .n)) (x .built) (x .patterns) (x .transfers) (netOf x) (layOf (x .n)) w (tablesOf x) (queryOf x)
-  nets =
+  nets : (flagged : Bool) → Nets (contextOf x (netOf x) (layOf (x .n)) flagged) (slicesOf x) w (tablesOf x) (queryOf x)
+  nets flagged =
       record {
         agree = record { timetable = refl; delays = refl };
         egress = H .egress;
@@ -173,8 +173,8 @@ module _ (x : Lent) (l : Lengths) (A : Admitted x l) (w : List ℕ) (H : Held x 
         transfers = λ i o u v. ap (λ (e : ℕ). transfersAt (x .transfers) (transferRunAt (x .built) (x .n) e)) (sym (event-is i o u));
       }
 
-  netted : Netted (x .t) (x .n .timetable) (delayRows (x .q) (x .n)) (stopRows (x .q) (x .n)) (x .built) (x .patterns) (x .transfers) (netOf x) (layOf (x .n)) w
-  netted =
+  netted : (flagged : Bool) → Netted (contextOf x (netOf x) (layOf (x .n)) flagged) (slicesOf x) w
+  netted flagged =
       record {
         ground = ground;
         stops = refl;
@@ -188,18 +188,18 @@ module _ (x : Lent) (l : Lengths) (A : Admitted x l) (w : List ℕ) (H : Held x 
         T = tablesOf x;
         Q = queryOf x;
         door = door-of x l A;
-        nets = nets;
+        nets = nets flagged;
       }
 
-  pub rides : Rides (x .n) (x .t) (delayRows (x .q) (x .n)) (stopRows (x .q) (x .n)) (x .built) (x .patterns) (x .transfers) (netOf x) (layOf (x .n)) w (tablesOf x) (queryOf x)
-  rides = record { nets = nets; departures = λ s u. refl; mark = λ s u. refl }
+  pub rides : (flagged : Bool) → Rides (contextOf x (netOf x) (layOf (x .n)) flagged) (slicesOf x) w (tablesOf x) (queryOf x)
+  rides flagged = record { nets = nets flagged; departures = λ s u. refl; mark = λ s u. refl }
 
-  pub laid : Laid (x .n) (x .t) (delayRows (x .q) (x .n)) (stopRows (x .q) (x .n)) (x .built) (x .patterns) (x .transfers) (netOf x) (layOf (x .n)) w
+  pub laid : (flagged : Bool) → Laid (contextOf x (netOf x) (layOf (x .n)) flagged) (slicesOf x) w
   unfolding netted
-  laid =
+  laid flagged =
       record {
-        netted = netted;
-        rides = rides;
+        netted = netted flagged;
+        rides = rides flagged;
         limits = A .limits;
         long = let m = runs-room (A .sized) in omega (arith, m);
         listed = A .numbered .listed;

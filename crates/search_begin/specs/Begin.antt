@@ -2,7 +2,7 @@
 -- Inner: nobody has to believe this.
 use Prim.Native.Nat.{ℕ, _+_, _*_, _≤_, _<_}
 use mathlib.Core.Path.{_≡_}
-use mathlib.Core.Bool.{false}
+use mathlib.Core.Bool.{Bool, false}
 use mathlib.Core.List.{List}
 use lib.ListN.{length, getD}
 use lib.Ieee.{Float}
@@ -24,6 +24,8 @@ use Rattle.query_input.specs.Lent.{Lent, tablesOf, queryOf, lineRuns, lineEntri
 use Rattle.query_input.specs.Sane.{Admitted}
 use Rattle.query_types.specs.declared.Net.{Net}
 use Rattle.ride_step.specs.Laid.{Rides, Laid}
+use Rattle.query_types.specs.Slices.{Slices, slices}
+use Rattle.query_types.specs.declared.Context.{Context}
 
 -- what of a query boarding goes by
 abbrev pub termsOf : Tables → Query → Terms
@@ -40,6 +42,14 @@ netOf x =
       runs = transferRunsAt (x .n);
       events = eventsAt (layOf (x .n));
     }
+
+-- what a query computes once: from what is lent, with these tables for transfers and these places, arc flags in use or not
+abbrev pub contextOf : Lent → Net → Lay → Bool → Context
+contextOf x net lay flagged = record { counts = x .n; lay = lay; net = net; flagged = flagged; change = queryOf x .change }
+
+-- the slices that its rounds read
+abbrev pub slicesOf : Lent → Slices
+slicesOf x = slices (x .t) (delayRows (x .q) (x .n)) (stopRows (x .q) (x .n)) (x .built) (x .patterns) (x .transfers)
 
 -- what is lent: these counts, this timetable, what the building calls wrote, these distances, these numbers of the query
 pub record Lends (x : Lent) (n : QueryCounts) (t built : List ℕ) (distances : List Float) (q : List ℕ) : Type 0 where
@@ -68,15 +78,15 @@ pub record LaidOut (x : Lent) (lay : Lay) (w w′ : List ℕ) : Type 0 where
   pub above : (i : ℕ) → tripStampsAt lay ≤ i → getD w′ i 0 ≡ getD w i 0
 
 -- BEFORE THE FIRST ROUND memory holds the model's `begin`: the origins' stops in the other list, no segment, no boarding
-pub record Begun (x : Lent) (net : Net) (lay : Lay) (a : Memory) : Type 0 where
-  pub laid : Laid (x .n) (x .t) (delayRows (x .q) (x .n)) (stopRows (x .q) (x .n)) (x .built) (x .patterns) (x .transfers) net lay (a .work)
-  pub rides : Rides (x .n) (x .t) (delayRows (x .q) (x .n)) (stopRows (x .q) (x .n)) (x .built) (x .patterns) (x .transfers) net lay (a .work) (tablesOf x) (queryOf x)
-  pub view : (q : List ℕ) → begin (tablesOf x) (queryOf x) .arrivals ≡ arrivalsOf (turned lay) a q
-  pub books : Books lay 1 (tablesOf x) (queryOf x) (a .work) (newBoardings (tablesOf x) (queryOf x))
-  pub chains : Chains lay 1 (a .work)
-  pub sized : Sized lay (length (a .work)) (length (a .labels)) (length (a .distances))
-  pub walks : Walks lay (a .work)
-  pub few : a .head .count ≤ lay .stops + 64
+pub record Begun (x : Lent) (ctx : Context) (a : Memory) : Type 0 where
+  pub laid : Laid ctx (slicesOf x) (a .work)
+  pub rides : Rides ctx (slicesOf x) (a .work) (tablesOf x) (queryOf x)
+  pub view : (q : List ℕ) → begin (tablesOf x) (queryOf x) .arrivals ≡ arrivalsOf (turned (ctx .lay)) a q
+  pub books : Books (ctx .lay) 1 (tablesOf x) (queryOf x) (a .work) (newBoardings (tablesOf x) (queryOf x))
+  pub chains : Chains (ctx .lay) 1 (a .work)
+  pub sized : Sized (ctx .lay) (length (a .work)) (length (a .labels)) (length (a .distances))
+  pub walks : Walks (ctx .lay) (a .work)
+  pub few : a .head .count ≤ ctx .lay .stops + 64
   pub queued : a .head .queued ≡ 0
   pub full : a .head .full ≡ false
-  pub written : Written (lay .stops * 13) (a .labels) (a .distances)
+  pub written : Written (ctx .lay .stops * 13) (a .labels) (a .distances)

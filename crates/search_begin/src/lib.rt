@@ -6,7 +6,8 @@
 // proofs/Turns: from one phase to the next.
 // Assumes nothing.
 ghost use mathlib.Core.Path.{_≡_};
-ghost use Prim.Native.Nat.{_+_, _≤_, _<_, _*_};
+ghost use mathlib.Core.Bool.{Bool};
+ghost use Prim.Native.Nat.{_+_, _≤_, _<_};
 ghost use mathlib.Core.List.{[]};
 ghost use lib.ListN.{length, getD, set, replicate};
 ghost use Rattle.label.specs.Label.{noDistance};
@@ -23,7 +24,7 @@ ghost use Rattle.search_state.specs.Step.{Starting, StartStep};
 ghost use Rattle.query_types.specs.declared.Lengths.{Lengths};
 ghost use Rattle.query_input.specs.Lent.{Lent, lent, lineRuns, lineEntries, originAt};
 ghost use Rattle.query_input.specs.Sane.{Limits, Admitted};
-ghost use Rattle.search_begin.specs.Begin.{netOf, Lends, Askable, LaidOut, Begun};
+ghost use Rattle.search_begin.specs.Begin.{netOf, Lends, Askable, LaidOut, Begun, contextOf};
 ghost use Rattle.search_begin.specs.Laying.{LinesIn, Layable, Put, Origins, Accessed};
 use query_types::Head;
 use query_types::Lay;
@@ -267,7 +268,7 @@ pub fn begin(
     metres: &mut [f64],
 ) -> Head
     requires { ⌜ Askable n (now t) (now built) (now distances) (now q) ⌝ ∗ ⌜ lay ≡ layOf n ⌝ ∗ ⌜ Sized lay (length (now work)) (length (now labels)) (length (now metres)) ⌝ }
-    ensures { λ h. ⌜ ((x : Lent) (l : Lengths) → Admitted x l → Lends x n (now (t .entry)) (now (built .entry)) (now (distances .entry)) (now (q .entry)) → Begun x (netOf x) lay (memory (now (work .exit)) (now (labels .exit)) (now (metres .exit)) h)) ⌝ }
+    ensures { λ h. ⌜ ((x : Lent) (l : Lengths) → Admitted x l → Lends x n (now (t .entry)) (now (built .entry)) (now (distances .entry)) (now (q .entry)) → (flagged : Bool) → Begun x (contextOf x (netOf x) lay flagged) (memory (now (work .exit)) (now (labels .exit)) (now (metres .exit)) h)) ⌝ }
 {
     let h = reset(lay, work, labels, metres);
     set_up(n, t, built, q, lay, work);

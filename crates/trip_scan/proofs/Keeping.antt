@@ -4,7 +4,6 @@ use mathlib.Core.Path.{_≡_, sym, ap, ap₂, _∙_}
 use mathlib.Core.List.{List}
 use native.Mathlib.Omega.{arith}
 use lib.ListN.{length, getD}
-use Rattle.tables.specs.declared.Counts.{Counts}
 use Rattle.departures.specs.declared.StopRun.{StopRun}
 use Rattle.event_transfers.specs.Transfers.{transfersAt}
 use Rattle.model.specs.Tables.{Tables, Query}
@@ -15,6 +14,8 @@ use Rattle.search_state.proofs.Part.{drop-at}
 use Rattle.search_state.proofs.Steps.{egress-kept}
 use Rattle.query_types.specs.declared.Net.{Net}
 use Rattle.trip_scan.specs.Scan.{eventAt, eventRunAt, Nets, RunIn, PastArrivals, Netted}
+use Rattle.query_types.specs.Slices.{Slices}
+use Rattle.query_types.specs.declared.Context.{Context}
 
 module _ {lay : Lay} {w w′ : List ℕ} (s : Same lay w w′) where
   -- a number past the arrivals
@@ -26,53 +27,53 @@ module _ {lay : Lay} {w w′ : List ℕ} (s : Same lay w w′) where
   run-kept : (net : Net) (built : List ℕ) → PastArrivals lay net → (i o : ℕ) → eventRunAt net built w i o ≡ eventRunAt net built w′ i o
   run-kept net built p i o = ap (λ (k : ℕ). record { first = getD built (net .runs + (k + o) * 2) 0; length = getD built (net .runs + (k + o) * 2 + 1) 0 }) (sym (past-at (net .events) i (p .events)))
 
-  module _ {t : List ℕ} {c : Counts} {rows stopRows built bytes area : List ℕ} {net : Net} where
-    pub nets-kept : {T : Tables} {Q : Query} → PastArrivals lay net → Nets t c rows stopRows built bytes area net lay w T Q → Nets t c rows stopRows built bytes area net lay w′ T Q
-    nets-kept {T} {Q} p n =
-        record {
-          agree = n .agree;
-          egress = egress-kept s (n .egress);
-          asks = n .asks;
-          lines = record {
-            lines = n .lines .lines;
-            lineOf = n .lines .lineOf;
-            count = n .lines .count;
-            entry = n .lines .entry;
-            position = λ i h. n .lines .position i h ∙ sym (past-at (net .lined .positions) i (p .positions));
-            fifo = λ l h. n .lines .fifo l h ∙ sym (past-at (net .lined .fifo) l (p .fifo));
-          };
-          patterned = n .patterned;
-          target = n .target;
-          transfers = λ i o h k. n .transfers i o h k ∙ ap (transfersAt area) (run-kept net built p i o);
-        }
+module _ {ctx : Context} {sl : Slices} {w w′ : List ℕ} (s : Same (ctx .lay) w w′) where
+  pub nets-kept : {T : Tables} {Q : Query} → PastArrivals (ctx .lay) (ctx .net) → Nets ctx sl w T Q → Nets ctx sl w′ T Q
+  nets-kept {T} {Q} p n =
+      record {
+        agree = n .agree;
+        egress = egress-kept s (n .egress);
+        asks = n .asks;
+        lines = record {
+          lines = n .lines .lines;
+          lineOf = n .lines .lineOf;
+          count = n .lines .count;
+          entry = n .lines .entry;
+          position = λ i h. n .lines .position i h ∙ sym (past-at s (ctx .net .lined .positions) i (p .positions));
+          fifo = λ l h. n .lines .fifo l h ∙ sym (past-at s (ctx .net .lined .fifo) l (p .fifo));
+        };
+        patterned = n .patterned;
+        target = n .target;
+        transfers = λ i o h k. n .transfers i o h k ∙ ap (transfersAt (sl .transfers)) (run-kept s (ctx .net) (sl .built) p i o);
+      }
 
-    pub netted-kept : Netted t c rows stopRows built bytes area net lay w → Netted t c rows stopRows built bytes area net lay w′
-    netted-kept n =
-        let e = s .size in
-        let same-event : (i o : ℕ) → eventAt net w′ i o ≡ eventAt net w i o = λ i o. ap (λ (k : ℕ). k + o) (past-at (net .events) i (n .past .events)) in
-        record {
-          ground = n .ground;
-          stops = n .stops;
-          trips = n .trips;
-          held = record {
-            few = n .held .few;
-            near = n .held .near;
-            trips = n .held .trips;
-            runs = n .held .runs;
-            entries = n .held .entries;
-            positions = rw e (n .held .positions);
-            fifo = rw e (n .held .fifo);
-          };
-          patterns = n .patterns;
-          events = rw e (n .events);
-          words = λ i o h k. rw (same-event i o) (n .words i o h k);
-          run = λ i o h k. rw (same-event i o) (n .run i o h k);
-          past = n .past;
-          T = n .T;
-          Q = n .Q;
-          door = n .door;
-          nets = nets-kept (n .past) (n .nets);
-        }
+  pub netted-kept : Netted ctx sl w → Netted ctx sl w′
+  netted-kept n =
+      let e = s .size in
+      let same-event : (i o : ℕ) → eventAt (ctx .net) w′ i o ≡ eventAt (ctx .net) w i o = λ i o. ap (λ (k : ℕ). k + o) (past-at s (ctx .net .events) i (n .past .events)) in
+      record {
+        ground = n .ground;
+        stops = n .stops;
+        trips = n .trips;
+        held = record {
+          few = n .held .few;
+          near = n .held .near;
+          trips = n .held .trips;
+          runs = n .held .runs;
+          entries = n .held .entries;
+          positions = rw e (n .held .positions);
+          fifo = rw e (n .held .fifo);
+        };
+        patterns = n .patterns;
+        events = rw e (n .events);
+        words = λ i o h k. rw (same-event i o) (n .words i o h k);
+        run = λ i o h k. rw (same-event i o) (n .run i o h k);
+        past = n .past;
+        T = n .T;
+        Q = n .Q;
+        door = n .door;
+        nets = nets-kept (n .past) (n .nets);
+      }
 
 -- one row of a run
 pub run-one : {area : List ℕ} {first n : ℕ} → RunIn area first n → (j : ℕ) → j < n → RunIn area (first + j) 1

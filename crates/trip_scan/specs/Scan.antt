@@ -28,6 +28,8 @@ use Rattle.trip_boarding.specs.Reads.{Known, Ground, Agree, Asks}
 use Rattle.target_resolving.specs.Resolving.{LinesHeld, LinesOf}
 use Rattle.arc_flags.specs.Skipping.{Patterned, PatternsOk}
 use Rattle.query_types.specs.declared.Net.{Net}
+use Rattle.query_types.specs.Slices.{Slices}
+use Rattle.query_types.specs.declared.Context.{Context}
 
 -- a ride whose trip is in the table, with a small shift; its trip's delay row is adj
 pub record Riding (t : List ℕ) (c : Counts) (rows stopRows : List ℕ) (adj : Found) (lay : Lay) (ride : Ride) : Type 0 where
@@ -51,14 +53,14 @@ abbrev pub eventRunAt : Net → List ℕ → List ℕ → ℕ → ℕ → StopRu
 eventRunAt net built w i o = record { first = getD built (net .runs + eventAt net w i o * 2) 0; length = getD built (net .runs + eventAt net w i o * 2 + 1) 0 }
 
 -- tables and a query that hold what transfers read: also lines, patterns, target cells, the transfers of every event
-pub record Nets (t : List ℕ) (c : Counts) (rows stopRows built bytes area : List ℕ) (net : Net) (lay : Lay) (w : List ℕ) (T : Tables) (Q : Query) : Type 0 where
-  pub agree : Agree T Q t c rows stopRows
-  pub egress : EgressTable (Q .egress) lay w
-  pub asks : Asks Q (net .terms)
-  pub lines : LinesOf T c (net .lined) built w
-  pub patterned : Patterned T bytes (net .patterns)
-  pub target : net .target ≡ targetCells T Q
-  pub transfers : (i o : ℕ) → i < c .trips → o < countOf t c i → T .transfers i o ≡ transfersAt area (eventRunAt net built w i o)
+pub record Nets (ctx : Context) (sl : Slices) (w : List ℕ) (T : Tables) (Q : Query) : Type 0 where
+  pub agree : Agree T Q (sl .tables) (ctx .counts .timetable) (sl .delayRows) (sl .stopRows)
+  pub egress : EgressTable (Q .egress) (ctx .lay) w
+  pub asks : Asks Q (ctx .net .terms)
+  pub lines : LinesOf T (ctx .counts .timetable) (ctx .net .lined) (sl .built) w
+  pub patterned : Patterned T (sl .patterns) (ctx .net .patterns)
+  pub target : ctx .net .target ≡ targetCells T Q
+  pub transfers : (i o : ℕ) → i < ctx .counts .timetable .trips → o < countOf (sl .tables) (ctx .counts .timetable) i → T .transfers i o ≡ transfersAt (sl .transfers) (eventRunAt (ctx .net) (sl .built) w i o)
 
 -- a run of transfers lies in the area, and its times are in their range
 pub record RunIn (area : List ℕ) (first n : ℕ) : Type 0 where
@@ -73,20 +75,20 @@ pub record PastArrivals (lay : Lay) (net : Net) : Type 0 where
   pub events : restAt lay ≤ net .events
 
 -- the slices are as the door leaves them: some tables and a query that it admits are in them; every event has its run
-pub record Netted (t : List ℕ) (c : Counts) (rows stopRows built bytes area : List ℕ) (net : Net) (lay : Lay) (w : List ℕ) : Type 0 where
-  pub ground : Ground t c rows stopRows
-  pub stops : c .stops ≡ lay .stops
-  pub trips : c .trips ≡ lay .trips
-  pub held : LinesHeld c (net .lined) built w
-  pub patterns : PatternsOk bytes (net .patterns)
-  pub events : net .events + c .trips ≤ length w
-  pub words : (i o : ℕ) → i < c .trips → o < countOf t c i → net .runs + eventAt net w i o * 2 + 2 ≤ length built
-  pub run : (i o : ℕ) → i < c .trips → o < countOf t c i → RunIn area (eventRunAt net built w i o .first) (eventRunAt net built w i o .length)
-  pub past : PastArrivals lay net
+pub record Netted (ctx : Context) (sl : Slices) (w : List ℕ) : Type 0 where
+  pub ground : Ground (sl .tables) (ctx .counts .timetable) (sl .delayRows) (sl .stopRows)
+  pub stops : ctx .counts .timetable .stops ≡ ctx .lay .stops
+  pub trips : ctx .counts .timetable .trips ≡ ctx .lay .trips
+  pub held : LinesHeld (ctx .counts .timetable) (ctx .net .lined) (sl .built) w
+  pub patterns : PatternsOk (sl .patterns) (ctx .net .patterns)
+  pub events : ctx .net .events + ctx .counts .timetable .trips ≤ length w
+  pub words : (i o : ℕ) → i < ctx .counts .timetable .trips → o < countOf (sl .tables) (ctx .counts .timetable) i → ctx .net .runs + eventAt (ctx .net) w i o * 2 + 2 ≤ length (sl .built)
+  pub run : (i o : ℕ) → i < ctx .counts .timetable .trips → o < countOf (sl .tables) (ctx .counts .timetable) i → RunIn (sl .transfers) (eventRunAt (ctx .net) (sl .built) w i o .first) (eventRunAt (ctx .net) (sl .built) w i o .length)
+  pub past : PastArrivals (ctx .lay) (ctx .net)
   pub T : Tables
   pub Q : Query
   pub door : Door T Q
-  pub nets : Nets t c rows stopRows built bytes area net lay w T Q
+  pub nets : Nets ctx sl w T Q
 
 -- no segment was refused so far, and the queue, n numbers, has those that are in it
 pub record Open (h : Head) (n : ℕ) : Type 0 where

@@ -19,7 +19,9 @@ ghost use lib.ListN.{length};
 ghost use Rattle.tables.specs.Timetable.{timetable};
 ghost use Rattle.event_transfers.specs.Transfers.{transferAt, transfersAt};
 ghost use Rattle.search_state.specs.Places.{EgressTable};
+ghost use Rattle.query_types.specs.Slices.{slices};
 use delay_rows::Found;
+use departures::StopRun;
 use frequency::BoardedRun;
 use query_types::Head;
 use query_types::Scan;
@@ -79,22 +81,31 @@ fn alightings(
     distances: &mut [f64],
     h: Head,
 ) -> Head
-    requires { ⌜ Riding (now t) (s .counts) (now rows) (now «stop_rows») (s .adj) (s .lay) (s .ride) ⌝ ∗ ⌜ Ready (s .lay) (s .ride .stamp) (memory (now work) (now labels) (now distances) h) ⌝ }
-    ensures { λ x. ⌜ Step (s .lay) (s .ride .stamp) (Reads (now (t .entry)) (s .counts) (now (rows .entry)) (now («stop_rows» .entry)) (s .lay) (now (work .entry))) (λ T Q. alighted T Q (s .ride .stamp) (hitOf (s .adj)) (s .ride .shift) (s .ride .trip) (s .ride .stop) (s .ride .offset) (stopCount T (s .ride .trip) - p) p) (memory (now (work .entry)) (now (labels .entry)) (now (distances .entry)) h) (memory (now (work .exit)) (now (labels .exit)) (now (distances .exit)) x) ⌝ }
+    requires { ⌜ Riding (now t) (s .context .counts .timetable) (now rows) (now «stop_rows») (s .adj) (s .context .lay) (s .ride) ⌝ ∗ ⌜ Ready (s .context .lay) (s .ride .stamp) (memory (now work) (now labels) (now distances) h) ⌝ }
+    ensures { λ x. ⌜ Step (s .context .lay) (s .ride .stamp) (Reads (now (t .entry)) (s .context .counts .timetable) (now (rows .entry)) (now («stop_rows» .entry)) (s .context .lay) (now (work .entry))) (λ T Q. alighted T Q (s .ride .stamp) (hitOf (s .adj)) (s .ride .shift) (s .ride .trip) (s .ride .stop) (s .ride .offset) (stopCount T (s .ride .trip) - p) p) (memory (now (work .entry)) (now (labels .entry)) (now (distances .entry)) h) (memory (now (work .exit)) (now (labels .exit)) (now (distances .exit)) x) ⌝ }
 {
     let trip = s.ride.trip as usize;
     let adj = s.adj;
-    let n = tables::trip(t, s.counts, trip, 1);
+    let n = tables::trip(t, s.context.counts.timetable, trip, 1);
     let mut x = h;
     let mut o = p;
     while o < n {
-        if shut(t, s.counts, rows, stop_rows, adj, true, trip, o) {
+        if shut(
+            t,
+            s.context.counts.timetable,
+            rows,
+            stop_rows,
+            adj,
+            true,
+            trip,
+            o,
+        ) {
             o += 1;
             continue;
         }
         let v = trip_boarding::arrival_now(
             t,
-            s.counts,
+            s.context.counts.timetable,
             rows,
             stop_rows,
             adj,
@@ -105,7 +116,18 @@ fn alightings(
         if x.best <= v {
             return x;
         }
-        x = search_state::alight(t, s.counts, s.lay, s.ride, o, v, work, labels, distances, x);
+        x = search_state::alight(
+            t,
+            s.context.counts.timetable,
+            s.context.lay,
+            s.ride,
+            o,
+            v,
+            work,
+            labels,
+            distances,
+            x,
+        );
         o += 1;
     }
     x
@@ -126,13 +148,13 @@ fn take_boarding(
     queue: &mut [u32],
     h: Head,
 ) -> Head
-    requires { ⌜ CountsAgree (now t) (s .counts) (s .lay) ⌝ ∗ ⌜ BoardedAt (now t) (s .counts) trip off (b .departure) ⌝ ∗ ⌜ Ready (s .lay) (s .ride .stamp) (memory (now work) (now labels) (now distances) h) ⌝ ∗ ⌜ Open h (length (now queue)) ⌝ }
-    ensures { λ x. ⌜ QueueStep (s .lay) (s .ride .stamp) (λ T Q. EgressTable (Q .egress) (s .lay) (now (work .entry)) × (T .timetable ≡ timetable (now (t .entry)) (s .counts))) (λ T Q. boarded T Q (s .ride .stamp) from off time trip b) (memory (now (work .entry)) (now (labels .entry)) (now (distances .entry)) h) (memory (now (work .exit)) (now (labels .exit)) (now (distances .exit)) x) (now (queue .entry)) (now (queue .exit)) ⌝ }
+    requires { ⌜ CountsAgree (now t) (s .context .counts .timetable) (s .context .lay) ⌝ ∗ ⌜ BoardedAt (now t) (s .context .counts .timetable) trip off (b .departure) ⌝ ∗ ⌜ Ready (s .context .lay) (s .ride .stamp) (memory (now work) (now labels) (now distances) h) ⌝ ∗ ⌜ Open h (length (now queue)) ⌝ }
+    ensures { λ x. ⌜ QueueStep (s .context .lay) (s .ride .stamp) (λ T Q. EgressTable (Q .egress) (s .context .lay) (now (work .entry)) × (T .timetable ≡ timetable (now (t .entry)) (s .context .counts .timetable))) (λ T Q. boarded T Q (s .ride .stamp) from off time trip b) (memory (now (work .entry)) (now (labels .entry)) (now (distances .entry)) h) (memory (now (work .exit)) (now (labels .exit)) (now (distances .exit)) x) (now (queue .entry)) (now (queue .exit)) ⌝ }
 {
     let i = trip as usize;
-    let first = tables::trip(t, s.counts, i, 0);
-    let stop = tables::time(t, s.counts, first + off, 0);
-    let plain = tables::trip(t, s.counts, i, 5) == 0;
+    let first = tables::trip(t, s.context.counts.timetable, i, 0);
+    let stop = tables::time(t, s.context.counts.timetable, first + off, 0);
+    let plain = tables::trip(t, s.context.counts.timetable, i, 5) == 0;
     let seg = Seg {
         trip,
         offset: off as u32,
@@ -141,7 +163,7 @@ fn take_boarding(
     };
     let v = b.departure;
     search_state::transfer(
-        s.lay,
+        s.context.lay,
         s.ride.stamp,
         plain,
         seg,
@@ -174,14 +196,14 @@ fn take_transfer(
     queue: &mut [u32],
     h: Head,
 ) -> Head
-    requires { ⌜ Netted (now t) (s .counts) (now rows) (now «stop_rows») (now built) (now bytes) (now area) (s .net) (s .lay) (now work) ⌝ ∗ ⌜ RunIn (now area) k 1 ⌝ ∗ ⌜ Ready (s .lay) (s .ride .stamp) (memory (now work) (now labels) (now distances) h) ⌝ ∗ ⌜ Open h (length (now queue)) ⌝ ∗ ⌜ v ≤ 2097150 ⌝ }
-    ensures { λ x. ⌜ QueueStep (s .lay) (s .ride .stamp) (Nets (now (t .entry)) (s .counts) (now (rows .entry)) (now («stop_rows» .entry)) (now (built .entry)) (now (bytes .entry)) (now (area .entry)) (s .net) (s .lay) (now (work .entry))) (λ T Q. takeTransfers T Q (s .ride .stamp) v from (transferAt (now (area .entry)) k ∷ [])) (memory (now (work .entry)) (now (labels .entry)) (now (distances .entry)) h) (memory (now (work .exit)) (now (labels .exit)) (now (distances .exit)) x) (now (queue .entry)) (now (queue .exit)) ⌝ }
+    requires { ⌜ Netted (s .context) (slices (now t) (now rows) (now «stop_rows») (now built) (now bytes) (now area)) (now work) ⌝ ∗ ⌜ RunIn (now area) k 1 ⌝ ∗ ⌜ Ready (s .context .lay) (s .ride .stamp) (memory (now work) (now labels) (now distances) h) ⌝ ∗ ⌜ Open h (length (now queue)) ⌝ ∗ ⌜ v ≤ 2097150 ⌝ }
+    ensures { λ x. ⌜ QueueStep (s .context .lay) (s .ride .stamp) (Nets (s .context) (slices (now (t .entry)) (now (rows .entry)) (now («stop_rows» .entry)) (now (built .entry)) (now (bytes .entry)) (now (area .entry))) (now (work .entry))) (λ T Q. takeTransfers T Q (s .ride .stamp) v from (transferAt (now (area .entry)) k ∷ [])) (memory (now (work .entry)) (now (labels .entry)) (now (distances .entry)) h) (memory (now (work .exit)) (now (labels .exit)) (now (distances .exit)) x) (now (queue .entry)) (now (queue .exit)) ⌝ }
 {
     let at = k * 4;
     if !arc_flags::holds_target(
         bytes,
-        s.net.patterns,
-        s.net.target,
+        s.context.net.patterns,
+        s.context.net.target,
         words::field(area, at + 3),
     ) {
         return h;
@@ -190,13 +212,13 @@ fn take_transfer(
     let off = words::field(area, at + 1);
     let found = target_resolving::resolve(
         t,
-        s.counts,
+        s.context.counts.timetable,
         rows,
         stop_rows,
         built,
         work,
-        s.net.lined,
-        s.net.terms,
+        s.context.net.lined,
+        s.context.net.terms,
         area[at],
         off,
         v + time,
@@ -221,7 +243,7 @@ fn take_transfer(
     )
 }
 
-// The `n` transfers of the area from `first` on, until a segment does not fit.
+// The transfers of a run, until a segment does not fit.
 fn take_transfers(
     t: &[u32],
     rows: &[u32],
@@ -232,21 +254,20 @@ fn take_transfers(
     s: Scan,
     v: u32,
     from: u32,
-    first: usize,
-    n: usize,
+    run: StopRun,
     work: &mut [u32],
     labels: &mut [u32],
     distances: &mut [f64],
     queue: &mut [u32],
     h: Head,
 ) -> Head
-    requires { ⌜ Netted (now t) (s .counts) (now rows) (now «stop_rows») (now built) (now bytes) (now area) (s .net) (s .lay) (now work) ⌝ ∗ ⌜ RunIn (now area) first n ⌝ ∗ ⌜ Ready (s .lay) (s .ride .stamp) (memory (now work) (now labels) (now distances) h) ⌝ ∗ ⌜ Open h (length (now queue)) ⌝ ∗ ⌜ v ≤ 2097150 ⌝ }
-    ensures { λ x. ⌜ QueueStep (s .lay) (s .ride .stamp) (Nets (now (t .entry)) (s .counts) (now (rows .entry)) (now («stop_rows» .entry)) (now (built .entry)) (now (bytes .entry)) (now (area .entry)) (s .net) (s .lay) (now (work .entry))) (λ T Q. takeTransfers T Q (s .ride .stamp) v from (transfersAt (now (area .entry)) (record { first = first; length = n }))) (memory (now (work .entry)) (now (labels .entry)) (now (distances .entry)) h) (memory (now (work .exit)) (now (labels .exit)) (now (distances .exit)) x) (now (queue .entry)) (now (queue .exit)) ⌝ }
+    requires { ⌜ Netted (s .context) (slices (now t) (now rows) (now «stop_rows») (now built) (now bytes) (now area)) (now work) ⌝ ∗ ⌜ RunIn (now area) (run .first) (run .length) ⌝ ∗ ⌜ Ready (s .context .lay) (s .ride .stamp) (memory (now work) (now labels) (now distances) h) ⌝ ∗ ⌜ Open h (length (now queue)) ⌝ ∗ ⌜ v ≤ 2097150 ⌝ }
+    ensures { λ x. ⌜ QueueStep (s .context .lay) (s .ride .stamp) (Nets (s .context) (slices (now (t .entry)) (now (rows .entry)) (now («stop_rows» .entry)) (now (built .entry)) (now (bytes .entry)) (now (area .entry))) (now (work .entry))) (λ T Q. takeTransfers T Q (s .ride .stamp) v from (transfersAt (now (area .entry)) run)) (memory (now (work .entry)) (now (labels .entry)) (now (distances .entry)) h) (memory (now (work .exit)) (now (labels .exit)) (now (distances .exit)) x) (now (queue .entry)) (now (queue .exit)) ⌝ }
 {
     let mut x = h;
     let mut j: usize = 0;
-    while j < n {
-        let k = first + j;
+    while j < run.length {
+        let k = run.first + j;
         x = take_transfer(
             t,
             rows,
@@ -289,15 +310,16 @@ fn take_event(
     queue: &mut [u32],
     h: Head,
 ) -> Head
-    requires { ⌜ Netted (now t) (s .counts) (now rows) (now «stop_rows») (now built) (now bytes) (now area) (s .net) (s .lay) (now work) ⌝ ∗ ⌜ Event (now t) (s .counts) (s .ride .trip) off ⌝ ∗ ⌜ Ready (s .lay) (s .ride .stamp) (memory (now work) (now labels) (now distances) h) ⌝ ∗ ⌜ Open h (length (now queue)) ⌝ ∗ ⌜ v ≤ 2097150 ⌝ }
-    ensures { λ x. ⌜ QueueStep (s .lay) (s .ride .stamp) (Nets (now (t .entry)) (s .counts) (now (rows .entry)) (now («stop_rows» .entry)) (now (built .entry)) (now (bytes .entry)) (now (area .entry)) (s .net) (s .lay) (now (work .entry))) (λ T Q. takeTransfers T Q (s .ride .stamp) v (stopAt T (s .ride .trip) off) (T .transfers (s .ride .trip) off)) (memory (now (work .entry)) (now (labels .entry)) (now (distances .entry)) h) (memory (now (work .exit)) (now (labels .exit)) (now (distances .exit)) x) (now (queue .entry)) (now (queue .exit)) ⌝ }
+    requires { ⌜ Netted (s .context) (slices (now t) (now rows) (now «stop_rows») (now built) (now bytes) (now area)) (now work) ⌝ ∗ ⌜ Event (now t) (s .context .counts .timetable) (s .ride .trip) off ⌝ ∗ ⌜ Ready (s .context .lay) (s .ride .stamp) (memory (now work) (now labels) (now distances) h) ⌝ ∗ ⌜ Open h (length (now queue)) ⌝ ∗ ⌜ v ≤ 2097150 ⌝ }
+    ensures { λ x. ⌜ QueueStep (s .context .lay) (s .ride .stamp) (Nets (s .context) (slices (now (t .entry)) (now (rows .entry)) (now («stop_rows» .entry)) (now (built .entry)) (now (bytes .entry)) (now (area .entry))) (now (work .entry))) (λ T Q. takeTransfers T Q (s .ride .stamp) v (stopAt T (s .ride .trip) off) (T .transfers (s .ride .trip) off)) (memory (now (work .entry)) (now (labels .entry)) (now (distances .entry)) h) (memory (now (work .exit)) (now (labels .exit)) (now (distances .exit)) x) (now (queue .entry)) (now (queue .exit)) ⌝ }
 {
     let trip = s.ride.trip as usize;
-    let i = tables::trip(t, s.counts, trip, 0);
-    let from = tables::time(t, s.counts, i + off, 0) as u32;
-    let at = s.net.runs + (words::field(work, s.net.events + trip) + off) * 2;
+    let i = tables::trip(t, s.context.counts.timetable, trip, 0);
+    let from = tables::time(t, s.context.counts.timetable, i + off, 0) as u32;
+    let at = s.context.net.runs + (words::field(work, s.context.net.events + trip) + off) * 2;
     let first = words::field(built, at);
-    let n = words::field(built, at + 1);
+    let length = words::field(built, at + 1);
+    let run = StopRun { first, length };
     take_transfers(
         t,
         rows,
@@ -308,8 +330,7 @@ fn take_event(
         s,
         v,
         from,
-        first,
-        n,
+        run,
         work,
         labels,
         distances,
@@ -334,22 +355,31 @@ fn transferring(
     queue: &mut [u32],
     h: Head,
 ) -> Head
-    requires { ⌜ Netted (now t) (s .counts) (now rows) (now «stop_rows») (now built) (now bytes) (now area) (s .net) (s .lay) (now work) ⌝ ∗ ⌜ Riding (now t) (s .counts) (now rows) (now «stop_rows») (s .adj) (s .lay) (s .ride) ⌝ ∗ ⌜ Ready (s .lay) (s .ride .stamp) (memory (now work) (now labels) (now distances) h) ⌝ ∗ ⌜ Open h (length (now queue)) ⌝ }
-    ensures { λ x. ⌜ QueueStep (s .lay) (s .ride .stamp) (Nets (now (t .entry)) (s .counts) (now (rows .entry)) (now («stop_rows» .entry)) (now (built .entry)) (now (bytes .entry)) (now (area .entry)) (s .net) (s .lay) (now (work .entry))) (λ T Q. transferred T Q (s .ride .stamp) (hitOf (s .adj)) (s .ride .shift) (s .ride .trip) (stopCount T (s .ride .trip) - p) p) (memory (now (work .entry)) (now (labels .entry)) (now (distances .entry)) h) (memory (now (work .exit)) (now (labels .exit)) (now (distances .exit)) x) (now (queue .entry)) (now (queue .exit)) ⌝ }
+    requires { ⌜ Netted (s .context) (slices (now t) (now rows) (now «stop_rows») (now built) (now bytes) (now area)) (now work) ⌝ ∗ ⌜ Riding (now t) (s .context .counts .timetable) (now rows) (now «stop_rows») (s .adj) (s .context .lay) (s .ride) ⌝ ∗ ⌜ Ready (s .context .lay) (s .ride .stamp) (memory (now work) (now labels) (now distances) h) ⌝ ∗ ⌜ Open h (length (now queue)) ⌝ }
+    ensures { λ x. ⌜ QueueStep (s .context .lay) (s .ride .stamp) (Nets (s .context) (slices (now (t .entry)) (now (rows .entry)) (now («stop_rows» .entry)) (now (built .entry)) (now (bytes .entry)) (now (area .entry))) (now (work .entry))) (λ T Q. transferred T Q (s .ride .stamp) (hitOf (s .adj)) (s .ride .shift) (s .ride .trip) (stopCount T (s .ride .trip) - p) p) (memory (now (work .entry)) (now (labels .entry)) (now (distances .entry)) h) (memory (now (work .exit)) (now (labels .exit)) (now (distances .exit)) x) (now (queue .entry)) (now (queue .exit)) ⌝ }
 {
     let trip = s.ride.trip as usize;
     let adj = s.adj;
-    let n = tables::trip(t, s.counts, trip, 1);
+    let n = tables::trip(t, s.context.counts.timetable, trip, 1);
     let mut x = h;
     let mut o = p;
     while o < n {
-        if shut(t, s.counts, rows, stop_rows, adj, false, trip, o) {
+        if shut(
+            t,
+            s.context.counts.timetable,
+            rows,
+            stop_rows,
+            adj,
+            false,
+            trip,
+            o,
+        ) {
             o += 1;
             continue;
         }
         let v = trip_boarding::arrival_now(
             t,
-            s.counts,
+            s.context.counts.timetable,
             rows,
             stop_rows,
             adj,
@@ -393,19 +423,18 @@ pub fn scan_trip_forward(
     bytes: &[u8],
     area: &[u32],
     s: Scan,
-    flagged: bool,
     work: &mut [u32],
     labels: &mut [u32],
     distances: &mut [f64],
     queue: &mut [u32],
     h: Head,
 ) -> Head
-    requires { ⌜ Netted (now t) (s .counts) (now rows) (now «stop_rows») (now built) (now bytes) (now area) (s .net) (s .lay) (now work) ⌝ ∗ ⌜ Riding (now t) (s .counts) (now rows) (now «stop_rows») (s .adj) (s .lay) (s .ride) ⌝ ∗ ⌜ Ready (s .lay) (s .ride .stamp) (memory (now work) (now labels) (now distances) h) ⌝ ∗ ⌜ Open h (length (now queue)) ⌝ }
-    ensures { λ x. ⌜ QueueStep (s .lay) (s .ride .stamp) (Nets (now (t .entry)) (s .counts) (now (rows .entry)) (now («stop_rows» .entry)) (now (built .entry)) (now (bytes .entry)) (now (area .entry)) (s .net) (s .lay) (now (work .entry))) (λ T Q. scanTripForward T Q flagged (s .ride .stamp) (hitOf (s .adj)) (s .ride .shift) (s .ride .trip) (s .ride .stop) (s .ride .offset)) (memory (now (work .entry)) (now (labels .entry)) (now (distances .entry)) h) (memory (now (work .exit)) (now (labels .exit)) (now (distances .exit)) x) (now (queue .entry)) (now (queue .exit)) ⌝ }
+    requires { ⌜ Netted (s .context) (slices (now t) (now rows) (now «stop_rows») (now built) (now bytes) (now area)) (now work) ⌝ ∗ ⌜ Riding (now t) (s .context .counts .timetable) (now rows) (now «stop_rows») (s .adj) (s .context .lay) (s .ride) ⌝ ∗ ⌜ Ready (s .context .lay) (s .ride .stamp) (memory (now work) (now labels) (now distances) h) ⌝ ∗ ⌜ Open h (length (now queue)) ⌝ }
+    ensures { λ x. ⌜ QueueStep (s .context .lay) (s .ride .stamp) (Nets (s .context) (slices (now (t .entry)) (now (rows .entry)) (now («stop_rows» .entry)) (now (built .entry)) (now (bytes .entry)) (now (area .entry))) (now (work .entry))) (λ T Q. scanTripForward T Q (s .context .flagged) (s .ride .stamp) (hitOf (s .adj)) (s .ride .shift) (s .ride .trip) (s .ride .stop) (s .ride .offset)) (memory (now (work .entry)) (now (labels .entry)) (now (distances .entry)) h) (memory (now (work .exit)) (now (labels .exit)) (now (distances .exit)) x) (now (queue .entry)) (now (queue .exit)) ⌝ }
 {
     let p = s.ride.offset as usize + 1;
     let x = alightings(t, rows, stop_rows, s, p, work, labels, distances, h);
-    if !flagged {
+    if !s.context.flagged {
         return x;
     }
     transferring(

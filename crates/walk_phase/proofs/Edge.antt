@@ -23,7 +23,7 @@ use Rattle.search_state.specs.Places.{EgressTable, Same}
 use Rattle.search_state.specs.View.{Memory, memory, arrivalsOf}
 use Rattle.search_state.specs.Step.{Ready, Step}
 use Rattle.search_state.proofs.Steps.{step-none, egress-kept}
-use Rattle.query_types.specs.declared.Rules.{Rules}
+use Rattle.query_types.specs.declared.Context.{Context}
 use Rattle.walk_phase.specs.Walking.{WalkGround, WalksAgree}
 
 -- a stop's edges one after the other
@@ -52,11 +52,11 @@ pub record RowOk (lay : Lay) (y : EdgeRow) : Type 0 where
   pub duration : y .duration ≤ 1048575
   pub pathway : y .pathway ≤ 7
 
-pub row-ok : {lay : Lay} {r : Rules} {t : List ℕ} {d b : ℕ} (e : ℕ) (y : EdgeRow) → WalkGround lay r t d b → y ≡ edgeAt t (r .counts) e → e < r .counts .edges → RowOk lay y
+pub row-ok : {lay : Lay} {ctx : Context} {t : List ℕ} {d b : ℕ} (e : ℕ) (y : EdgeRow) → WalkGround lay ctx t d b → y ≡ edgeAt t (ctx .counts .timetable) e → e < ctx .counts .timetable .edges → RowOk lay y
 row-ok e y g q h =
     rw q (record { to = omega (arith, g .sane .numbers .to e h, g .stops); duration = g .sane .ranges .duration e h; pathway = g .sane .ranges .pathway e h })
 
-pub agree-kept : {lay : Lay} {r : Rules} {t : List ℕ} {d : List Float} {b w w′ : List ℕ} {T : Tables} {Q : Query} → Same lay w w′ → WalksAgree lay r t d b w T Q → WalksAgree lay r t d b w′ T Q
+pub agree-kept : {lay : Lay} {ctx : Context} {t : List ℕ} {d : List Float} {b w w′ : List ℕ} {T : Tables} {Q : Query} → Same lay w w′ → WalksAgree lay ctx t d b w T Q → WalksAgree lay ctx t d b w′ T Q
 agree-kept s g =
     record {
       timetable = g .timetable;
@@ -67,9 +67,9 @@ agree-kept s g =
       egress = egress-kept s (g .egress);
     }
 
-module _ (lay : Lay) (r : Rules) (stamp x v e : ℕ) (t : List ℕ) (d : List Float) (b w l : List ℕ) (m : List Float) (h : Head)
-    (y : EdgeRow) (is : y ≡ edgeAt t (r .counts) e) (D : ℕ) (long : D ≡ effectiveDuration (y .duration) (y .pathway) (r .wheelchair)) (in-edges : e < r .counts .edges)
-    (off : Bool) (off-is : (T : Tables) (Q : Query) → Patterned T b (r .patterns) → r .targets ≡ targetCells T Q → off ≡ (r .flagged && not (holdsTarget T Q (y .pattern)))) where
+module _ (lay : Lay) (ctx : Context) (stamp x v e : ℕ) (t : List ℕ) (d : List Float) (b w l : List ℕ) (m : List Float) (h : Head)
+    (y : EdgeRow) (is : y ≡ edgeAt t (ctx .counts .timetable) e) (D : ℕ) (long : D ≡ effectiveDuration (y .duration) (y .pathway) (ctx .net .terms .wheelchair)) (in-edges : e < ctx .counts .timetable .edges)
+    (off : Bool) (off-is : (T : Tables) (Q : Query) → Patterned T b (ctx .net .patterns) → ctx .net .target ≡ targetCells T Q → off ≡ (ctx .flagged && not (holdsTarget T Q (y .pattern)))) where
   -- the label that a walk along the edge gives
   abbrev pub walkLabel : Label
   walkLabel = Walk (v + D) x (y .to) D (getD d e nan) (stamp - 1)
@@ -82,17 +82,17 @@ module _ (lay : Lay) (r : Rules) (stamp x v e : ℕ) (t : List ℕ) (d : List Fl
         | false ↦ elim (ltb (v + n) (a .best)) [ false ↦ a | true ↦ relax T Q stamp (z .to) (v + n) (Walk (v + n) x (z .to) n f (stamp - 1)) a ]
       ]
 
-  walk-one : (T : Tables) (Q : Query) → WalksAgree lay r t d b w T Q → (a : Arrivals)
-      → walkFrom T Q (r .flagged) stamp x v (e ∷ []) a ≡ one T Q a off y D (getD d e nan)
+  walk-one : (T : Tables) (Q : Query) → WalksAgree lay ctx t d b w T Q → (a : Arrivals)
+      → walkFrom T Q (ctx .flagged) stamp x v (e ∷ []) a ≡ one T Q a off y D (getD d e nan)
   unfolding walkFrom
   walk-one T Q g a i = one T Q a (test i) (row i) (time i) (g .distance e in-edges i)
     where
       row : T .timetable .edge e ≡ y
       row = ap (λ (B : Timetable). B .edge e) (g .timetable) ∙ sym is
 
-      test : r .flagged && not (holdsTarget T Q (T .timetable .edge e .pattern)) ≡ off
+      test : ctx .flagged && not (holdsTarget T Q (T .timetable .edge e .pattern)) ≡ off
       test =
-          ap (λ (z : EdgeRow). r .flagged && not (holdsTarget T Q (z .pattern))) row
+          ap (λ (z : EdgeRow). ctx .flagged && not (holdsTarget T Q (z .pattern))) row
           ∙ sym (off-is T Q (g .patterned) (g .targets))
 
       time : walkTime T Q e ≡ D
@@ -100,16 +100,16 @@ module _ (lay : Lay) (r : Rules) (stamp x v e : ℕ) (t : List ℕ) (d : List Fl
 
   module _ (ok : Ready lay stamp (memory w l m h)) where
     -- the flags skip it
-    pub edge-skipped : off ≡ true → Step lay stamp (WalksAgree lay r t d b w) (λ T Q. walkFrom T Q (r .flagged) stamp x v (e ∷ [])) (memory w l m h) (memory w l m h)
+    pub edge-skipped : off ≡ true → Step lay stamp (WalksAgree lay ctx t d b w) (λ T Q. walkFrom T Q (ctx .flagged) stamp x v (e ∷ [])) (memory w l m h) (memory w l m h)
     edge-skipped s =
-        step-none (λ T Q. walkFrom T Q (r .flagged) stamp x v (e ∷ [])) (memory w l m h) ok
+        step-none (λ T Q. walkFrom T Q (ctx .flagged) stamp x v (e ∷ [])) (memory w l m h) ok
         (λ T Q g q. let a : Arrivals = arrivalsOf lay (memory w l m h) q in sym (walk-one T Q g a ∙ ap (λ (z : Bool). one T Q a z y D (getD d e nan)) s))
 
     -- it leads there no earlier than the best total
     pub edge-late : off ≡ false → h .best ≤ v + D
-        → Step lay stamp (WalksAgree lay r t d b w) (λ T Q. walkFrom T Q (r .flagged) stamp x v (e ∷ [])) (memory w l m h) (memory w l m h)
+        → Step lay stamp (WalksAgree lay ctx t d b w) (λ T Q. walkFrom T Q (ctx .flagged) stamp x v (e ∷ [])) (memory w l m h) (memory w l m h)
     edge-late s u =
-        step-none (λ T Q. walkFrom T Q (r .flagged) stamp x v (e ∷ [])) (memory w l m h) ok
+        step-none (λ T Q. walkFrom T Q (ctx .flagged) stamp x v (e ∷ [])) (memory w l m h) ok
         (λ T Q g q. let a : Arrivals = arrivalsOf lay (memory w l m h) q in
         sym (walk-one T Q g a ∙ ap (λ (z : Bool). one T Q a z y D (getD d e nan)) s
         ∙ ap (λ (z : Bool). elim z as (λ _. Arrivals) [ false ↦ a | true ↦ relax T Q stamp (y .to) (v + D) walkLabel a ]) (le-ltb (v + D) (h .best) u)))
@@ -117,7 +117,7 @@ module _ (lay : Lay) (r : Rules) (stamp x v e : ℕ) (t : List ℕ) (d : List Fl
     -- it is walked
     pub edge-walked : {k : Memory} → off ≡ false → v + D < h .best
         → Step lay stamp (λ T Q. EgressTable (Q .egress) lay w) (λ T Q. relax T Q stamp (y .to) (v + D) walkLabel) (memory w l m h) k
-        → Step lay stamp (WalksAgree lay r t d b w) (λ T Q. walkFrom T Q (r .flagged) stamp x v (e ∷ [])) (memory w l m h) k
+        → Step lay stamp (WalksAgree lay ctx t d b w) (λ T Q. walkFrom T Q (ctx .flagged) stamp x v (e ∷ [])) (memory w l m h) k
     edge-walked s u p =
         record {
           view = λ T Q g q. let a : Arrivals = arrivalsOf lay (memory w l m h) q in

@@ -20,7 +20,7 @@ use Rattle.search_state.specs.Step.{Ready, Step}
 use Rattle.search_state.proofs.Part.{tally-le}
 use Rattle.search_state.proofs.Marking.{same-then, stamps-length}
 use Rattle.search_state.proofs.Steps.{walks-kept}
-use Rattle.query_types.specs.declared.Rules.{Rules}
+use Rattle.query_types.specs.declared.Context.{Context}
 use Rattle.walk_phase.specs.Walking.{WalkGround, WalksAgree}
 use Rattle.walk_phase.specs.Lists.{StopsListed, bearing, Appended, noted, WalkPhase}
 use Rattle.walk_phase.proofs.Appending.{stamped-is, append-most}
@@ -48,10 +48,10 @@ turned-sized s =
       metres = s .metres;
     }
 
-pub turned-ground : {lay : Lay} {r : Rules} {t : List ℕ} {d b : ℕ} → WalkGround lay r t d b → WalkGround (turned lay) r t d b
+pub turned-ground : {lay : Lay} {ctx : Context} {t : List ℕ} {d b : ℕ} → WalkGround lay ctx t d b → WalkGround (turned lay) ctx t d b
 turned-ground g = record { sane = g .sane; order = g .order; stops = g .stops; distances = g .distances; few = g .few; bytes = g .bytes }
 
-turned-agree : {lay : Lay} {r : Rules} {t : List ℕ} {d : List Float} {b w : List ℕ} {T : Tables} {Q : Query} → WalksAgree lay r t d b w T Q → WalksAgree (turned lay) r t d b w T Q
+turned-agree : {lay : Lay} {ctx : Context} {t : List ℕ} {d : List Float} {b w : List ℕ} {T : Tables} {Q : Query} → WalksAgree lay ctx t d b w T Q → WalksAgree (turned lay) ctx t d b w T Q
 turned-agree g =
     record {
       timetable = g .timetable;
@@ -97,8 +97,8 @@ after T Q flagged stamp xs s A =
 pub sized-words : {lay : Lay} {a b c : ℕ} → Sized lay a b c → Sized lay a (lay .stops * 104) (lay .stops * 13)
 sized-words s = record { sections = s .sections; rows = refl; metres = refl }
 
-module _ (lay : Lay) (r : Rules) (stamp : ℕ) (t : List ℕ) (d : List Float) (bs w l : List ℕ) (m : List Float) (h : Head) (ok : Ready lay stamp (memory w l m h))
-    {b : Memory} (p : Step (turned lay) stamp (WalksAgree (turned lay) r t d bs w) (λ T Q. walkAll T Q (r .flagged) stamp (part w (lay .list) (h .count))) (memory w l m (emptyHead h)) b) where
+module _ (lay : Lay) (ctx : Context) (stamp : ℕ) (t : List ℕ) (d : List Float) (bs w l : List ℕ) (m : List Float) (h : Head) (ok : Ready lay stamp (memory w l m h))
+    {b : Memory} (p : Step (turned lay) stamp (WalksAgree (turned lay) ctx t d bs w) (λ T Q. walkAll T Q (ctx .flagged) stamp (part w (lay .list) (h .count))) (memory w l m (emptyHead h)) b) where
   -- the lists have room for all that was reached
   pub phase-room : b .head .count + h .count ≤ tally stamp (stampsOf lay (b .work))
   phase-room = omega (arith, p .grown .by, ok .counted .fits)
@@ -109,17 +109,17 @@ module _ (lay : Lay) (r : Rules) (stamp : ℕ) (t : List ℕ) (d : List Float) (
   module _ (T : Tables) (Q : Query) (q : List ℕ) (s : Boardings) where
     -- walks, seen as the model's
     phase-walked : (round : ℕ) → stamp ≡ suc (suc round)
-        → after T Q (r .flagged) stamp (part w (lay .list) (h .count)) s
-        (walkAll T Q (r .flagged) stamp (part w (lay .list) (h .count)) (arrivalsOf (turned lay) (memory w l m (emptyHead h)) q))
-        ≡ walkPhase T Q (r .flagged) round (record { arrivals = arrivalsOf lay (memory w l m h) q; boardings = s })
+        → after T Q (ctx .flagged) stamp (part w (lay .list) (h .count)) s
+        (walkAll T Q (ctx .flagged) stamp (part w (lay .list) (h .count)) (arrivalsOf (turned lay) (memory w l m (emptyHead h)) q))
+        ≡ walkPhase T Q (ctx .flagged) round (record { arrivals = arrivalsOf lay (memory w l m h) q; boardings = s })
     unfolding walkPhase part
     phase-walked round e i =
-        after T Q (r .flagged) (e i) (part w (lay .list) (h .count)) s
-        (walkAll T Q (r .flagged) (e i) (part w (lay .list) (h .count)) (arrivalsOf (turned lay) (memory w l m (emptyHead h)) q))
+        after T Q (ctx .flagged) (e i) (part w (lay .list) (h .count)) s
+        (walkAll T Q (ctx .flagged) (e i) (part w (lay .list) (h .count)) (arrivalsOf (turned lay) (memory w l m (emptyHead h)) q))
 
-    after-flagged : r .flagged ≡ true
+    after-flagged : ctx .flagged ≡ true
         → record { arrivals = arrivalsOf (turned lay) b q; boardings = noted (b .head .queued) s }
-        ≡ after T Q (r .flagged) stamp (part w (lay .list) (h .count)) s (arrivalsOf (turned lay) b q)
+        ≡ after T Q (ctx .flagged) stamp (part w (lay .list) (h .count)) s (arrivalsOf (turned lay) b q)
     after-flagged f i =
         record {
           arrivals = record {
@@ -135,7 +135,7 @@ module _ (lay : Lay) (r : Rules) (stamp : ℕ) (t : List ℕ) (d : List Float) (
         }
       where
         reach : part (b .work) (lay .other) (b .head .count)
-            ≡ elim (r .flagged) [
+            ≡ elim (ctx .flagged) [
               | true ↦ part (b .work) (lay .other) (b .head .count)
               | false ↦ part (b .work) (lay .other) (b .head .count) ++ stamped T Q stamp (stampsOf (turned lay) (b .work)) (part w (lay .list) (h .count))
             ]
@@ -146,11 +146,11 @@ module _ (lay : Lay) (r : Rules) (stamp : ℕ) (t : List ℕ) (d : List Float) (
             ]) (sym f)
 
   -- with arc flags: the stops reached on foot
-  pub phase-flagged : r .flagged ≡ true → WalkPhase lay (r .flagged) stamp (WalksAgree lay r t d bs w) (memory w l m h) b
+  pub phase-flagged : ctx .flagged ≡ true → WalkPhase lay (ctx .flagged) stamp (WalksAgree lay ctx t d bs w) (memory w l m h) b
   phase-flagged f =
       record {
         view = λ T Q g round e q s. after-flagged T Q q s f
-            ∙ ap (after T Q (r .flagged) stamp (part w (lay .list) (h .count)) s) (p .view T Q (turned-agree g) q) ∙ phase-walked T Q q s round e;
+            ∙ ap (after T Q (ctx .flagged) stamp (part w (lay .list) (h .count)) s) (p .view T Q (turned-agree g) q) ∙ phase-walked T Q q s round e;
         same = p .same;
         ready = p .ready;
         queued = p .queued;
@@ -163,9 +163,9 @@ module _ (lay : Lay) (r : Rules) (stamp : ℕ) (t : List ℕ) (d : List Float) (
     abbrev last : Memory
     last = memory w″ (b .labels) (b .distances) (record { best = b .head .best; count = count; queued = b .head .queued; full = b .head .full })
 
-    after-plain : (T : Tables) (Q : Query) (q : List ℕ) (s : Boardings) → r .flagged ≡ false
+    after-plain : (T : Tables) (Q : Query) (q : List ℕ) (s : Boardings) → ctx .flagged ≡ false
         → record { arrivals = arrivalsOf (turned lay) last q; boardings = noted (b .head .queued) s }
-        ≡ after T Q (r .flagged) stamp (part w (lay .list) (h .count)) s (arrivalsOf (turned lay) b q)
+        ≡ after T Q (ctx .flagged) stamp (part w (lay .list) (h .count)) s (arrivalsOf (turned lay) b q)
     after-plain T Q q s f i =
         record {
           arrivals = record {
@@ -186,7 +186,7 @@ module _ (lay : Lay) (r : Rules) (stamp : ℕ) (t : List ℕ) (d : List Float) (
             ∙ ap (stamped T Q stamp (stampsOf (turned lay) (b .work))) (part-of w (b .work) (lay .list) (h .count) (lay .stops + 64) (ls .few) (p .same .list))
 
         reach : part w″ (lay .other) count
-            ≡ elim (r .flagged) [
+            ≡ elim (ctx .flagged) [
               | true ↦ part (b .work) (lay .other) (b .head .count)
               | false ↦ part (b .work) (lay .other) (b .head .count) ++ stamped T Q stamp (stampsOf (turned lay) (b .work)) (part w (lay .list) (h .count))
             ]
@@ -197,12 +197,12 @@ module _ (lay : Lay) (r : Rules) (stamp : ℕ) (t : List ℕ) (d : List Float) (
               | false ↦ part (b .work) (lay .other) (b .head .count) ++ stamped T Q stamp (stampsOf (turned lay) (b .work)) (part w (lay .list) (h .count))
             ]) (sym f)
 
-    pub phase-plain : r .flagged ≡ false → WalkPhase lay (r .flagged) stamp (WalksAgree lay r t d bs w) (memory w l m h)
+    pub phase-plain : ctx .flagged ≡ false → WalkPhase lay (ctx .flagged) stamp (WalksAgree lay ctx t d bs w) (memory w l m h)
         (memory w″ (b .labels) (b .distances) (record { best = b .head .best; count = count; queued = b .head .queued; full = b .head .full }))
     phase-plain f =
         record {
           view = λ T Q g round e q s. after-plain T Q q s f
-              ∙ ap (after T Q (r .flagged) stamp (part w (lay .list) (h .count)) s) (p .view T Q (turned-agree g) q) ∙ phase-walked T Q q s round e;
+              ∙ ap (after T Q (ctx .flagged) stamp (part w (lay .list) (h .count)) s) (p .view T Q (turned-agree g) q) ∙ phase-walked T Q q s round e;
           same = same-then (p .same) (x .same);
           ready = record {
             sized = rw (x .same .size) (p .ready .sized);

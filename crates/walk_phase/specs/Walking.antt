@@ -14,7 +14,7 @@ use Rattle.model.specs.Search.{targetCells}
 use Rattle.arc_flags.specs.Skipping.{Patterned}
 use Rattle.query_types.specs.declared.Lay.{Lay}
 use Rattle.search_state.specs.Places.{EgressTable}
-use Rattle.query_types.specs.declared.Rules.{Rules}
+use Rattle.query_types.specs.declared.Context.{Context}
 
 -- of the n numbers from e on, those before the first whose key is not x
 unfoldable pub runFrom : (ℕ → ℕ) → ℕ → ℕ → ℕ → List ℕ
@@ -22,20 +22,20 @@ runFrom key x e zero = []
 runFrom key x e (suc n) = elim (eqb (key e) x) [ true ↦ e ∷ runFrom key x (suc e) n | false ↦ [] ]
 
 -- the slices that walks read are as the door leaves them: the timetable; of d distances one for each edge; b bytes, 64 to a pattern
-pub record WalkGround (lay : Lay) (r : Rules) (t : List ℕ) (d b : ℕ) : Type 0 where
-  pub sane : Sane t (r .counts)
-  pub order : OrderOk t (r .counts)
-  pub stops : r .counts .stops ≡ lay .stops
-  pub distances : r .counts .edges ≤ d
-  pub few : r .patterns ≤ 4096
-  pub bytes : b ≡ r .patterns * 64
+pub record WalkGround (lay : Lay) (ctx : Context) (t : List ℕ) (d b : ℕ) : Type 0 where
+  pub sane : Sane t (ctx .counts .timetable)
+  pub order : OrderOk t (ctx .counts .timetable)
+  pub stops : ctx .counts .timetable .stops ≡ lay .stops
+  pub distances : ctx .counts .timetable .edges ≤ d
+  pub few : ctx .net .patterns ≤ 4096
+  pub bytes : b ≡ ctx .net .patterns * 64
 
 -- tables and a query that hold what is read: the timetable t, the edges' distances d, the patterns' bytes b, the cells of the egress
 -- stops, the egress table among the working numbers w
-pub record WalksAgree (lay : Lay) (r : Rules) (t : List ℕ) (d : List Float) (b w : List ℕ) (T : Tables) (Q : Query) : Type 0 where
-  pub timetable : T .timetable ≡ timetable t (r .counts)
-  pub distance : (e : ℕ) → e < r .counts .edges → T .distance e ≡ getD d e nan
-  pub wheelchair : Q .wheelchair ≡ r .wheelchair
-  pub patterned : Patterned T b (r .patterns)
-  pub targets : r .targets ≡ targetCells T Q
+pub record WalksAgree (lay : Lay) (ctx : Context) (t : List ℕ) (d : List Float) (b w : List ℕ) (T : Tables) (Q : Query) : Type 0 where
+  pub timetable : T .timetable ≡ timetable t (ctx .counts .timetable)
+  pub distance : (e : ℕ) → e < ctx .counts .timetable .edges → T .distance e ≡ getD d e nan
+  pub wheelchair : Q .wheelchair ≡ ctx .net .terms .wheelchair
+  pub patterned : Patterned T b (ctx .net .patterns)
+  pub targets : ctx .net .target ≡ targetCells T Q
   pub egress : EgressTable (Q .egress) lay w

@@ -5,7 +5,7 @@
 // Assumes nothing.
 ghost use mathlib.Core.Path.{_≡_};
 ghost use mathlib.Core.List.{[], _∷_};
-ghost use Prim.Native.Nat.{_+_, _*_, _-_, _≤_, _<_};
+ghost use Prim.Native.Nat.{_+_, _*_, _≤_, _<_};
 ghost use lib.ListN.{length};
 ghost use lib.Dec.{leb};
 ghost use Rattle.loops.specs.Order.{Halved};
@@ -22,21 +22,21 @@ ghost use Rattle.walk_phase.specs.Walking.{WalkGround, WalksAgree};
 ghost use Rattle.arc_flags.specs.Skipping.{Patterned, PatternsOk};
 ghost use Rattle.walk_phase.specs.Lists.{StopsListed, bearing, Appended, WalkPhase};
 use label::Label;
+use query_types::Context;
 use query_types::Head;
 use query_types::Lay;
-use query_types::Rules;
 use tables::Counts;
 
 // Do the arc flags skip an edge of pattern p?
-fn skips(rules: Rules, patterns: &[u8], p: usize) -> bool
-    requires { ⌜ PatternsOk (now patterns) (rules .patterns) ⌝ }
-    ensures { λ r. ⌜ ((T : Tables) (Q : Query) → Patterned T (now (patterns .entry)) (rules .patterns) → rules .targets ≡ targetCells T Q → r ≡ (rules .flagged && not (holdsTarget T Q p))) ⌝ }
+fn skips(ctx: Context, patterns: &[u8], p: usize) -> bool
+    requires { ⌜ PatternsOk (now patterns) (ctx .net .patterns) ⌝ }
+    ensures { λ r. ⌜ ((T : Tables) (Q : Query) → Patterned T (now (patterns .entry)) (ctx .net .patterns) → ctx .net .target ≡ targetCells T Q → r ≡ (ctx .flagged && not (holdsTarget T Q p))) ⌝ }
 {
-    if !rules.flagged {
+    if !ctx.flagged {
         return false;
     }
-    let targets = rules.targets;
-    !arc_flags::holds_target(patterns, rules.patterns, targets, p)
+    let targets = ctx.net.target;
+    !arc_flags::holds_target(patterns, ctx.net.patterns, targets, p)
 }
 
 // The first walk edge whose from-stop is not below x, by halving; the number of edges where there is none.
@@ -60,7 +60,7 @@ fn first_edge(t: &[u32], c: Counts, x: usize) -> usize
 // One walk edge e of stop x, reached at v.
 fn walk_edge(
     lay: Lay,
-    rules: Rules,
+    ctx: Context,
     stamp: u32,
     x: usize,
     v: u32,
@@ -73,18 +73,18 @@ fn walk_edge(
     metres: &mut [f64],
     h: Head,
 ) -> Head
-    requires { ⌜ Ready lay stamp (memory (now work) (now labels) (now metres) h) ⌝ ∗ ⌜ WalkGround lay rules (now t) (length (now distances)) (length (now patterns)) ⌝ ∗ ⌜ x < lay .stops ⌝ ∗ ⌜ v < 29360128 ⌝ ∗ ⌜ e < rules .counts .edges ⌝ }
-    ensures { λ r. ⌜ Step lay stamp (WalksAgree lay rules (now (t .entry)) (now (distances .entry)) (now (patterns .entry)) (now (work .entry))) (λ T Q. walkFrom T Q (rules .flagged) stamp x v (e ∷ [])) (memory (now (work .entry)) (now (labels .entry)) (now (metres .entry)) h) (memory (now (work .exit)) (now (labels .exit)) (now (metres .exit)) r) ⌝ ∗ ⌜ Falls lay (now (work .entry)) (now (work .exit)) ⌝ }
+    requires { ⌜ Ready lay stamp (memory (now work) (now labels) (now metres) h) ⌝ ∗ ⌜ WalkGround lay ctx (now t) (length (now distances)) (length (now patterns)) ⌝ ∗ ⌜ x < lay .stops ⌝ ∗ ⌜ v < 29360128 ⌝ ∗ ⌜ e < ctx .counts .timetable .edges ⌝ }
+    ensures { λ r. ⌜ Step lay stamp (WalksAgree lay ctx (now (t .entry)) (now (distances .entry)) (now (patterns .entry)) (now (work .entry))) (λ T Q. walkFrom T Q (ctx .flagged) stamp x v (e ∷ [])) (memory (now (work .entry)) (now (labels .entry)) (now (metres .entry)) h) (memory (now (work .exit)) (now (labels .exit)) (now (metres .exit)) r) ⌝ ∗ ⌜ Falls lay (now (work .entry)) (now (work .exit)) ⌝ }
 {
-    let c = rules.counts;
+    let c = ctx.counts.timetable;
     let row = tables::edge_row(t, c, e);
-    if skips(rules, patterns, row.pattern) {
+    if skips(ctx, patterns, row.pattern) {
         return h;
     }
     let d = walk_time::effective_duration_s(
         row.duration as u32,
         row.pathway as u32,
-        rules.wheelchair,
+        ctx.net.terms.wheelchair,
     );
     let w = v + d;
     if h.best <= w {
@@ -104,7 +104,7 @@ fn walk_edge(
 // The walk edges of stop x, reached at v.
 fn walk_from(
     lay: Lay,
-    rules: Rules,
+    ctx: Context,
     stamp: u32,
     x: usize,
     v: u32,
@@ -116,10 +116,10 @@ fn walk_from(
     metres: &mut [f64],
     h: Head,
 ) -> Head
-    requires { ⌜ Ready lay stamp (memory (now work) (now labels) (now metres) h) ⌝ ∗ ⌜ WalkGround lay rules (now t) (length (now distances)) (length (now patterns)) ⌝ ∗ ⌜ x < lay .stops ⌝ ∗ ⌜ v < 29360128 ⌝ }
-    ensures { λ r. ⌜ Step lay stamp (WalksAgree lay rules (now (t .entry)) (now (distances .entry)) (now (patterns .entry)) (now (work .entry))) (λ T Q. walkFrom T Q (rules .flagged) stamp x v (edgesFrom T x)) (memory (now (work .entry)) (now (labels .entry)) (now (metres .entry)) h) (memory (now (work .exit)) (now (labels .exit)) (now (metres .exit)) r) ⌝ ∗ ⌜ Falls lay (now (work .entry)) (now (work .exit)) ⌝ }
+    requires { ⌜ Ready lay stamp (memory (now work) (now labels) (now metres) h) ⌝ ∗ ⌜ WalkGround lay ctx (now t) (length (now distances)) (length (now patterns)) ⌝ ∗ ⌜ x < lay .stops ⌝ ∗ ⌜ v < 29360128 ⌝ }
+    ensures { λ r. ⌜ Step lay stamp (WalksAgree lay ctx (now (t .entry)) (now (distances .entry)) (now (patterns .entry)) (now (work .entry))) (λ T Q. walkFrom T Q (ctx .flagged) stamp x v (edgesFrom T x)) (memory (now (work .entry)) (now (labels .entry)) (now (metres .entry)) h) (memory (now (work .exit)) (now (labels .exit)) (now (metres .exit)) r) ⌝ ∗ ⌜ Falls lay (now (work .entry)) (now (work .exit)) ⌝ }
 {
-    let c = rules.counts;
+    let c = ctx.counts.timetable;
     let mut e = first_edge(t, c, x);
     let mut g = h;
     while e < c.edges {
@@ -128,7 +128,7 @@ fn walk_from(
         }
         g = walk_edge(
             lay,
-            rules,
+            ctx,
             stamp,
             x,
             v,
@@ -149,7 +149,7 @@ fn walk_from(
 // The walks from the first n stops of the other list, each from when it is reached as its turn comes.
 fn walk_all(
     lay: Lay,
-    rules: Rules,
+    ctx: Context,
     stamp: u32,
     n: usize,
     t: &[u32],
@@ -160,8 +160,8 @@ fn walk_all(
     metres: &mut [f64],
     h: Head,
 ) -> Head
-    requires { ⌜ Ready lay stamp (memory (now work) (now labels) (now metres) h) ⌝ ∗ ⌜ WalkGround lay rules (now t) (length (now distances)) (length (now patterns)) ⌝ ∗ ⌜ StopsListed lay (now work) n ⌝ }
-    ensures { λ r. ⌜ Step lay stamp (WalksAgree lay rules (now (t .entry)) (now (distances .entry)) (now (patterns .entry)) (now (work .entry))) (λ T Q. walkAll T Q (rules .flagged) stamp (part (now (work .entry)) (lay .other) n)) (memory (now (work .entry)) (now (labels .entry)) (now (metres .entry)) h) (memory (now (work .exit)) (now (labels .exit)) (now (metres .exit)) r) ⌝ ∗ ⌜ Falls lay (now (work .entry)) (now (work .exit)) ⌝ }
+    requires { ⌜ Ready lay stamp (memory (now work) (now labels) (now metres) h) ⌝ ∗ ⌜ WalkGround lay ctx (now t) (length (now distances)) (length (now patterns)) ⌝ ∗ ⌜ StopsListed lay (now work) n ⌝ }
+    ensures { λ r. ⌜ Step lay stamp (WalksAgree lay ctx (now (t .entry)) (now (distances .entry)) (now (patterns .entry)) (now (work .entry))) (λ T Q. walkAll T Q (ctx .flagged) stamp (part (now (work .entry)) (lay .other) n)) (memory (now (work .entry)) (now (labels .entry)) (now (metres .entry)) h) (memory (now (work .exit)) (now (labels .exit)) (now (metres .exit)) r) ⌝ ∗ ⌜ Falls lay (now (work .entry)) (now (work .exit)) ⌝ }
 {
     let mut g = h;
     let mut i: usize = 0;
@@ -171,7 +171,7 @@ fn walk_all(
         let v = work[x];
         g = walk_from(
             lay,
-            rules,
+            ctx,
             stamp,
             x,
             v,
@@ -221,8 +221,7 @@ fn append_stamped(lay: Lay, stamp: u32, n: usize, work: &mut [u32], count: usize
 // THE WALK PHASE of a round: walks from the stops that the ride phase left in the list, and the stops for the next round in the other
 // one: those reached on foot and, unflagged, after them those reached by transit.
 pub fn walk_phase(
-    lay: Lay,
-    rules: Rules,
+    ctx: Context,
     stamp: u32,
     t: &[u32],
     distances: &[f64],
@@ -232,15 +231,15 @@ pub fn walk_phase(
     metres: &mut [f64],
     h: Head,
 ) -> Head
-    requires { ⌜ Ready lay stamp (memory (now work) (now labels) (now metres) h) ⌝ ∗ ⌜ WalkGround lay rules (now t) (length (now distances)) (length (now patterns)) ⌝ ∗ ⌜ StopsListed (turned lay) (now work) (h .count) ⌝ }
-    ensures { λ r. ⌜ WalkPhase lay (rules .flagged) stamp (WalksAgree lay rules (now (t .entry)) (now (distances .entry)) (now (patterns .entry)) (now (work .entry))) (memory (now (work .entry)) (now (labels .entry)) (now (metres .entry)) h) (memory (now (work .exit)) (now (labels .exit)) (now (metres .exit)) r) ⌝ }
+    requires { ⌜ Ready (ctx .lay) stamp (memory (now work) (now labels) (now metres) h) ⌝ ∗ ⌜ WalkGround (ctx .lay) ctx (now t) (length (now distances)) (length (now patterns)) ⌝ ∗ ⌜ StopsListed (turned (ctx .lay)) (now work) (h .count) ⌝ }
+    ensures { λ r. ⌜ WalkPhase (ctx .lay) (ctx .flagged) stamp (WalksAgree (ctx .lay) ctx (now (t .entry)) (now (distances .entry)) (now (patterns .entry)) (now (work .entry))) (memory (now (work .entry)) (now (labels .entry)) (now (metres .entry)) h) (memory (now (work .exit)) (now (labels .exit)) (now (metres .exit)) r) ⌝ }
 {
     let back = Lay {
-        stops: lay.stops,
-        trips: lay.trips,
-        lines: lay.lines,
-        list: lay.other,
-        other: lay.list,
+        stops: ctx.lay.stops,
+        trips: ctx.lay.trips,
+        lines: ctx.lay.lines,
+        list: ctx.lay.other,
+        other: ctx.lay.list,
     };
     let n = h.count;
     let g = Head {
@@ -251,7 +250,7 @@ pub fn walk_phase(
     };
     let x = walk_all(
         back,
-        rules,
+        ctx,
         stamp,
         n,
         t,
@@ -262,7 +261,7 @@ pub fn walk_phase(
         metres,
         g,
     );
-    if rules.flagged {
+    if ctx.flagged {
         return x;
     }
     let count = append_stamped(back, stamp, n, work, x.count);

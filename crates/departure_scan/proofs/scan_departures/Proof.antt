@@ -16,24 +16,25 @@ use Prim.Native.Nat.{_-_, _/_, _+_}
 use Rattle.ride_step.proofs.Riding.{Riding, ride-end, ride-over, ride-start, ride-turn}
 use Rattle.ride_step.specs.Laid.{Rides}
 use Rattle.departure_scan.proofs.scan_departures.Statement.{statement}
+use Rattle.query_types.specs.Slices.{slices}
 use Rattle.departure_scan.proofs.scan_departures.Tie as tie
 
 abbrev Inv-loop : tie.InvT-loop
-Inv-loop t rows stop-rows built bytes area p has-freq x after list work₀ labels₀ distances₀ queue₀ m g₀ i₀ work labels distances queue g i =
-    (m ≡ length list / 2) × Riding (p .lay) (p .stamp) (Rides (p .counts) t rows stop-rows built bytes area (p .net) (p .lay) work₀) (λ T Q. scanDepartures T Q (p .flagged) has-freq (p .stamp - 2) (p .stamp) x after (rowsOf list (length list / 2))) (λ T Q. scanFrom T Q (p .flagged) has-freq (p .stamp - 2) (p .stamp) x after list (length list / 2) i) (memory work₀ labels₀ distances₀ g₀) (memory work labels distances g) queue₀ queue
+Inv-loop t rows stop-rows built bytes area p at list work₀ labels₀ distances₀ queue₀ m g₀ i₀ work labels distances queue g i =
+    (m ≡ length list / 2) × Riding (p .context .lay) (p .stamp) (Rides (p .context) (slices t rows stop-rows built bytes area) work₀) (λ T Q. scanDepartures T Q (p .context .flagged) (at .«has_freq») (p .stamp - 2) (p .stamp) (at .stop) (at .after) (rowsOf list (length list / 2))) (λ T Q. scanFrom T Q (p .context .flagged) (at .«has_freq») (p .stamp - 2) (p .stamp) (at .stop) (at .after) list (length list / 2) i) (memory work₀ labels₀ distances₀ g₀) (memory work labels distances g) queue₀ queue
 
 abbrev μ-loop : tie.MeasureT-loop
-μ-loop t rows stop-rows built bytes area p has-freq x after list work₀ labels₀ distances₀ queue₀ m g₀ i₀ work labels distances queue g i =
+μ-loop t rows stop-rows built bytes area p at list work₀ labels₀ distances₀ queue₀ m g₀ i₀ work labels distances queue g i =
     m - i
 
 loop-holds : tie.Need-loop-holds Inv-loop μ-loop
-loop-holds c = let a = c .before .before .before .before .before .before .before .before .before .before .before in let x = a .args in let G = a .pre .0 in (refl, ride-start _ _ _ _ (G .ready) (G .chains) (G .room) (λ T Q y s. from-start T Q (x .p .flagged) (x .has-freq) (x .p .stamp - 2) (x .p .stamp) (x .x) (x .after) (now (x .list)) (length (now (x .list)) / 2) s))
+loop-holds c = let a = c .before .before .before .before .before .before .before .before .before .before .before in let x = a .args in let G = a .pre .0 in (refl, ride-start _ _ _ _ (G .ready) (G .chains) (G .room) (λ T Q y s. from-start T Q (x .p .context .flagged) (x .at .«has_freq») (x .p .stamp - 2) (x .p .stamp) (x .at .stop) (x .at .after) (now (x .list)) (length (now (x .list)) / 2) s))
 
 departure-row-requires : tie.Need-departure-row-requires Inv-loop μ-loop
 departure-row-requires c κs = omega (arith, c .loop-test .taken, c .before .loop .inv .0)
 
 too-late-requires : tie.Need-too-late-requires Inv-loop μ-loop
-too-late-requires c κs = let a = c .before .before .before .before .before .before .before .before .before .before .before .before .before .before in let x = a .args in let G = a .pre .0 in let p = c .before .before .loop .inv .1 in let K = a .pre .1 .0 in let e = K .known (c .before .before .loop .i) (omega (arith, c .before .loop-test .taken, c .before .before .loop .inv .0)) in (G .laid .netted .ground .sane, subst (λ (z : DepartureRow). Event (now (x .t)) (x .p .counts .timetable) (z .trip) (z .offset)) (sym (c .departure-row .ensures)) (record { trip = e .trip; offset = e .offset }))
+too-late-requires c κs = let a = c .before .before .before .before .before .before .before .before .before .before .before .before .before .before in let x = a .args in let G = a .pre .0 in let p = c .before .before .loop .inv .1 in let K = a .pre .1 .0 in let e = K .known (c .before .before .loop .i) (omega (arith, c .before .loop-test .taken, c .before .before .loop .inv .0)) in (G .laid .netted .ground .sane, subst (λ (z : DepartureRow). Event (now (x .t)) (x .p .context .counts .timetable) (z .trip) (z .offset)) (sym (c .departure-row .ensures)) (record { trip = e .trip; offset = e .offset }))
 
 same-length : tie.Need-same-length Inv-loop μ-loop
 same-length c = let a = c .before .before .before .before .before .before .before .before .before .before .before .before .before .before .before .before in let x = a .args in let G = a .pre .0 in let p = c .before .before .before .before .loop .inv .1 in p .kept .size
@@ -48,10 +49,10 @@ same-length-4 : tie.Need-same-length-4 Inv-loop μ-loop
 same-length-4 c = let a = c .before .before .before .before .before .before .before .before .before .before .before .before .before .before .before .before in let x = a .args in let G = a .pre .0 in let p = c .before .before .before .before .loop .inv .1 in p .size
 
 returns : tie.Need-returns Inv-loop μ-loop
-returns c = let a = c .before .before .before .before .before .before .before .before .before .before .before .before .before .before .before .before in let x = a .args in let G = a .pre .0 in let p = c .before .before .before .before .loop .inv .1 in ride-end _ p (λ T Q y s v. from-late T Q (x .p .flagged) (x .has-freq) (x .p .stamp - 2) (x .p .stamp) (x .x) (x .after) (now (x .list)) (length (now (x .list)) / 2) (c .before .before .before .before .loop .i) s (omega (arith, c .before .before .before .loop-test .taken, c .before .before .before .before .loop .inv .0)) (c .before .before .departure-row .result) (c .before .before .departure-row .ensures) (late-seen v (x .has-freq) _ _ (c .before .too-late .result) true (c .before .too-late .ensures T Q (y .nets .agree .timetable) (y .nets .asks)) (c .if1 .taken)))
+returns c = let a = c .before .before .before .before .before .before .before .before .before .before .before .before .before .before .before .before in let x = a .args in let G = a .pre .0 in let p = c .before .before .before .before .loop .inv .1 in ride-end _ p (λ T Q y s v. from-late T Q (x .p .context .flagged) (x .at .«has_freq») (x .p .stamp - 2) (x .p .stamp) (x .at .stop) (x .at .after) (now (x .list)) (length (now (x .list)) / 2) (c .before .before .before .before .loop .i) s (omega (arith, c .before .before .before .loop-test .taken, c .before .before .before .before .loop .inv .0)) (c .before .before .departure-row .result) (c .before .before .departure-row .ensures) (late-seen v (x .at .«has_freq») _ _ (c .before .too-late .result) true (c .before .too-late .ensures T Q (y .nets .agree .timetable) (y .nets .asks)) (c .if1 .taken)))
 
 take-departure-requires : tie.Need-take-departure-requires Inv-loop μ-loop
-take-departure-requires c κs = let a = c .before .before .before .before .before .before .before .before .before .before .before .before .before .before .before .before .before .before .before .before in let x = a .args in let G = a .pre .0 in let p = c .before .before .before .before .before .before .before .before .loop .inv .1 in let K = a .pre .1 .0 in let e = K .known (c .before .before .before .before .before .before .before .before .loop .i) (omega (arith, c .before .before .before .before .before .before .before .loop-test .taken, c .before .before .before .before .before .before .before .before .loop .inv .0)) in (going-on G p, (subst (λ (z : DepartureRow). Event (now (x .t)) (x .p .counts .timetable) (z .trip) (z .offset)) (sym (c .before .before .before .before .before .before .departure-row .ensures)) (record { trip = e .trip; offset = e .offset }), a .pre .1 .1))
+take-departure-requires c κs = let a = c .before .before .before .before .before .before .before .before .before .before .before .before .before .before .before .before .before .before .before .before in let x = a .args in let G = a .pre .0 in let p = c .before .before .before .before .before .before .before .before .loop .inv .1 in let K = a .pre .1 .0 in let e = K .known (c .before .before .before .before .before .before .before .before .loop .i) (omega (arith, c .before .before .before .before .before .before .before .loop-test .taken, c .before .before .before .before .before .before .before .before .loop .inv .0)) in (going-on G p, (subst (λ (z : DepartureRow). Event (now (x .t)) (x .p .context .counts .timetable) (z .trip) (z .offset)) (sym (c .before .before .before .before .before .before .departure-row .ensures)) (record { trip = e .trip; offset = e .offset }), a .pre .1 .1))
 
 same-length-5 : tie.Need-same-length-5 Inv-loop μ-loop
 same-length-5 c = let a = c .before .before .before .before .before .before .before .before .before .before .before .before .before .before .before .before .before .before .before .before .before .before .before .before .before .before .before .before .before .before in let x = a .args in let G = a .pre .0 in let p = c .before .before .before .before .before .before .before .before .before .before .before .before .before .before .before .before .before .before .loop .inv .1 in let z = c .before .before .before .before .before .before .before .before .before .take-departure .ensures in z .step .kept .size ∙ p .kept .size
@@ -66,7 +67,7 @@ same-length-8 : tie.Need-same-length-8 Inv-loop μ-loop
 same-length-8 c = let a = c .before .before .before .before .before .before .before .before .before .before .before .before .before .before .before .before .before .before .before .before .before .before .before .before .before .before .before .before .before .before in let x = a .args in let G = a .pre .0 in let p = c .before .before .before .before .before .before .before .before .before .before .before .before .before .before .before .before .before .before .loop .inv .1 in let z = c .before .before .before .before .before .before .before .before .before .take-departure .ensures in z .step .size ∙ p .size
 
 returns-2 : tie.Need-returns-2 Inv-loop μ-loop
-returns-2 c = let a = c .before .before .before .before .before .before .before .before .before .before .before .before .before .before .before .before .before .before .before .before .before .before .before .before .before .before .before .before .before .before in let x = a .args in let G = a .pre .0 in let p = c .before .before .before .before .before .before .before .before .before .before .before .before .before .before .before .before .before .before .loop .inv .1 in let z = c .before .before .before .before .before .before .before .before .before .take-departure .ensures in ride-over (λ T Q. scanFrom T Q (x .p .flagged) (x .has-freq) (x .p .stamp - 2) (x .p .stamp) (x .x) (x .after) (now (x .list)) (length (now (x .list)) / 2) (c .before .before .before .before .before .before .before .before .before .before .before .before .before .before .before .before .before .before .loop .i + 1)) p z (λ T Q y. rides-kept (G .laid) (p .kept) y) (λ T Q y s v. from-turn T Q (x .p .flagged) (x .has-freq) (x .p .stamp - 2) (x .p .stamp) (x .x) (x .after) (now (x .list)) (length (now (x .list)) / 2) (c .before .before .before .before .before .before .before .before .before .before .before .before .before .before .before .before .before .before .loop .i) s (omega (arith, c .before .before .before .before .before .before .before .before .before .before .before .before .before .before .before .before .before .loop-test .taken, c .before .before .before .before .before .before .before .before .before .before .before .before .before .before .before .before .before .before .loop .inv .0)) (c .before .before .before .before .before .before .before .before .before .before .before .before .before .before .before .before .departure-row .result) (c .before .before .before .before .before .before .before .before .before .before .before .before .before .before .before .before .departure-row .ensures) (late-seen v (x .has-freq) _ _ (c .before .before .before .before .before .before .before .before .before .before .before .before .before .before .before .too-late .result) false (c .before .before .before .before .before .before .before .before .before .before .before .before .before .before .before .too-late .ensures T Q (y .nets .agree .timetable) (y .nets .asks)) (c .before .before .before .before .before .before .before .before .before .before .before .before .before .before .if1 .left))) (c .if2 .taken) (λ T Q s. departures-later T Q (x .p .flagged) (x .has-freq) (x .p .stamp - 2) (x .p .stamp) (x .x) (x .after) _ s .queue)
+returns-2 c = let a = c .before .before .before .before .before .before .before .before .before .before .before .before .before .before .before .before .before .before .before .before .before .before .before .before .before .before .before .before .before .before in let x = a .args in let G = a .pre .0 in let p = c .before .before .before .before .before .before .before .before .before .before .before .before .before .before .before .before .before .before .loop .inv .1 in let z = c .before .before .before .before .before .before .before .before .before .take-departure .ensures in ride-over (λ T Q. scanFrom T Q (x .p .context .flagged) (x .at .«has_freq») (x .p .stamp - 2) (x .p .stamp) (x .at .stop) (x .at .after) (now (x .list)) (length (now (x .list)) / 2) (c .before .before .before .before .before .before .before .before .before .before .before .before .before .before .before .before .before .before .loop .i + 1)) p z (λ T Q y. rides-kept (G .laid) (p .kept) y) (λ T Q y s v. from-turn T Q (x .p .context .flagged) (x .at .«has_freq») (x .p .stamp - 2) (x .p .stamp) (x .at .stop) (x .at .after) (now (x .list)) (length (now (x .list)) / 2) (c .before .before .before .before .before .before .before .before .before .before .before .before .before .before .before .before .before .before .loop .i) s (omega (arith, c .before .before .before .before .before .before .before .before .before .before .before .before .before .before .before .before .before .loop-test .taken, c .before .before .before .before .before .before .before .before .before .before .before .before .before .before .before .before .before .before .loop .inv .0)) (c .before .before .before .before .before .before .before .before .before .before .before .before .before .before .before .before .departure-row .result) (c .before .before .before .before .before .before .before .before .before .before .before .before .before .before .before .before .departure-row .ensures) (late-seen v (x .at .«has_freq») _ _ (c .before .before .before .before .before .before .before .before .before .before .before .before .before .before .before .too-late .result) false (c .before .before .before .before .before .before .before .before .before .before .before .before .before .before .before .too-late .ensures T Q (y .nets .agree .timetable) (y .nets .asks)) (c .before .before .before .before .before .before .before .before .before .before .before .before .before .before .if1 .left))) (c .if2 .taken) (λ T Q s. departures-later T Q (x .p .context .flagged) (x .at .«has_freq») (x .p .stamp - 2) (x .p .stamp) (x .at .stop) (x .at .after) _ s .queue)
 
 add-i : tie.Need-add-i Inv-loop μ-loop
 add-i c = let a = c .before .before .before .before .before .before .before .before .before .before .before .before .before .before .before .before .before .before .before .before .before .before .before .before .before .before .before .before .before .before in let K = a .pre .1 .0 in omega (arith, K .few, c .before .before .before .before .before .before .before .before .before .before .before .before .before .before .before .before .before .loop-test .taken, c .before .before .before .before .before .before .before .before .before .before .before .before .before .before .before .before .before .before .loop .inv .0)
@@ -75,7 +76,7 @@ loop-less : tie.Need-loop-less Inv-loop μ-loop
 loop-less c = omega arith
 
 loop-again : tie.Need-loop-again Inv-loop μ-loop
-loop-again c = let a = c .before .before .before .before .before .before .before .before .before .before .before .before .before .before .before .before .before .before .before .before .before .before .before .before .before .before .before .before .before .before in let x = a .args in let G = a .pre .0 in let p = c .before .before .before .before .before .before .before .before .before .before .before .before .before .before .before .before .before .before .loop .inv .1 in let z = c .before .before .before .before .before .before .before .before .before .take-departure .ensures in (c .before .before .before .before .before .before .before .before .before .before .before .before .before .before .before .before .before .before .loop .inv .0, ride-turn _ p z (λ T Q y. rides-kept (G .laid) (p .kept) y) (λ T Q y s v. from-turn T Q (x .p .flagged) (x .has-freq) (x .p .stamp - 2) (x .p .stamp) (x .x) (x .after) (now (x .list)) (length (now (x .list)) / 2) (c .before .before .before .before .before .before .before .before .before .before .before .before .before .before .before .before .before .before .loop .i) s (omega (arith, c .before .before .before .before .before .before .before .before .before .before .before .before .before .before .before .before .before .loop-test .taken, c .before .before .before .before .before .before .before .before .before .before .before .before .before .before .before .before .before .before .loop .inv .0)) (c .before .before .before .before .before .before .before .before .before .before .before .before .before .before .before .before .departure-row .result) (c .before .before .before .before .before .before .before .before .before .before .before .before .before .before .before .before .departure-row .ensures) (late-seen v (x .has-freq) _ _ (c .before .before .before .before .before .before .before .before .before .before .before .before .before .before .before .too-late .result) false (c .before .before .before .before .before .before .before .before .before .before .before .before .before .before .before .too-late .ensures T Q (y .nets .agree .timetable) (y .nets .asks)) (c .before .before .before .before .before .before .before .before .before .before .before .before .before .before .if1 .left))) (c .if2 .left))
+loop-again c = let a = c .before .before .before .before .before .before .before .before .before .before .before .before .before .before .before .before .before .before .before .before .before .before .before .before .before .before .before .before .before .before in let x = a .args in let G = a .pre .0 in let p = c .before .before .before .before .before .before .before .before .before .before .before .before .before .before .before .before .before .before .loop .inv .1 in let z = c .before .before .before .before .before .before .before .before .before .take-departure .ensures in (c .before .before .before .before .before .before .before .before .before .before .before .before .before .before .before .before .before .before .loop .inv .0, ride-turn _ p z (λ T Q y. rides-kept (G .laid) (p .kept) y) (λ T Q y s v. from-turn T Q (x .p .context .flagged) (x .at .«has_freq») (x .p .stamp - 2) (x .p .stamp) (x .at .stop) (x .at .after) (now (x .list)) (length (now (x .list)) / 2) (c .before .before .before .before .before .before .before .before .before .before .before .before .before .before .before .before .before .before .loop .i) s (omega (arith, c .before .before .before .before .before .before .before .before .before .before .before .before .before .before .before .before .before .loop-test .taken, c .before .before .before .before .before .before .before .before .before .before .before .before .before .before .before .before .before .before .loop .inv .0)) (c .before .before .before .before .before .before .before .before .before .before .before .before .before .before .before .before .departure-row .result) (c .before .before .before .before .before .before .before .before .before .before .before .before .before .before .before .before .departure-row .ensures) (late-seen v (x .at .«has_freq») _ _ (c .before .before .before .before .before .before .before .before .before .before .before .before .before .before .before .too-late .result) false (c .before .before .before .before .before .before .before .before .before .before .before .before .before .before .before .too-late .ensures T Q (y .nets .agree .timetable) (y .nets .asks)) (c .before .before .before .before .before .before .before .before .before .before .before .before .before .before .if1 .left))) (c .if2 .left))
 
 same-length-9 : tie.Need-same-length-9 Inv-loop μ-loop
 same-length-9 c = let a = c .before .before .before .before .before .before .before .before .before .before .before .before .before in let x = a .args in let G = a .pre .0 in let p = c .before .loop .inv .1 in p .kept .size
@@ -90,7 +91,7 @@ same-length-12 : tie.Need-same-length-12 Inv-loop μ-loop
 same-length-12 c = let a = c .before .before .before .before .before .before .before .before .before .before .before .before .before in let x = a .args in let G = a .pre .0 in let p = c .before .loop .inv .1 in p .size
 
 returns-3 : tie.Need-returns-3 Inv-loop μ-loop
-returns-3 c = let a = c .before .before .before .before .before .before .before .before .before .before .before .before .before in let x = a .args in let G = a .pre .0 in let p = c .before .loop .inv .1 in ride-end _ p (λ T Q y s v. from-end T Q (x .p .flagged) (x .has-freq) (x .p .stamp - 2) (x .p .stamp) (x .x) (x .after) (now (x .list)) (length (now (x .list)) / 2) (c .before .loop .i) s (omega (arith, c .loop-test .left, c .before .loop .inv .0)))
+returns-3 c = let a = c .before .before .before .before .before .before .before .before .before .before .before .before .before in let x = a .args in let G = a .pre .0 in let p = c .before .loop .inv .1 in ride-end _ p (λ T Q y s v. from-end T Q (x .p .context .flagged) (x .at .«has_freq») (x .p .stamp - 2) (x .p .stamp) (x .at .stop) (x .at .after) (now (x .list)) (length (now (x .list)) / 2) (c .before .loop .i) s (omega (arith, c .loop-test .left, c .before .loop .inv .0)))
 
 pub scan-departures-spec : {M : Type 1} → statement M
 scan-departures-spec =

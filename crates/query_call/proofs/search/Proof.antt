@@ -23,8 +23,11 @@ in-use-requires c κs = flagging (c .before .before .before .before .before .bef
 begin-requires : tie.Need-begin-requires
 begin-requires c κs = let A = c .before .before .before .before .before .before .before .before .before .before .before .before .before .before .before .before .before .before .pre .admitted in (askable A, (c .before .before .before .before .before .before .lay-of .ensures, sized-at A (c .before .before .before .before .before .before .lay-of .ensures)))
 
+shared-slice-read-change : tie.Need-shared-slice-read-change
+shared-slice-read-change c = omega (arith, c .before .before .before .before .before .before .before .before .before .before .before .before .before .before .before .before .before .before .before .before .before .before .before .before .before .before .pre .admitted .sized .queryIs)
+
 rounds-requires : tie.Need-rounds-requires
-rounds-requires c κs = let A = c .before .before .before .before .before .before .before .before .before .before .before .before .before .before .before .before .before .before .before .before .before .before .before .before .before .before .before .before .before .before .pre .admitted in started A (c .before .before .before .before .before .before .before .before .before .before .before .before .before .before .before .before .before .net-of .ensures _ _ A (lends A)) (c .before .before .before .before .before .before .before .before .before .before .before .before .before .before .before .before .before .before .lay-of .ensures) (c .before .before .before .before .before .before .before .before .before .before .before .begin .ensures _ _ A (lends A)) (search needs)
+rounds-requires c κs = let A = c .before .before .before .before .before .before .before .before .before .before .before .before .before .before .before .before .before .before .before .before .before .before .before .before .before .before .before .before .before .before .before .pre .admitted in started A (c .before .before .before .before .before .before .before .before .before .before .before .before .before .before .before .before .before .before .net-of .ensures _ _ A (lends A)) (c .before .before .before .before .before .before .before .before .before .before .before .before .begin .ensures _ _ A (lends A) _) (search needs)
 
 same-length : tie.Need-same-length
 same-length c = search needs
@@ -42,7 +45,7 @@ same-length-5 : tie.Need-same-length-5
 same-length-5 c = search needs
 
 returns : tie.Need-returns
-returns c = let s = c .before .before .before .before .before .before .before .before .before .before .before .before .before .before .before .before .before .before .before .before .before .before .before .before .before .before .before .before .before .before .before .before .before .before .before .before .before .before .before .before .before in let A = s .pre .admitted in ended (s .args .rust) (c .before .before .before .before .before .before .before .before .before .before .rounds .ensures) (c .before .before .before .before .before .before .before .before .before .before .before .before .before .before .before .before .before .before .before .before .before .before .before .before .before .before .in-use .ensures (now (s .args .distances)) (now (s .args .q)) (c .before .before .before .before .before .before .before .before .before .before .before .before .before .before .before .before .before .before .before .before .before .before .before .before .before .before .before .before .net-of .ensures _ _ A (lends A)) (ap (λ (v : ℕ). eqb v 1) (sym (c .before .before .before .before .before .before .before .before .before .before .before .before .before .before .before .before .before .before .before .before .before .before .before .before .before .before .before .field .ensures .0)))) (c .before .before .before .before .before .before .before .before .before .before .before .before .before .before .before .before .before .before .before .before .before .before .before .before .before .before .before .before .before .lay-of .ensures)
+returns c = let s = c .before .before .before .before .before .before .before .before .before .before .before .before .before .before .before .before .before .before .before .before .before .before .before .before .before .before .before .before .before .before .before .before .before .before .before .before .before .before .before .before .before .before in let A = s .pre .admitted in ended (s .args .rust) (c .before .before .before .before .before .before .before .before .before .before .rounds .ensures) (c .before .before .before .before .before .before .before .before .before .before .before .before .before .before .before .before .before .before .before .before .before .before .before .before .before .before .before .in-use .ensures (now (s .args .distances)) (now (s .args .q)) (c .before .before .before .before .before .before .before .before .before .before .before .before .before .before .before .before .before .before .before .before .before .before .before .before .before .before .before .before .before .net-of .ensures _ _ A (lends A)) (ap (λ (v : ℕ). eqb v 1) (sym (c .before .before .before .before .before .before .before .before .before .before .before .before .before .before .before .before .before .before .before .before .before .before .before .before .before .before .before .before .field .ensures .0)))) (c .before .before .before .before .before .before .before .before .before .before .before .before .before .before .before .before .before .before .before .before .before .before .before .before .before .before .before .before .before .before .lay-of .ensures)
 
 pub search-spec : {M : Type 1} → statement M
 search-spec =
@@ -53,6 +56,7 @@ search-spec =
     field-requires
     in-use-requires
     begin-requires
+    shared-slice-read-change
     rounds-requires
     same-length
     same-length-2

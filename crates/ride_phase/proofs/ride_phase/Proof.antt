@@ -8,7 +8,7 @@ ridden-requires : tie.Need-ridden-requires
 ridden-requires c κs = search needs
 
 ride-segments-requires : tie.Need-ride-segments-requires
-ride-segments-requires c κs = let a = c .before .before .before .before .before .before .before .before .before .before .before .before .before .before .before .before in let x = a .args in let L = a .pre .0 in let O = a .pre .1 in (going-first L O _, segments-first L O (x .p .flagged) (c .before .before .before .before .ridden .result) (c .before .before .before .before .ridden .ensures))
+ride-segments-requires c κs = let a = c .before .before .before .before .before .before .before .before .before .before .before .before .before .before .before .before in let x = a .args in let L = a .pre .0 in let O = a .pre .1 in (going-first L O _, segments-first L O (x .p .context .flagged) (c .before .before .before .before .ridden .result) (c .before .before .before .before .ridden .ensures))
 
 same-length : tie.Need-same-length
 same-length c = c .before .before .before .before .before .before .before .before .before .ride-segments .ensures .step .kept .size
@@ -23,10 +23,10 @@ same-length-4 : tie.Need-same-length-4
 same-length-4 c = c .before .before .before .before .before .before .before .before .before .ride-segments .ensures .step .size
 
 returns : tie.Need-returns
-returns c = let a = c .before .before .before .before .before .before .before .before .before .before .before .before .before .before .before .before .before .before .before .before .before .before .before .before .before .before in let x = a .args in let L = a .pre .0 in let O = a .pre .1 in phase-is-ride L O (x .p .flagged) (phase-over L O (x .p .flagged) (c .before .before .before .before .before .before .before .before .before .before .before .before .before .before .ridden .result) (c .before .before .before .before .before .before .before .before .before .before .before .before .before .before .ridden .ensures) (c .before .before .before .before .before .before .before .before .before .ride-segments .ensures) (c .if1 .taken))
+returns c = let a = c .before .before .before .before .before .before .before .before .before .before .before .before .before .before .before .before .before .before .before .before .before .before .before .before .before .before in let x = a .args in let L = a .pre .0 in let O = a .pre .1 in phase-is-ride L O (x .p .context .flagged) (phase-over L O (x .p .context .flagged) (c .before .before .before .before .before .before .before .before .before .before .before .before .before .before .ridden .result) (c .before .before .before .before .before .before .before .before .before .before .before .before .before .before .ridden .ensures) (c .before .before .before .before .before .before .before .before .before .ride-segments .ensures) (c .if1 .taken))
 
 scan-stops-requires : tie.Need-scan-stops-requires
-scan-stops-requires c κs = let a = c .before .before .before .before .before .before .before .before .before .before .before .before .before .before .before .before .before .before .before .before .before .before .before .before .before .before .before .before .before .before in let x = a .args in let L = a .pre .0 in let O = a .pre .1 in (going-then L O (x .p .flagged) (c .before .before .before .before .before .before .before .before .before .before .before .before .before .before .before .before .before .before .ridden .result) (c .before .before .before .before .before .before .before .before .before .before .before .before .before .before .before .before .before .before .ridden .ensures) (c .before .before .before .before .before .before .before .before .before .before .before .before .before .ride-segments .ensures) (c .before .before .before .before .if1 .left), (waiting-then L O (x .p .flagged) (c .before .before .before .before .before .before .before .before .before .before .before .before .before .before .before .before .before .before .ridden .result) (c .before .before .before .before .before .before .before .before .before .before .before .before .before .before .before .before .before .before .ridden .ensures) (c .before .before .before .before .before .before .before .before .before .before .before .before .before .ride-segments .ensures) (c .before .before .before .before .if1 .left), O .small))
+scan-stops-requires c κs = let a = c .before .before .before .before .before .before .before .before .before .before .before .before .before .before .before .before .before .before .before .before .before .before .before .before .before .before .before .before .before .before in let x = a .args in let L = a .pre .0 in let O = a .pre .1 in (going-then L O (x .p .context .flagged) (c .before .before .before .before .before .before .before .before .before .before .before .before .before .before .before .before .before .before .ridden .result) (c .before .before .before .before .before .before .before .before .before .before .before .before .before .before .before .before .before .before .ridden .ensures) (c .before .before .before .before .before .before .before .before .before .before .before .before .before .ride-segments .ensures) (c .before .before .before .before .if1 .left), (waiting-then L O (x .p .context .flagged) (c .before .before .before .before .before .before .before .before .before .before .before .before .before .before .before .before .before .before .ridden .result) (c .before .before .before .before .before .before .before .before .before .before .before .before .before .before .before .before .before .before .ridden .ensures) (c .before .before .before .before .before .before .before .before .before .before .before .before .before .ride-segments .ensures) (c .before .before .before .before .if1 .left), O .small))
 
 same-length-5 : tie.Need-same-length-5
 same-length-5 c = c .before .before .before .before .before .before .before .before .scan-stops .ensures .step .kept .size ∙ c .before .before .before .before .before .before .before .before .before .before .before .before .before .before .before .before .before .before .before .before .before .before .ride-segments .ensures .step .kept .size
@@ -41,7 +41,7 @@ same-length-8 : tie.Need-same-length-8
 same-length-8 c = c .before .before .before .before .before .before .before .before .scan-stops .ensures .step .size ∙ c .before .before .before .before .before .before .before .before .before .before .before .before .before .before .before .before .before .before .before .before .before .before .ride-segments .ensures .step .size
 
 returns-2 : tie.Need-returns-2
-returns-2 c = let a = c .before .before .before .before .before .before .before .before .before .before .before .before .before .before .before .before .before .before .before .before .before .before .before .before .before .before .before .before .before .before .before .before .before .before .before .before .before .before .before in let x = a .args in let L = a .pre .0 in let O = a .pre .1 in phase-is-ride L O (x .p .flagged) (phase-then L O (x .p .flagged) (c .before .before .before .before .before .before .before .before .before .before .before .before .before .before .before .before .before .before .before .before .before .before .before .before .before .before .before .ridden .result) (c .before .before .before .before .before .before .before .before .before .before .before .before .before .before .before .before .before .before .before .before .before .before .before .before .before .before .before .ridden .ensures) (c .before .before .before .before .before .before .before .before .before .before .before .before .before .before .before .before .before .before .before .before .before .before .ride-segments .ensures) (c .before .before .before .before .before .before .before .before .before .before .before .before .before .if1 .left) (c .before .before .before .before .before .before .before .before .scan-stops .ensures))
+returns-2 c = let a = c .before .before .before .before .before .before .before .before .before .before .before .before .before .before .before .before .before .before .before .before .before .before .before .before .before .before .before .before .before .before .before .before .before .before .before .before .before .before .before in let x = a .args in let L = a .pre .0 in let O = a .pre .1 in phase-is-ride L O (x .p .context .flagged) (phase-then L O (x .p .context .flagged) (c .before .before .before .before .before .before .before .before .before .before .before .before .before .before .before .before .before .before .before .before .before .before .before .before .before .before .before .ridden .result) (c .before .before .before .before .before .before .before .before .before .before .before .before .before .before .before .before .before .before .before .before .before .before .before .before .before .before .before .ridden .ensures) (c .before .before .before .before .before .before .before .before .before .before .before .before .before .before .before .before .before .before .before .before .before .before .ride-segments .ensures) (c .before .before .before .before .before .before .before .before .before .before .before .before .before .if1 .left) (c .before .before .before .before .before .before .before .before .scan-stops .ensures))
 
 pub ride-phase-spec : {M : Type 1} → statement M
 ride-phase-spec =

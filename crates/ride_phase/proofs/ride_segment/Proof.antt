@@ -14,31 +14,31 @@ cast-permitted : tie.Need-cast-permitted
 cast-permitted c = search needs
 
 permitted-requires : tie.Need-permitted-requires
-permitted-requires c κs = let a = c .before .before .before .before .before .before .before .before .before .before .before .before .before .before .before in let x = a .args in let G = a .pre .0 in (G .laid .netted .ground .sane, segment-trip G (x .p .flagged) (x .p .stamp - 2) (x .k) (now (x .from)) (a .pre .1) (c .before .before .before .ride-of .result) (c .before .before .before .ride-of .ensures))
+permitted-requires c κs = let a = c .before .before .before .before .before .before .before .before .before .before .before .before .before .before in let x = a .args in let G = a .pre .0 in (G .laid .netted .ground .sane, segment-trip G (x .p .context .flagged) (x .p .stamp - 2) (x .k) (now (x .from)) (a .pre .1) (c .before .before .ride-of .result) (c .before .before .ride-of .ensures))
 
 returns : tie.Need-returns
-returns c = let a = c .before .before .before .before .before .before .before .before .before .before .before .before .before .before .before .before .before in let x = a .args in let G = a .pre .0 in segment-barred G (x .p .flagged) (x .p .stamp - 2) (x .k) (now (x .from)) (a .pre .1) (c .before .before .before .before .before .ride-of .result) (c .before .before .before .before .before .ride-of .ensures) (c .before .permitted .result) (c .before .permitted .ensures) (c .if1 .taken)
+returns c = let a = c .before .before .before .before .before .before .before .before .before .before .before .before .before .before .before .before in let x = a .args in let G = a .pre .0 in segment-barred G (x .p .context .flagged) (x .p .stamp - 2) (x .k) (now (x .from)) (a .pre .1) (c .before .before .before .before .ride-of .result) (c .before .before .before .before .ride-of .ensures) (c .before .permitted .result) (c .before .permitted .ensures) (c .if1 .taken)
 
 delay-of-requires : tie.Need-delay-of-requires
-delay-of-requires c κs = let a = c .before .before .before .before .before .before .before .before .before .before .before .before .before .before .before .before .before in let x = a .args in let G = a .pre .0 in G .laid .netted .ground .delayRows
+delay-of-requires c κs = let a = c .before .before .before .before .before .before .before .before .before .before .before .before .before .before .before .before in let x = a .args in let G = a .pre .0 in G .laid .netted .ground .delayRows
 
 scan-trip-forward-requires : tie.Need-scan-trip-forward-requires
-scan-trip-forward-requires c κs = let a = c .before .before .before .before .before .before .before .before .before .before .before .before .before .before .before .before .before .before .before .before .before .before .before in let x = a .args in let G = a .pre .0 in (G .laid .netted, (segment-riding G (x .p .flagged) (x .p .stamp - 2) (x .k) (now (x .from)) (a .pre .1) (c .before .before .before .before .before .before .before .before .before .before .before .ride-of .result) (c .before .before .before .before .before .before .before .before .before .before .before .ride-of .ensures) (c .before .before .before .before .before .delay-of .result) (c .before .before .before .before .before .delay-of .ensures .0), (segment-ready G (x .p .flagged) (x .p .stamp - 2) (x .k) (now (x .from)) (a .pre .1) (c .before .before .before .before .before .before .before .before .before .before .before .ride-of .result) (c .before .before .before .before .before .before .before .before .before .before .before .ride-of .ensures), G .room)))
+scan-trip-forward-requires c κs = let a = c .before .before .before .before .before .before .before .before .before .before .before .before .before .before .before .before .before .before .before .before .before .before in let x = a .args in let G = a .pre .0 in (G .laid .netted, (segment-riding G (x .p .context .flagged) (x .p .stamp - 2) (x .k) (now (x .from)) (a .pre .1) (c .before .before .before .before .before .before .before .before .before .before .ride-of .result) (c .before .before .before .before .before .before .before .before .before .before .ride-of .ensures) (c .before .before .before .before .before .delay-of .result) (c .before .before .before .before .before .delay-of .ensures .0), (segment-ready G (x .p .context .flagged) (x .p .stamp - 2) (x .k) (now (x .from)) (a .pre .1) (c .before .before .before .before .before .before .before .before .before .before .ride-of .result) (c .before .before .before .before .before .before .before .before .before .before .ride-of .ensures), G .room)))
 
 same-length : tie.Need-same-length
 same-length c = c .before .before .before .before .before .before .before .before .scan-trip-forward .ensures .same .size
 
 same-length-2 : tie.Need-same-length-2
-same-length-2 c = c .before .before .before .before .before .before .before .before .scan-trip-forward .ensures .ready .sized .rows ∙ sym (c .before .before .before .before .before .before .before .before .before .before .before .before .before .before .before .before .before .before .before .before .before .before .before .before .before .before .before .before .before .before .before .before .pre .0 .ready .sized .rows)
+same-length-2 c = c .before .before .before .before .before .before .before .before .scan-trip-forward .ensures .ready .sized .rows ∙ sym (c .before .before .before .before .before .before .before .before .before .before .before .before .before .before .before .before .before .before .before .before .before .before .before .before .before .before .before .before .before .before .before .pre .0 .ready .sized .rows)
 
 same-length-3 : tie.Need-same-length-3
-same-length-3 c = c .before .before .before .before .before .before .before .before .scan-trip-forward .ensures .ready .sized .metres ∙ sym (c .before .before .before .before .before .before .before .before .before .before .before .before .before .before .before .before .before .before .before .before .before .before .before .before .before .before .before .before .before .before .before .before .pre .0 .ready .sized .metres)
+same-length-3 c = c .before .before .before .before .before .before .before .before .scan-trip-forward .ensures .ready .sized .metres ∙ sym (c .before .before .before .before .before .before .before .before .before .before .before .before .before .before .before .before .before .before .before .before .before .before .before .before .before .before .before .before .before .before .before .pre .0 .ready .sized .metres)
 
 same-length-4 : tie.Need-same-length-4
 same-length-4 c = c .before .before .before .before .before .before .before .before .scan-trip-forward .ensures .size
 
 returns-2 : tie.Need-returns-2
-returns-2 c = let a = c .before .before .before .before .before .before .before .before .before .before .before .before .before .before .before .before .before .before .before .before .before .before .before .before .before .before .before .before .before .before .before .before in let x = a .args in let G = a .pre .0 in segment-ridden G (x .p .flagged) (x .p .stamp - 2) (x .k) (now (x .from)) (a .pre .1) (c .before .before .before .before .before .before .before .before .before .before .before .before .before .before .before .before .before .before .before .before .ride-of .result) (c .before .before .before .before .before .before .before .before .before .before .before .before .before .before .before .before .before .before .before .before .ride-of .ensures) (c .before .before .before .before .before .before .before .before .before .before .before .before .before .before .before .before .permitted .result) (c .before .before .before .before .before .before .before .before .before .before .before .before .before .before .before .before .permitted .ensures) (c .before .before .before .before .before .before .before .before .before .before .before .before .before .before .before .if1 .left) (c .before .before .before .before .before .before .before .before .before .before .before .before .before .before .delay-of .result) (c .before .before .before .before .before .before .before .before .before .before .before .before .before .before .delay-of .ensures .1) (c .before .before .before .before .before .before .before .before .scan-trip-forward .ensures)
+returns-2 c = let a = c .before .before .before .before .before .before .before .before .before .before .before .before .before .before .before .before .before .before .before .before .before .before .before .before .before .before .before .before .before .before .before in let x = a .args in let G = a .pre .0 in segment-ridden G (x .p .context .flagged) (x .p .stamp - 2) (x .k) (now (x .from)) (a .pre .1) (c .before .before .before .before .before .before .before .before .before .before .before .before .before .before .before .before .before .before .before .ride-of .result) (c .before .before .before .before .before .before .before .before .before .before .before .before .before .before .before .before .before .before .before .ride-of .ensures) (c .before .before .before .before .before .before .before .before .before .before .before .before .before .before .before .before .permitted .result) (c .before .before .before .before .before .before .before .before .before .before .before .before .before .before .before .before .permitted .ensures) (c .before .before .before .before .before .before .before .before .before .before .before .before .before .before .before .if1 .left) (c .before .before .before .before .before .before .before .before .before .before .before .before .before .before .delay-of .result) (c .before .before .before .before .before .before .before .before .before .before .before .before .before .before .delay-of .ensures .1) (c .before .before .before .before .before .before .before .before .scan-trip-forward .ensures)
 
 pub ride-segment-spec : {M : Type 1} → statement M
 ride-segment-spec =

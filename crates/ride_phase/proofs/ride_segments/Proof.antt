@@ -11,18 +11,19 @@ use Prim.Native.Nat.{_-_, _+_}
 use Rattle.ride_step.proofs.Riding.{Riding, ride-end, ride-over, ride-start, ride-turn}
 use Rattle.ride_step.specs.Laid.{Rides}
 use Rattle.ride_phase.proofs.ride_segments.Statement.{statement}
+use Rattle.query_types.specs.Slices.{slices}
 use Rattle.ride_phase.proofs.ride_segments.Tie as tie
 
 abbrev Inv-loop : tie.InvT-loop
 Inv-loop t rows stop-rows built bytes area p m from work₀ labels₀ distances₀ queue₀ g₀ k₀ work labels distances queue g k =
-    Riding (p .lay) (p .stamp) (Rides (p .counts) t rows stop-rows built bytes area (p .net) (p .lay) work₀) (λ T Q. rideSegments T Q (p .flagged) (p .stamp - 2) (p .stamp) (queueOf from m)) (λ T Q. segmentsFrom T Q (p .flagged) (p .stamp - 2) (p .stamp) from m k) (memory work₀ labels₀ distances₀ g₀) (memory work labels distances g) queue₀ queue
+    Riding (p .context .lay) (p .stamp) (Rides (p .context) (slices t rows stop-rows built bytes area) work₀) (λ T Q. rideSegments T Q (p .context .flagged) (p .stamp - 2) (p .stamp) (queueOf from m)) (λ T Q. segmentsFrom T Q (p .context .flagged) (p .stamp - 2) (p .stamp) from m k) (memory work₀ labels₀ distances₀ g₀) (memory work labels distances g) queue₀ queue
 
 abbrev μ-loop : tie.MeasureT-loop
 μ-loop t rows stop-rows built bytes area p m from work₀ labels₀ distances₀ queue₀ g₀ k₀ work labels distances queue g k =
     m - k
 
 loop-holds : tie.Need-loop-holds Inv-loop μ-loop
-loop-holds c = let a = c .before .before .before .before .before .before .before .before .before .before .before in let x = a .args in let G = a .pre .0 in ride-start _ _ _ _ (G .ready) (G .chains) (G .room) (λ T Q y s. segments-start T Q (x .p .flagged) (x .p .stamp - 2) (x .p .stamp) (now (x .from)) (x .m) s)
+loop-holds c = let a = c .before .before .before .before .before .before .before .before .before .before .before in let x = a .args in let G = a .pre .0 in ride-start _ _ _ _ (G .ready) (G .chains) (G .room) (λ T Q y s. segments-start T Q (x .p .context .flagged) (x .p .stamp - 2) (x .p .stamp) (now (x .from)) (x .m) s)
 
 ride-segment-requires : tie.Need-ride-segment-requires Inv-loop μ-loop
 ride-segment-requires c κs = let a = c .before .before .before .before .before .before .before .before .before .before .before .before .before .before .before .before .before in let x = a .args in let G = a .pre .0 in let p = c .before .before .before .before .before .loop .inv in (going-on G p, segments-fewer _ (a .pre .1) (omega (arith, c .before .before .before .before .loop-test .taken)))
@@ -40,7 +41,7 @@ same-length-4 : tie.Need-same-length-4 Inv-loop μ-loop
 same-length-4 c = let a = c .before .before .before .before .before .before .before .before .before .before .before .before .before .before .before .before .before .before .before .before .before .before .before .before .before .before .before in let x = a .args in let G = a .pre .0 in let p = c .before .before .before .before .before .before .before .before .before .before .before .before .before .before .before .loop .inv in let z = c .before .before .before .before .before .before .before .before .before .ride-segment .ensures in z .step .size ∙ p .size
 
 returns : tie.Need-returns Inv-loop μ-loop
-returns c = let a = c .before .before .before .before .before .before .before .before .before .before .before .before .before .before .before .before .before .before .before .before .before .before .before .before .before .before .before in let x = a .args in let G = a .pre .0 in let p = c .before .before .before .before .before .before .before .before .before .before .before .before .before .before .before .loop .inv in let z = c .before .before .before .before .before .before .before .before .before .ride-segment .ensures in ride-over (λ T Q. segmentsFrom T Q (x .p .flagged) (x .p .stamp - 2) (x .p .stamp) (now (x .from)) (x .m) (c .before .before .before .before .before .before .before .before .before .before .before .before .before .before .before .loop .k + 1)) p z (λ T Q y. rides-kept (G .laid) (p .kept) y) (λ T Q y s e. segments-turn T Q (x .p .flagged) (x .p .stamp - 2) (x .p .stamp) (now (x .from)) (x .m) (c .before .before .before .before .before .before .before .before .before .before .before .before .before .before .before .loop .k) s (c .before .before .before .before .before .before .before .before .before .before .before .before .before .before .loop-test .taken)) (c .if1 .taken) (λ T Q s. segments-later T Q (x .p .flagged) (x .p .stamp - 2) (x .p .stamp) _ s .queue)
+returns c = let a = c .before .before .before .before .before .before .before .before .before .before .before .before .before .before .before .before .before .before .before .before .before .before .before .before .before .before .before in let x = a .args in let G = a .pre .0 in let p = c .before .before .before .before .before .before .before .before .before .before .before .before .before .before .before .loop .inv in let z = c .before .before .before .before .before .before .before .before .before .ride-segment .ensures in ride-over (λ T Q. segmentsFrom T Q (x .p .context .flagged) (x .p .stamp - 2) (x .p .stamp) (now (x .from)) (x .m) (c .before .before .before .before .before .before .before .before .before .before .before .before .before .before .before .loop .k + 1)) p z (λ T Q y. rides-kept (G .laid) (p .kept) y) (λ T Q y s e. segments-turn T Q (x .p .context .flagged) (x .p .stamp - 2) (x .p .stamp) (now (x .from)) (x .m) (c .before .before .before .before .before .before .before .before .before .before .before .before .before .before .before .loop .k) s (c .before .before .before .before .before .before .before .before .before .before .before .before .before .before .loop-test .taken)) (c .if1 .taken) (λ T Q s. segments-later T Q (x .p .context .flagged) (x .p .stamp - 2) (x .p .stamp) _ s .queue)
 
 add-k : tie.Need-add-k Inv-loop μ-loop
 add-k c = let a = c .before .before .before .before .before .before .before .before .before .before .before .before .before .before .before .before .before .before .before .before .before .before .before .before .before .before .before in omega (arith, a .fits .m .fits, c .before .before .before .before .before .before .before .before .before .before .before .before .before .before .loop-test .taken)
@@ -49,7 +50,7 @@ loop-less : tie.Need-loop-less Inv-loop μ-loop
 loop-less c = omega arith
 
 loop-again : tie.Need-loop-again Inv-loop μ-loop
-loop-again c = let a = c .before .before .before .before .before .before .before .before .before .before .before .before .before .before .before .before .before .before .before .before .before .before .before .before .before .before .before in let x = a .args in let G = a .pre .0 in let p = c .before .before .before .before .before .before .before .before .before .before .before .before .before .before .before .loop .inv in let z = c .before .before .before .before .before .before .before .before .before .ride-segment .ensures in ride-turn _ p z (λ T Q y. rides-kept (G .laid) (p .kept) y) (λ T Q y s e. segments-turn T Q (x .p .flagged) (x .p .stamp - 2) (x .p .stamp) (now (x .from)) (x .m) (c .before .before .before .before .before .before .before .before .before .before .before .before .before .before .before .loop .k) s (c .before .before .before .before .before .before .before .before .before .before .before .before .before .before .loop-test .taken)) (c .if1 .left)
+loop-again c = let a = c .before .before .before .before .before .before .before .before .before .before .before .before .before .before .before .before .before .before .before .before .before .before .before .before .before .before .before in let x = a .args in let G = a .pre .0 in let p = c .before .before .before .before .before .before .before .before .before .before .before .before .before .before .before .loop .inv in let z = c .before .before .before .before .before .before .before .before .before .ride-segment .ensures in ride-turn _ p z (λ T Q y. rides-kept (G .laid) (p .kept) y) (λ T Q y s e. segments-turn T Q (x .p .context .flagged) (x .p .stamp - 2) (x .p .stamp) (now (x .from)) (x .m) (c .before .before .before .before .before .before .before .before .before .before .before .before .before .before .before .loop .k) s (c .before .before .before .before .before .before .before .before .before .before .before .before .before .before .loop-test .taken)) (c .if1 .left)
 
 same-length-5 : tie.Need-same-length-5 Inv-loop μ-loop
 same-length-5 c = let a = c .before .before .before .before .before .before .before .before .before .before .before .before .before in let x = a .args in let G = a .pre .0 in let p = c .before .loop .inv in p .kept .size
@@ -64,7 +65,7 @@ same-length-8 : tie.Need-same-length-8 Inv-loop μ-loop
 same-length-8 c = let a = c .before .before .before .before .before .before .before .before .before .before .before .before .before in let x = a .args in let G = a .pre .0 in let p = c .before .loop .inv in p .size
 
 returns-2 : tie.Need-returns-2 Inv-loop μ-loop
-returns-2 c = let a = c .before .before .before .before .before .before .before .before .before .before .before .before .before in let x = a .args in let G = a .pre .0 in let p = c .before .loop .inv in ride-end _ p (λ T Q y s e. segments-end T Q (x .p .flagged) (x .p .stamp - 2) (x .p .stamp) (now (x .from)) (x .m) (c .before .loop .k) s (c .loop-test .left))
+returns-2 c = let a = c .before .before .before .before .before .before .before .before .before .before .before .before .before in let x = a .args in let G = a .pre .0 in let p = c .before .loop .inv in ride-end _ p (λ T Q y s e. segments-end T Q (x .p .context .flagged) (x .p .stamp - 2) (x .p .stamp) (now (x .from)) (x .m) (c .before .loop .k) s (c .loop-test .left))
 
 pub ride-segments-spec : {M : Type 1} → statement M
 ride-segments-spec =

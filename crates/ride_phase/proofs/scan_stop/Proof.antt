@@ -17,7 +17,7 @@ add-after : tie.Need-add-after
 add-after c = let a = c .before .before .before .before .before .before .before .before .before .before .before .before in let x = a .args in let G = a .pre .0 in omega (arith, a .pre .1 .1 .0, a .pre .1 .1 .1)
 
 returns : tie.Need-returns
-returns c = let a = c .before .before .before .before .before .before .before .before .before .before .before .before .before .before in let x = a .args in let G = a .pre .0 in stop-late G (x .p .flagged) (x .p .stamp - 2) (x .p .change) (x .x) (a .pre .1 .0) (a .pre .1 .1 .0) (c .if1 .taken)
+returns c = let a = c .before .before .before .before .before .before .before .before .before .before .before .before .before .before in let x = a .args in let G = a .pre .0 in stop-late G (x .p .context .flagged) (x .p .stamp - 2) (x .p .change) (x .x) (a .pre .1 .0) (a .pre .1 .1 .0) (c .if1 .taken)
 
 marked-requires : tie.Need-marked-requires
 marked-requires c κs = let a = c .before .before .before .before .before .before .before .before .before .before .before .before .before .before in let x = a .args in let G = a .pre .0 in (G .laid .limits, (G .laid .long, a .pre .1 .0))
@@ -28,8 +28,8 @@ less-requires c κs = search needs
 departures-from-requires : tie.Need-departures-from-requires
 departures-from-requires c κs = let a = c .before .before .before .before .before .before .before .before .before .before .before .before .before .before .before .before in let x = a .args in let G = a .pre .0 in (G .laid .limits, (omega (arith, G .laid .long), (G .laid .listed .stops, (a .pre .1 .0, list-ordered (G .laid) (x .x) (a .pre .1 .0) _ refl))))
 
-cast-scan-departures : tie.Need-cast-scan-departures
-cast-scan-departures c = let a = c .before .before .before .before .before .before .before .before .before .before .before .before .before .before .before .before .before in let x = a .args in let G = a .pre .0 in let s = G .ready .sized .sections in omega (arith, a .pre .1 .0, G .laid .netted .stops, s .stops)
+cast-stop : tie.Need-cast-stop
+cast-stop c = let a = c .before .before .before .before .before .before .before .before .before .before .before .before .before .before .before .before .before in let x = a .args in let G = a .pre .0 in let s = G .ready .sized .sections in omega (arith, a .pre .1 .0, G .laid .netted .stops, s .stops)
 
 scan-departures-requires : tie.Need-scan-departures-requires
 scan-departures-requires c κs = let a = c .before .before .before .before .before .before .before .before .before .before .before .before .before .before .before .before .before .before .before .before .before in let x = a .args in let G = a .pre .0 in (G, (c .before .before .before .before .departures-from .ensures .0, omega (arith, a .pre .1 .1 .0, a .pre .1 .1 .1)))
@@ -47,7 +47,7 @@ same-length-4 : tie.Need-same-length-4
 same-length-4 c = c .before .before .before .before .before .before .before .before .scan-departures .ensures .step .size
 
 returns-2 : tie.Need-returns-2
-returns-2 c = let a = c .before .before .before .before .before .before .before .before .before .before .before .before .before .before .before .before .before .before .before .before .before .before .before .before .before .before .before .before .before .before in let x = a .args in let G = a .pre .0 in stop-scanned G (x .p .flagged) (x .p .stamp - 2) (x .p .change) (x .x) (a .pre .1 .0) (a .pre .1 .1 .0) (c .before .before .before .before .before .before .before .before .before .before .before .before .before .before .before .before .if1 .left) _ refl (c .before .before .before .before .before .before .before .before .before .before .before .before .before .before .before .marked .result) (c .before .before .before .before .before .before .before .before .before .before .before .before .before .before .before .marked .ensures) _ (c .before .before .before .before .before .before .before .before .before .before .before .before .before .before .less .ensures) (now (c .before .before .before .before .before .before .before .before .before .before .before .before .before .departures-from .result)) (c .before .before .before .before .before .before .before .before .before .before .before .before .before .departures-from .ensures .1) (c .before .before .before .before .before .before .before .before .scan-departures .ensures)
+returns-2 c = let a = c .before .before .before .before .before .before .before .before .before .before .before .before .before .before .before .before .before .before .before .before .before .before .before .before .before .before .before .before .before .before in let x = a .args in let G = a .pre .0 in stop-scanned G (x .p .context .flagged) (x .p .stamp - 2) (x .p .change) (x .x) (a .pre .1 .0) (a .pre .1 .1 .0) (c .before .before .before .before .before .before .before .before .before .before .before .before .before .before .before .before .if1 .left) _ refl (c .before .before .before .before .before .before .before .before .before .before .before .before .before .before .before .marked .result) (c .before .before .before .before .before .before .before .before .before .before .before .before .before .before .before .marked .ensures) _ (c .before .before .before .before .before .before .before .before .before .before .before .before .before .before .less .ensures) (now (c .before .before .before .before .before .before .before .before .before .before .before .before .before .departures-from .result)) (c .before .before .before .before .before .before .before .before .before .before .before .before .before .departures-from .ensures .1) (c .before .before .before .before .before .before .before .before .scan-departures .ensures)
 
 pub scan-stop-spec : {M : Type 1} → statement M
 scan-stop-spec =
@@ -60,7 +60,7 @@ scan-stop-spec =
     marked-requires
     less-requires
     departures-from-requires
-    cast-scan-departures
+    cast-stop
     scan-departures-requires
     same-length
     same-length-2

@@ -13,11 +13,12 @@ use Prim.Native.Nat.{_-_, _+_}
 use Rattle.ride_step.proofs.Riding.{Riding, ride-end, ride-over, ride-start, ride-turn}
 use Rattle.ride_step.specs.Going.{Changing}
 use Rattle.ride_phase.proofs.scan_stops.Statement.{statement}
+use Rattle.query_types.specs.Slices.{slices}
 use Rattle.ride_phase.proofs.scan_stops.Tie as tie
 
 abbrev Inv-loop : tie.InvT-loop
 Inv-loop t rows stop-rows built bytes area p count work₀ labels₀ distances₀ queue₀ g₀ i₀ work labels distances queue g i =
-    Riding (p .lay) (p .stamp) (Changing (p .counts) t rows stop-rows built bytes area (p .net) (p .lay) (p .stamp - 2) (p .change) work₀) (λ T Q. scanStops T Q (p .flagged) (p .stamp - 2) (p .stamp) (part work₀ (p .lay .other) count)) (λ T Q. scanStops T Q (p .flagged) (p .stamp - 2) (p .stamp) (drop i (part work₀ (p .lay .other) count))) (memory work₀ labels₀ distances₀ g₀) (memory work labels distances g) queue₀ queue
+    Riding (p .context .lay) (p .stamp) (Changing (p .context) (slices t rows stop-rows built bytes area) (p .stamp - 2) (p .change) work₀) (λ T Q. scanStops T Q (p .context .flagged) (p .stamp - 2) (p .stamp) (part work₀ (p .context .lay .other) count)) (λ T Q. scanStops T Q (p .context .flagged) (p .stamp - 2) (p .stamp) (drop i (part work₀ (p .context .lay .other) count))) (memory work₀ labels₀ distances₀ g₀) (memory work labels distances g) queue₀ queue
 
 abbrev μ-loop : tie.MeasureT-loop
 μ-loop t rows stop-rows built bytes area p count work₀ labels₀ distances₀ queue₀ g₀ i₀ work labels distances queue g i =
@@ -54,7 +55,7 @@ same-length-4 : tie.Need-same-length-4 Inv-loop μ-loop
 same-length-4 c = let a = c .before .before .before .before .before .before .before .before .before .before .before .before .before .before .before .before .before .before .before .before .before .before .before .before .before .before .before .before in let x = a .args in let G = a .pre .0 in let p = c .before .before .before .before .before .before .before .before .before .before .before .before .before .before .before .before .before .loop .inv in let z = c .before .before .before .before .before .before .before .before .before .scan-stop .ensures in z .step .size ∙ p .size
 
 returns : tie.Need-returns Inv-loop μ-loop
-returns c = let a = c .before .before .before .before .before .before .before .before .before .before .before .before .before .before .before .before .before .before .before .before .before .before .before .before .before .before .before .before in let x = a .args in let G = a .pre .0 in let p = c .before .before .before .before .before .before .before .before .before .before .before .before .before .before .before .before .before .loop .inv in let z = c .before .before .before .before .before .before .before .before .before .scan-stop .ensures in ride-over (λ T Q. scanStops T Q (x .p .flagged) (x .p .stamp - 2) (x .p .stamp) (drop (c .before .before .before .before .before .before .before .before .before .before .before .before .before .before .before .before .before .loop .i + 1) (part (now (x .work)) (x .p .lay .other) (x .count)))) p z (λ T Q y. changing-kept (G .laid) (p .kept) y) (λ T Q y s v. stops-turn T Q (x .p .flagged) (x .p .stamp - 2) (x .p .stamp) (part (now (x .work)) (x .p .lay .other) (x .count)) (c .before .before .before .before .before .before .before .before .before .before .before .before .before .before .before .before .before .loop .i) _ s (other-in (c .before .before .before .before .before .before .before .before .before .before .before .before .before .before .before .before .before .loop .i) (a .pre .1 .0) (p .kept) (c .before .before .before .before .before .before .before .before .before .before .before .before .before .before .before .before .loop-test .taken)) (omega (arith, other-length (a .pre .1 .0) (G .ready .sized), c .before .before .before .before .before .before .before .before .before .before .before .before .before .before .before .before .loop-test .taken))) (c .if1 .taken) (λ T Q s. stops-later T Q (x .p .flagged) (x .p .stamp - 2) (x .p .stamp) _ s .queue)
+returns c = let a = c .before .before .before .before .before .before .before .before .before .before .before .before .before .before .before .before .before .before .before .before .before .before .before .before .before .before .before .before in let x = a .args in let G = a .pre .0 in let p = c .before .before .before .before .before .before .before .before .before .before .before .before .before .before .before .before .before .loop .inv in let z = c .before .before .before .before .before .before .before .before .before .scan-stop .ensures in ride-over (λ T Q. scanStops T Q (x .p .context .flagged) (x .p .stamp - 2) (x .p .stamp) (drop (c .before .before .before .before .before .before .before .before .before .before .before .before .before .before .before .before .before .loop .i + 1) (part (now (x .work)) (x .p .context .lay .other) (x .count)))) p z (λ T Q y. changing-kept (G .laid) (p .kept) y) (λ T Q y s v. stops-turn T Q (x .p .context .flagged) (x .p .stamp - 2) (x .p .stamp) (part (now (x .work)) (x .p .context .lay .other) (x .count)) (c .before .before .before .before .before .before .before .before .before .before .before .before .before .before .before .before .before .loop .i) _ s (other-in (c .before .before .before .before .before .before .before .before .before .before .before .before .before .before .before .before .before .loop .i) (a .pre .1 .0) (p .kept) (c .before .before .before .before .before .before .before .before .before .before .before .before .before .before .before .before .loop-test .taken)) (omega (arith, other-length (a .pre .1 .0) (G .ready .sized), c .before .before .before .before .before .before .before .before .before .before .before .before .before .before .before .before .loop-test .taken))) (c .if1 .taken) (λ T Q s. stops-later T Q (x .p .context .flagged) (x .p .stamp - 2) (x .p .stamp) _ s .queue)
 
 add-i : tie.Need-add-i Inv-loop μ-loop
 add-i c = let a = c .before .before .before .before .before .before .before .before .before .before .before .before .before .before .before .before .before .before .before .before .before .before .before .before .before .before .before .before in let x = a .args in let G = a .pre .0 in let p = c .before .before .before .before .before .before .before .before .before .before .before .before .before .before .before .before .before .loop .inv in let W = waiting-kept (a .pre .1 .0) (p .kept) (p .falls) in let s = p .ready .sized .sections in omega (arith, W .few, s .stops, c .before .before .before .before .before .before .before .before .before .before .before .before .before .before .before .before .loop-test .taken)
@@ -63,7 +64,7 @@ loop-less : tie.Need-loop-less Inv-loop μ-loop
 loop-less c = omega arith
 
 loop-again : tie.Need-loop-again Inv-loop μ-loop
-loop-again c = let a = c .before .before .before .before .before .before .before .before .before .before .before .before .before .before .before .before .before .before .before .before .before .before .before .before .before .before .before .before in let x = a .args in let G = a .pre .0 in let p = c .before .before .before .before .before .before .before .before .before .before .before .before .before .before .before .before .before .loop .inv in let z = c .before .before .before .before .before .before .before .before .before .scan-stop .ensures in ride-turn _ p z (λ T Q y. changing-kept (G .laid) (p .kept) y) (λ T Q y s v. stops-turn T Q (x .p .flagged) (x .p .stamp - 2) (x .p .stamp) (part (now (x .work)) (x .p .lay .other) (x .count)) (c .before .before .before .before .before .before .before .before .before .before .before .before .before .before .before .before .before .loop .i) _ s (other-in (c .before .before .before .before .before .before .before .before .before .before .before .before .before .before .before .before .before .loop .i) (a .pre .1 .0) (p .kept) (c .before .before .before .before .before .before .before .before .before .before .before .before .before .before .before .before .loop-test .taken)) (omega (arith, other-length (a .pre .1 .0) (G .ready .sized), c .before .before .before .before .before .before .before .before .before .before .before .before .before .before .before .before .loop-test .taken))) (c .if1 .left)
+loop-again c = let a = c .before .before .before .before .before .before .before .before .before .before .before .before .before .before .before .before .before .before .before .before .before .before .before .before .before .before .before .before in let x = a .args in let G = a .pre .0 in let p = c .before .before .before .before .before .before .before .before .before .before .before .before .before .before .before .before .before .loop .inv in let z = c .before .before .before .before .before .before .before .before .before .scan-stop .ensures in ride-turn _ p z (λ T Q y. changing-kept (G .laid) (p .kept) y) (λ T Q y s v. stops-turn T Q (x .p .context .flagged) (x .p .stamp - 2) (x .p .stamp) (part (now (x .work)) (x .p .context .lay .other) (x .count)) (c .before .before .before .before .before .before .before .before .before .before .before .before .before .before .before .before .before .loop .i) _ s (other-in (c .before .before .before .before .before .before .before .before .before .before .before .before .before .before .before .before .before .loop .i) (a .pre .1 .0) (p .kept) (c .before .before .before .before .before .before .before .before .before .before .before .before .before .before .before .before .loop-test .taken)) (omega (arith, other-length (a .pre .1 .0) (G .ready .sized), c .before .before .before .before .before .before .before .before .before .before .before .before .before .before .before .before .loop-test .taken))) (c .if1 .left)
 
 same-length-5 : tie.Need-same-length-5 Inv-loop μ-loop
 same-length-5 c = let a = c .before .before .before .before .before .before .before .before .before .before .before .before in let x = a .args in let G = a .pre .0 in let p = c .before .loop .inv in p .kept .size
@@ -78,7 +79,7 @@ same-length-8 : tie.Need-same-length-8 Inv-loop μ-loop
 same-length-8 c = let a = c .before .before .before .before .before .before .before .before .before .before .before .before in let x = a .args in let G = a .pre .0 in let p = c .before .loop .inv in p .size
 
 returns-2 : tie.Need-returns-2 Inv-loop μ-loop
-returns-2 c = let a = c .before .before .before .before .before .before .before .before .before .before .before .before in let x = a .args in let G = a .pre .0 in let p = c .before .loop .inv in ride-end _ p (λ T Q y s v. stops-end T Q (x .p .flagged) (x .p .stamp - 2) (x .p .stamp) (part (now (x .work)) (x .p .lay .other) (x .count)) (c .before .loop .i) s (omega (arith, other-length (a .pre .1 .0) (G .ready .sized), c .loop-test .left)))
+returns-2 c = let a = c .before .before .before .before .before .before .before .before .before .before .before .before in let x = a .args in let G = a .pre .0 in let p = c .before .loop .inv in ride-end _ p (λ T Q y s v. stops-end T Q (x .p .context .flagged) (x .p .stamp - 2) (x .p .stamp) (part (now (x .work)) (x .p .context .lay .other) (x .count)) (c .before .loop .i) s (omega (arith, other-length (a .pre .1 .0) (G .ready .sized), c .loop-test .left)))
 
 pub scan-stops-spec : {M : Type 1} → statement M
 scan-stops-spec =

@@ -65,7 +65,7 @@ returns-2 : tie.Need-returns-2
 returns-2 c = let a = c .before .before .before .before .before .before .before .before .before .before .before .before .before .before .before .before .before .before .before .before in let x = a .args in queue-none _ _ _ (a .pre .1 .1 .0) (a .pre .1 .1 .1 .0) (λ T Q y. take-none T Q (x .s .ride .stamp) (x .v) (x .from) (transferAt (now (x .area)) (x .k)) _ _ _ (c .before .before .before .before .before .before .before .before .holds-target .ensures T Q (y .patterned) (y .target) ∙ ap (holdsTarget T Q) (c .before .before .before .before .before .before .before .before .before .field .ensures .0)) (c .before .before .before .before .before .before .before .if1 .left) (c .enum-told .given .1) (c .before .before .resolve .ensures T Q _ (y .agree) (y .asks) (y .lines) (record { trip = refl; place = sym (c .before .before .before .before .before .field2 .ensures .0) })))
 
 take-boarding-requires : tie.Need-take-boarding-requires
-take-boarding-requires c κs = let a = c .before .before .before .before .before .before .before .before .before .before .before .before .before .before .before .before .before .before .before .before .before .before .before .before .before in let x = a .args in let n = a .pre .0 in (record { sane = n .ground .sane; stops = n .stops; trips = n .trips }, (boards-in (n .T) (n .Q) (n .door) (now (x .t)) (x .s .counts) (n .nets .agree .timetable) (transferAt (now (x .area)) (x .k)) _ _ _ _ _ _ (c .before .before .before .before .before .found .given .1) (c .before .before .before .before .before .before .before .resolve .ensures (n .T) (n .Q) (transferAt (now (x .area)) (x .k)) (n .nets .agree) (n .nets .asks) (n .nets .lines) (record { trip = refl; place = sym (c .before .before .before .before .before .before .before .before .before .before .field2 .ensures .0) })) (c .before .before .before .before .before .before .before .before .before .before .field2 .ensures .0), (a .pre .1 .1 .0, a .pre .1 .1 .1 .0)))
+take-boarding-requires c κs = let a = c .before .before .before .before .before .before .before .before .before .before .before .before .before .before .before .before .before .before .before .before .before .before .before .before .before in let x = a .args in let n = a .pre .0 in (record { sane = n .ground .sane; stops = n .stops; trips = n .trips }, (boards-in (n .T) (n .Q) (n .door) (now (x .t)) (x .s .context .counts .timetable) (n .nets .agree .timetable) (transferAt (now (x .area)) (x .k)) _ _ _ _ _ _ (c .before .before .before .before .before .found .given .1) (c .before .before .before .before .before .before .before .resolve .ensures (n .T) (n .Q) (transferAt (now (x .area)) (x .k)) (n .nets .agree) (n .nets .asks) (n .nets .lines) (record { trip = refl; place = sym (c .before .before .before .before .before .before .before .before .before .before .field2 .ensures .0) })) (c .before .before .before .before .before .before .before .before .before .before .field2 .ensures .0), (a .pre .1 .1 .0, a .pre .1 .1 .1 .0)))
 
 same-length-2 : tie.Need-same-length-2
 same-length-2 c = c .before .before .before .before .before .before .before .before .take-boarding .ensures .same .size

@@ -9,16 +9,17 @@ use Rattle.walk_phase.proofs.Along.{Along, along-start, along-turn, alo
 use Rattle.walk_phase.proofs.Edge.{agree-kept}
 use Rattle.walk_phase.proofs.From.{walkLeft, left-start, left-turn, left-stop, left-end}
 use Rattle.walk_phase.proofs.walk_from.Statement.{statement}
+use Rattle.query_types.specs.Slices.{slices}
 use Rattle.walk_phase.proofs.walk_from.Tie as tie
 
 abbrev Inv-loop : tie.InvT-loop
-Inv-loop lay rules stamp x v t distances patterns work₀ labels₀ metres₀ c e₀ g₀ work labels metres e g =
-    Along lay stamp (WalksAgree lay rules t distances patterns work₀) (λ T Q. walkFrom T Q (rules .flagged) stamp x v (edgesFrom T x))
-    (λ T Q. walkLeft T Q (rules .flagged) stamp x v t (rules .counts) e) (memory work₀ labels₀ metres₀ g₀) (memory work labels metres g)
+Inv-loop lay ctx stamp x v t distances patterns work₀ labels₀ metres₀ c e₀ g₀ work labels metres e g =
+    Along lay stamp (WalksAgree lay ctx t distances patterns work₀) (λ T Q. walkFrom T Q (ctx .flagged) stamp x v (edgesFrom T x))
+    (λ T Q. walkLeft T Q (ctx .flagged) stamp x v t (ctx .counts .timetable) e) (memory work₀ labels₀ metres₀ g₀) (memory work labels metres g)
 
 abbrev μ-loop : tie.MeasureT-loop
-μ-loop lay rules stamp x v t distances patterns work₀ labels₀ metres₀ c e₀ g₀ work labels metres e g =
-    rules .counts .edges - e
+μ-loop lay ctx stamp x v t distances patterns work₀ labels₀ metres₀ c e₀ g₀ work labels metres e g =
+    ctx .counts .timetable .edges - e
 
 first-edge-requires : tie.Need-first-edge-requires Inv-loop μ-loop
 first-edge-requires c κs = let a = c .before .before .before .before .before .before .before in let x = a .args in (a .pre .1 .0 .sane, a .pre .1 .0 .order)
