@@ -1,5 +1,7 @@
-// flags: arc flags of a query: the cells of its egress stops, patterns against them, and whether the flags skip anything.
-// Specs: patterns and egress rows as the slices hold them (Flags); inner: which tables and queries agree with them, rows that flags skip (Skipping).
+// arc_flags: arc flags of a query: the cells of its egress stops, patterns against them, and whether the flags skip anything.
+// Place: the search.
+// Specs: patterns and egress rows as the slices hold them (Flags, a claim); inner: which tables and queries agree with them, rows that flags skip
+// (Skipping).
 // Proves: each public function equal to the model's definition of the same name, for all tables and queries that agree.
 // Assumes nothing.
 ghost use mathlib.Core.Path.{_≡_};
@@ -12,23 +14,25 @@ ghost use Rattle.cell_bitset.specs.CellSet.{cellLimit};
 ghost use Rattle.model.specs.Tables.{Tables, Query};
 ghost use Rattle.model.specs.Search.{targetCells, holdsTarget, useArcFlags, skipsEdge, skipsTransfer, flagsInUse};
 ghost use Rattle.arc_flags.specs.Flags.{patternAt, egressRows};
-ghost use Rattle.arc_flags.specs.Skipping.{Patterned, PatternsOk, EgressIn, Aimed, RowsIn, RunsIn, runHas, rowSkipped, firstSkipped, someRun, Transferring, withinRun, CountedFrom, SkippedCounted, WindowSkips, RunsSkip};
+ghost use Rattle.arc_flags.specs.Skipping.{Patterned, PatternsOk, EgressIn, Aimed, RowsIn, RunsIn, runHas, rowSkipped, firstSkipped, someRun};
+ghost use Rattle.arc_flags.specs.Skipping.{Transferring, withinRun, CountedFrom, SkippedCounted, WindowSkips, RunsSkip};
 ghost use Rattle.loops.specs.Iter.{someIn};
 ghost use Rattle.loops.specs.Count.{one, count};
 use cell_bitset::CellBitSet;
 use tables::Counts;
 
 // The cells of the egress stops, set one by one.
-pub fn target_cells(t: &[u32], c: Counts, cells: u32, egress: &[u32]) -> CellBitSet
-    requires { ⌜ Sane (now t) c ⌝ ∗ ⌜ cells ≤ cellLimit ⌝ ∗ ⌜ EgressIn c (now egress) ⌝ }
-    ensures { λ r. ⌜ ((T : Tables) (Q : Query) → T .timetable ≡ timetable (now (t .entry)) c → T .cells ≡ cells → Q .egress ≡ egressRows (now (egress .entry)) → r ≡ targetCells T Q) ⌝ }
+pub fn target_cells(tables: &[u32], c: Counts, cells: u32, egress: &[u32]) -> CellBitSet
+    requires { ⌜ Sane (now tables) c ⌝ ∗ ⌜ cells ≤ cellLimit ⌝ ∗ ⌜ EgressIn c (now egress) ⌝ }
+    ensures { λ r. ⌜ ((T : Tables) (Q : Query) → T .timetable ≡ timetable (now (tables .entry)) c → T .cells ≡ cells → Q .egress
+        ≡ egressRows (now (egress .entry)) → r ≡ targetCells T Q) ⌝ }
 {
     let from = c.times * 6 + c.trips * 8 + c.windows * 3 + c.edges * 5;
     let n = egress.len() / 2;
     let mut set = CellBitSet::new(cells);
     let mut i: usize = 0;
     while i < n {
-        let cell = words::field(t, from + words::field(egress, i * 2));
+        let cell = words::field(tables, from + words::field(egress, i * 2));
         set = set.set_bit(cell as u32);
         i += 1;
     }
@@ -74,14 +78,15 @@ pub fn use_arc_flags(count: usize, target: CellBitSet, off: bool) -> bool
 }
 
 // Do the flags skip some walk edge?
-fn skips_edge(t: &[u32], c: Counts, patterns: &[u8], count: usize, target: CellBitSet) -> bool
-    requires { ⌜ Sane (now t) c ⌝ ∗ ⌜ PatternsOk (now patterns) count ⌝ }
-    ensures { λ r. ⌜ ((T : Tables) (Q : Query) → T .timetable ≡ timetable (now (t .entry)) c → Patterned T (now (patterns .entry)) count → target ≡ targetCells T Q → r ≡ skipsEdge T Q) ⌝ }
+fn skips_edge(tables: &[u32], c: Counts, patterns: &[u8], count: usize, target: CellBitSet) -> bool
+    requires { ⌜ Sane (now tables) c ⌝ ∗ ⌜ PatternsOk (now patterns) count ⌝ }
+    ensures { λ r. ⌜ ((T : Tables) (Q : Query) → T .timetable ≡ timetable (now (tables .entry)) c → Patterned T (now (patterns .entry)) count → target
+        ≡ targetCells T Q → r ≡ skipsEdge T Q) ⌝ }
 {
     let n = c.edges;
     let mut k: usize = 0;
     while k < n {
-        let p = tables::edge(t, c, k, 4);
+        let p = tables::edge(tables, c, k, 4);
         if !holds_target(patterns, count, target, p) {
             return true;
         }
@@ -91,28 +96,35 @@ fn skips_edge(t: &[u32], c: Counts, patterns: &[u8], count: usize, target: CellB
 }
 
 // Do the flags skip row k of the transfer area?
-fn row_skipped(area: &[u32], patterns: &[u8], count: usize, target: CellBitSet, k: usize) -> bool
-    requires { ⌜ PatternsOk (now patterns) count ⌝ ∗ ⌜ k * 4 + 4 ≤ length (now area) ⌝ }
-    ensures { λ r. ⌜ ((T : Tables) (Q : Query) → Aimed T Q (now (patterns .entry)) count target → r ≡ rowSkipped T Q (now (area .entry)) k) ⌝ }
+fn row_skipped(
+    transfers: &[u32],
+    patterns: &[u8],
+    count: usize,
+    target: CellBitSet,
+    k: usize,
+) -> bool
+    requires { ⌜ PatternsOk (now patterns) count ⌝ ∗ ⌜ k * 4 + 4 ≤ length (now transfers) ⌝ }
+    ensures { λ r. ⌜ ((T : Tables) (Q : Query) → Aimed T Q (now (patterns .entry)) count target → r ≡ rowSkipped T Q (now (transfers .entry)) k) ⌝ }
 {
-    let p = words::field(area, k * 4 + 3);
+    let p = words::field(transfers, k * 4 + 3);
     !holds_target(patterns, count, target, p)
 }
 
 // The first of so many rows that the flags skip; their number where they skip none.
 fn first_skipped(
-    area: &[u32],
+    transfers: &[u32],
     patterns: &[u8],
     count: usize,
     target: CellBitSet,
     rows: usize,
 ) -> usize
-    requires { ⌜ PatternsOk (now patterns) count ⌝ ∗ ⌜ RowsIn (now area) rows ⌝ }
-    ensures { λ r. ⌜ ((T : Tables) (Q : Query) → Aimed T Q (now (patterns .entry)) count target → r ≡ firstSkipped T Q (now (area .entry)) rows) ⌝ }
+    requires { ⌜ PatternsOk (now patterns) count ⌝ ∗ ⌜ RowsIn (now transfers) rows ⌝ }
+    ensures { λ r. ⌜ ((T : Tables) (Q : Query) → Aimed T Q (now (patterns .entry)) count target → r
+        ≡ firstSkipped T Q (now (transfers .entry)) rows) ⌝ }
 {
     let mut k: usize = 0;
     while k < rows {
-        if row_skipped(area, patterns, count, target, k) {
+        if row_skipped(transfers, patterns, count, target, k) {
             return k;
         }
         k += 1;
@@ -146,7 +158,7 @@ fn one(b: bool) -> u32
 
 // Of the n rows from `from` on, how many before each of them the flags skip, and how many in all.
 fn count_skipped(
-    area: &[u32],
+    transfers: &[u32],
     patterns: &[u8],
     count: usize,
     target: CellBitSet,
@@ -154,14 +166,14 @@ fn count_skipped(
     n: usize,
     counts: &mut [u32],
 )
-    requires { ⌜ PatternsOk (now patterns) count ⌝ ∗ ⌜ RowsIn (now area) (from + n) ⌝ ∗ ⌜ n < length (now counts) ⌝ }
-    ensures { λ _. ⌜ SkippedCounted (now (area .entry)) (now (patterns .entry)) count target from n (now (counts .exit)) ⌝ }
+    requires { ⌜ PatternsOk (now patterns) count ⌝ ∗ ⌜ RowsIn (now transfers) (from + n) ⌝ ∗ ⌜ n < length (now counts) ⌝ }
+    ensures { λ _. ⌜ SkippedCounted (now (transfers .entry)) (now (patterns .entry)) count target from n (now (counts .exit)) ⌝ }
 {
     let mut skipped: u32 = 0;
     let mut k: usize = 0;
     while k < n {
         counts[k] = skipped;
-        skipped += one(row_skipped(area, patterns, count, target, from + k));
+        skipped += one(row_skipped(transfers, patterns, count, target, from + k));
         k += 1;
     }
     counts[n] = skipped;
@@ -199,22 +211,22 @@ fn some_run_passes(runs: &[u32], from: usize, n: usize, counts: &[u32]) -> bool
     false
 }
 
-// Has some event's run a row of one window that the flags skip? The window has at most 4,096 rows, so that its counts need little stack. Where they skip
-// none of its rows, no run is looked at.
+// Has some event's run a row of one window that the flags skip? The window has at most 4,096 rows, so that its counts need little stack. Where they
+// skip none of its rows, no run is looked at.
 fn window_skips(
     runs: &[u32],
-    area: &[u32],
+    transfers: &[u32],
     patterns: &[u8],
     count: usize,
     target: CellBitSet,
     from: usize,
     n: usize,
 ) -> bool
-    requires { ⌜ PatternsOk (now patterns) count ⌝ ∗ ⌜ RowsIn (now area) (from + n) ⌝ ∗ ⌜ n ≤ 4096 ⌝ }
-    ensures { λ r. ⌜ WindowSkips (now (runs .entry)) (now (area .entry)) (now (patterns .entry)) count target from n r ⌝ }
+    requires { ⌜ PatternsOk (now patterns) count ⌝ ∗ ⌜ RowsIn (now transfers) (from + n) ⌝ ∗ ⌜ n ≤ 4096 ⌝ }
+    ensures { λ r. ⌜ WindowSkips (now (runs .entry)) (now (transfers .entry)) (now (patterns .entry)) count target from n r ⌝ }
 {
     let mut counts = [0u32; 4097];
-    count_skipped(area, patterns, count, target, from, n, &mut counts);
+    count_skipped(transfers, patterns, count, target, from, n, &mut counts);
     if words::word(&counts, n) == 0 {
         return false;
     }
@@ -224,19 +236,19 @@ fn window_skips(
 // Has some event's run a row that the flags skip? Window by window.
 fn some_window_skips(
     runs: &[u32],
-    area: &[u32],
+    transfers: &[u32],
     rows: usize,
     patterns: &[u8],
     count: usize,
     target: CellBitSet,
 ) -> bool
-    requires { ⌜ PatternsOk (now patterns) count ⌝ ∗ ⌜ RowsIn (now area) rows ⌝ ∗ ⌜ RunsIn (now runs) rows ⌝ }
-    ensures { λ r. ⌜ RunsSkip (now (runs .entry)) (now (area .entry)) (now (patterns .entry)) count target r ⌝ }
+    requires { ⌜ PatternsOk (now patterns) count ⌝ ∗ ⌜ RowsIn (now transfers) rows ⌝ ∗ ⌜ RunsIn (now runs) rows ⌝ }
+    ensures { λ r. ⌜ RunsSkip (now (runs .entry)) (now (transfers .entry)) (now (patterns .entry)) count target r ⌝ }
 {
     let mut from: usize = 0;
     while from < rows {
         let n = words::smaller(rows - from, 4096);
-        if window_skips(runs, area, patterns, count, target, from, n) {
+        if window_skips(runs, transfers, patterns, count, target, from, n) {
             return true;
         }
         from += n;
@@ -249,45 +261,47 @@ fn some_window_skips(
 // is two look-ups: at most 16 passes over the events.
 fn skips_transfer(
     runs: &[u32],
-    area: &[u32],
+    transfers: &[u32],
     rows: usize,
     patterns: &[u8],
     count: usize,
     target: CellBitSet,
 ) -> bool
-    requires { ⌜ PatternsOk (now patterns) count ⌝ ∗ ⌜ RowsIn (now area) rows ⌝ ∗ ⌜ RunsIn (now runs) rows ⌝ }
-    ensures { λ r. ⌜ ((T : Tables) (Q : Query) → Patterned T (now (patterns .entry)) count → Transferring T (now (runs .entry)) (now (area .entry)) → target ≡ targetCells T Q → r ≡ skipsTransfer T Q) ⌝ }
+    requires { ⌜ PatternsOk (now patterns) count ⌝ ∗ ⌜ RowsIn (now transfers) rows ⌝ ∗ ⌜ RunsIn (now runs) rows ⌝ }
+    ensures { λ r. ⌜ ((T : Tables) (Q : Query) → Patterned T (now (patterns .entry)) count
+        → Transferring T (now (runs .entry)) (now (transfers .entry)) → target ≡ targetCells T Q → r ≡ skipsTransfer T Q) ⌝ }
 {
-    let k = first_skipped(area, patterns, count, target, rows);
+    let k = first_skipped(transfers, patterns, count, target, rows);
     if rows <= k {
         return false;
     }
     if some_run_has(runs, k) {
         return true;
     }
-    some_window_skips(runs, area, rows, patterns, count, target)
+    some_window_skips(runs, transfers, rows, patterns, count, target)
 }
 
 // Are the flags in use: not put off, and do they skip some walk edge or transfer?
 pub fn flags_in_use(
-    t: &[u32],
+    tables: &[u32],
     c: Counts,
     runs: &[u32],
-    area: &[u32],
+    transfers: &[u32],
     rows: usize,
     patterns: &[u8],
     count: usize,
     target: CellBitSet,
     off: bool,
 ) -> bool
-    requires { ⌜ Sane (now t) c ⌝ ∗ ⌜ PatternsOk (now patterns) count ⌝ ∗ ⌜ RowsIn (now area) rows ⌝ ∗ ⌜ RunsIn (now runs) rows ⌝ }
-    ensures { λ r. ⌜ ((T : Tables) (Q : Query) → T .timetable ≡ timetable (now (t .entry)) c → Patterned T (now (patterns .entry)) count → Transferring T (now (runs .entry)) (now (area .entry)) → target ≡ targetCells T Q → Q .flagsOff ≡ off → r ≡ flagsInUse T Q) ⌝ }
+    requires { ⌜ Sane (now tables) c ⌝ ∗ ⌜ PatternsOk (now patterns) count ⌝ ∗ ⌜ RowsIn (now transfers) rows ⌝ ∗ ⌜ RunsIn (now runs) rows ⌝ }
+    ensures { λ r. ⌜ ((T : Tables) (Q : Query) → T .timetable ≡ timetable (now (tables .entry)) c → Patterned T (now (patterns .entry)) count
+        → Transferring T (now (runs .entry)) (now (transfers .entry)) → target ≡ targetCells T Q → Q .flagsOff ≡ off → r ≡ flagsInUse T Q) ⌝ }
 {
     if !use_arc_flags(count, target, off) {
         return false;
     }
-    if skips_edge(t, c, patterns, count, target) {
+    if skips_edge(tables, c, patterns, count, target) {
         return true;
     }
-    skips_transfer(runs, area, rows, patterns, count, target)
+    skips_transfer(runs, transfers, rows, patterns, count, target)
 }

@@ -1,5 +1,6 @@
-// totals: the answer of a query over its memory: the best total with its stop, and the candidates of the rows.
-// Specs: egress rows, earliest arrivals and labels as the slices hold them (Totals).
+// best_target: the answer of a query over its memory: the best total with its stop, and the candidates of the rows.
+// Place: the search.
+// Specs (inner): egress rows, earliest arrivals and labels as the slices hold them (Totals).
 // Proves: each function equal to the model's definition of the same name, for all states that agree.
 // Assumes nothing.
 ghost use mathlib.Core.Path.{_≡_};
@@ -8,7 +9,8 @@ ghost use lib.ListN.{length};
 ghost use Rattle.model.specs.Tables.{Tables, Query, never};
 ghost use Rattle.model.specs.Search.{Arrivals, bestTarget, rowTarget, reachedBy, candidatesFrom};
 ghost use Rattle.label.specs.Table.{recordOf, loaded};
-ghost use Rattle.best_target.specs.Totals.{EgressOk, targetOf, EarliestOk, EarliestAre, better, withStop, withReach, LabelsOk, Labelled, candidatesIn, ZeroFrom, CandidatePut};
+ghost use Rattle.best_target.specs.Totals.{EgressOk, targetOf, EarliestOk, EarliestAre, better, withStop, withReach, LabelsOk, Labelled};
+ghost use Rattle.best_target.specs.Totals.{candidatesIn, ZeroFrom, CandidatePut};
 ghost use Rattle.arc_flags.specs.Flags.{egressRows};
 ghost use mathlib.Core.Bool.{_&&_};
 ghost use lib.Dec.{ltb, leb};
@@ -48,7 +50,8 @@ fn with_stop(best: Target, v: u32, stop: u32, walk: u32) -> Target
 // The least total over the egress stops with its stop.
 pub fn best_target(work: &[u32], stops: usize, egress: &[u32]) -> Target
     requires { ⌜ EarliestOk stops (now work) ⌝ ∗ ⌜ EgressOk stops (now egress) ⌝ }
-    ensures { λ r. ⌜ ((T : Tables) (Q : Query) (a : Arrivals) → EarliestAre a stops (now (work .entry)) → targetOf r ≡ bestTarget T Q a (egressRows (now (egress .entry))) (never, never)) ⌝ }
+    ensures { λ r. ⌜ ((T : Tables) (Q : Query) (a : Arrivals) → EarliestAre a stops (now (work .entry)) → targetOf r
+        ≡ bestTarget T Q a (egressRows (now (egress .entry))) (never, never)) ⌝ }
 {
     let n = egress.len() / 2;
     let mut total: u32 = 4294967295;
@@ -122,17 +125,24 @@ fn with_reach(best: Target, x: u32, stop: u32, walk: u32) -> Target
 }
 
 // The arrival plus one of a stop's label of a row; 0 for no label.
-fn reached_in(labels: &[u32], distances: &[f64], stops: usize, stop: u32, row: u32) -> u32
-    requires { ⌜ LabelsOk stops (now labels) (now distances) ⌝ ∗ ⌜ (stop < stops) × (row < 13) ⌝ }
-    ensures { λ r. ⌜ r ≡ reachedBy (loaded (now (labels .entry)) (now (distances .entry)) (recordOf stop row)) ⌝ }
+fn reached_in(labels: &[u32], label_distances: &[f64], stops: usize, stop: u32, row: u32) -> u32
+    requires { ⌜ LabelsOk stops (now labels) (now «label_distances») ⌝ ∗ ⌜ (stop < stops) × (row < 13) ⌝ }
+    ensures { λ r. ⌜ r ≡ reachedBy (loaded (now (labels .entry)) (now («label_distances» .entry)) (recordOf stop row)) ⌝ }
 {
-    reached_by(label::load_label(labels, distances, label::record_of(stop, row)))
+    reached_by(label::load_label(labels, label_distances, label::record_of(stop, row)))
 }
 
 // The least total over the egress stops' labels of a row, with its stop.
-fn row_target(labels: &[u32], distances: &[f64], stops: usize, egress: &[u32], row: u32) -> Target
-    requires { ⌜ LabelsOk stops (now labels) (now distances) ⌝ ∗ ⌜ EgressOk stops (now egress) ⌝ ∗ ⌜ row < 13 ⌝ }
-    ensures { λ r. ⌜ ((T : Tables) (Q : Query) (a : Arrivals) → Labelled a stops (now (labels .entry)) (now (distances .entry)) → targetOf r ≡ rowTarget T Q a row (egressRows (now (egress .entry))) (never, never)) ⌝ }
+fn row_target(
+    labels: &[u32],
+    label_distances: &[f64],
+    stops: usize,
+    egress: &[u32],
+    row: u32,
+) -> Target
+    requires { ⌜ LabelsOk stops (now labels) (now «label_distances») ⌝ ∗ ⌜ EgressOk stops (now egress) ⌝ ∗ ⌜ row < 13 ⌝ }
+    ensures { λ r. ⌜ ((T : Tables) (Q : Query) (a : Arrivals) → Labelled a stops (now (labels .entry)) (now («label_distances» .entry)) → targetOf r
+        ≡ rowTarget T Q a row (egressRows (now (egress .entry))) (never, never)) ⌝ }
 {
     let n = egress.len() / 2;
     let mut total: u32 = 4294967295;
@@ -141,7 +151,7 @@ fn row_target(labels: &[u32], distances: &[f64], stops: usize, egress: &[u32], r
     while i < n {
         let s = words::word(egress, i * 2);
         let walk = words::word(egress, i * 2 + 1);
-        let x = reached_in(labels, distances, stops, s, row);
+        let x = reached_in(labels, label_distances, stops, s, row);
         let b = with_reach(
             Target {
                 total: total,
@@ -193,7 +203,7 @@ fn taken(total: u32, last: u32, top: u32, slack: u32) -> bool
 // The candidates of the rows from 0 to `rounds`, and how many; the words past them 0.
 pub fn candidates(
     labels: &[u32],
-    distances: &[f64],
+    label_distances: &[f64],
     stops: usize,
     egress: &[u32],
     top: u32,
@@ -201,15 +211,22 @@ pub fn candidates(
     rounds: u32,
     out: &mut [u32],
 ) -> usize
-    requires { ⌜ LabelsOk stops (now labels) (now distances) ⌝ ∗ ⌜ EgressOk stops (now egress) ⌝ ∗ ⌜ rounds < 13 ⌝ ∗ ⌜ length (now out) ≡ 39 ⌝ }
-    ensures { λ r. ⌜ ZeroFrom (now (out .exit)) r ⌝ ∗ ⌜ ((T : Tables) (Q : Query) (a : Arrivals) → Labelled a stops (now (labels .entry)) (now (distances .entry)) → Q .egress ≡ egressRows (now (egress .entry)) → Q .settings .candidateSlack ≡ slack → candidatesIn (now (out .exit)) r ≡ candidatesFrom T Q a top (suc rounds) 0 never) ⌝ ∗ ⌜ r ≤ 13 ⌝ }
+    requires { ⌜ LabelsOk stops (now labels) (now «label_distances») ⌝
+        ∗ ⌜ EgressOk stops (now egress) ⌝
+        ∗ ⌜ rounds < 13 ⌝
+        ∗ ⌜ length (now out) ≡ 39 ⌝ }
+    ensures { λ r. ⌜ ZeroFrom (now (out .exit)) r ⌝
+        ∗ ⌜ ((T : Tables) (Q : Query) (a : Arrivals) → Labelled a stops (now (labels .entry)) (now («label_distances» .entry)) → Q .egress
+        ≡ egressRows (now (egress .entry)) → Q .settings .candidateSlack ≡ slack → candidatesIn (now (out .exit)) r
+        ≡ candidatesFrom T Q a top (suc rounds) 0 never) ⌝
+        ∗ ⌜ r ≤ 13 ⌝ }
 {
     clear(out);
     let mut last: u32 = 4294967295;
     let mut m: usize = 0;
     let mut row: u32 = 0;
     while row <= rounds {
-        let b = row_target(labels, distances, stops, egress, row);
+        let b = row_target(labels, label_distances, stops, egress, row);
         if !taken(b.total, last, top, slack) {
             row += 1;
             continue;

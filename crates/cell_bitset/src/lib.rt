@@ -1,7 +1,8 @@
 // cell_bitset: the cell set of the arc flags (CellBitSet of the Rust), by value: at most 512 cells, as bytes.
-// Specs: when a cell is in a set (`held`), the set with one cell more (`withCell`), that two sets share a cell
-// (`meets`), their union, a set with room for more cells (`sized`), and the two calls that ask question 1 of a count.
-// Proves: each call equal to its definition for every value of the struct, also one whose `reserved` is past the 64
+// Place: a leaf. The calls that ask question 1 of a count: `leaf_calls`.
+// Specs (claims): when a cell is in a set (`held`), the set with one cell more (`withCell`), that two sets share a cell
+// (`meets`), their union, a set with room for more cells (`sized`).
+// Proves: each method equal to its definition for every value of the struct, also one whose `reserved` is past the 64
 // bytes or no multiple of 8, or whose bytes past the reserved ones are not zero; in proofs/Laws which cells the sets so
 // made hold and keep; in proofs/WellFormed that whole groups stay whole groups with nothing past them; in
 // proofs/Examples the worked examples.

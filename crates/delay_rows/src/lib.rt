@@ -1,9 +1,10 @@
-// delay_tables: the delay tables (document 01, item 4) and their door.
+// delay_rows: the delay tables (document 01, item 4), and what is asked of their rows.
 // Two tables of u32 numbers are lent. A delay row has 2: trip (4294967295 for an unknown trip) and delay. A stop row has 5:
 // delay row, sequence, flags (1 departure given, 2 arrival given, 4 skipped), departure delay, arrival delay. Delays are the
-// bits of an i32; what they mean is said in crate signed, what they do to a stop time in crate realtime.
-// Specs: Delays (what the tables say of a stop time, the margin), Flat (the tables from two slices), Door (questions 1, 2, 4, 5,
-// 6 and what each call answers), Asked (how the code asks).
+// bits of an i32; what they mean is said in crate `signed`, what they do to a stop time in crate `stop_delay`.
+// Place: a leaf. Its calls: `leaf_calls`.
+// Specs: Delays (what the tables say of a stop time, the margin), Flat (the tables from two slices), Door (questions 4, 5 and
+// 6 of the rows); these are claims. Asked (how the code asks) is inner.
 // Proves: each question is answered as its definition, on every input.
 // Assumes nothing.
 ghost use mathlib.Core.Path.{_≡_};

@@ -2,8 +2,8 @@
 // Place: the search.
 // Specs (inner): what is read (Listed).
 // Proves: departures_at hands on the stop's part of the list, not_before what is the model's `notBefore` of it, in order again; board_listed is the
-// model's `boarding`, and each scan is the model's of the same name on the state in memory, for all tables, queries and states that agree with what is
-// read; what is read stays as it came.
+// model's `boarding`, and each scan is the model's of the same name on the state in memory, for all tables, queries and states that agree with what
+// is read; what is read stays as it came.
 // Assumes nothing.
 ghost use mathlib.Core.Path.{_≡_};
 ghost use Prim.Native.Nat.{_+_, _/_, _≤_, _<_, _-_};
@@ -41,7 +41,10 @@ use tables::Counts;
 
 // The departures listed at stop x, two numbers each.
 pub fn departures_at(n: QueryCounts, built: &[u32], x: usize) -> &[u32]
-    requires { ⌜ Limits n ⌝ ∗ ⌜ marksAt n ≤ length (now built) ⌝ ∗ ⌜ RunsListed (n .timetable) (stopRuns (now built) n) (n .departures) ⌝ ∗ ⌜ x < n .timetable .stops ⌝ }
+    requires { ⌜ Limits n ⌝
+        ∗ ⌜ marksAt n ≤ length (now built) ⌝
+        ∗ ⌜ RunsListed (n .timetable) (stopRuns (now built) n) (n .departures) ⌝
+        ∗ ⌜ x < n .timetable .stops ⌝ }
     ensures { λ r. ⌜ now r ≡ departuresOf (stopRuns (now (built .entry)) n) (departureRows (now (built .entry)) n) x ⌝ }
 {
     let r = departures::stop_run(query_input::stop_runs(built, n), x);
@@ -49,15 +52,18 @@ pub fn departures_at(n: QueryCounts, built: &[u32], x: usize) -> &[u32]
 }
 
 // The first of departures in order that is not before m, by halving; their number where there is none.
-fn first_not_before(t: &[u32], c: Counts, list: &[u32], m: u32) -> usize
-    requires { ⌜ RowsOrdered (now t) c (now list) (length (now list) / 2) ⌝ }
-    ensures { λ r. ⌜ Halved (λ i. leb m (rowDeparture (timetable (now (t .entry)) c) (rowAt (now (list .entry)) i))) (length (now (list .entry)) / 2) r r ⌝ }
+fn first_not_before(tables: &[u32], c: Counts, list: &[u32], m: u32) -> usize
+    requires { ⌜ RowsOrdered (now tables) c (now list) (length (now list) / 2) ⌝ }
+    ensures { λ r. ⌜ Halved (λ i. leb m (rowDeparture (timetable (now (tables .entry)) c) (rowAt (now (list .entry)) i)))
+        (length (now (list .entry)) / 2) r r ⌝ }
 {
     let mut lo: usize = 0;
     let mut hi = list.len() / 2;
     while lo < hi {
         let mid = lo + (hi - lo) / 2;
-        if query_input::row_departure(t, c, departures::departure_row(list, mid)) < m as usize {
+        if query_input::row_departure(tables, c, departures::departure_row(list, mid))
+            < m as usize
+        {
             lo = mid + 1;
             continue;
         }
@@ -67,19 +73,21 @@ fn first_not_before(t: &[u32], c: Counts, list: &[u32], m: u32) -> usize
 }
 
 // Of departures in order, those from the first on that is not before m, found by halving.
-pub fn not_before<'a>(t: &[u32], c: Counts, list: &'a [u32], m: u32) -> &'a [u32]
-    requires { ⌜ RowsOrdered (now t) c (now list) (length (now list) / 2) ⌝ }
-    ensures { λ r. ⌜ RowsOrdered (now (t .entry)) c (now r) (length (now r) / 2) ⌝ ∗ ⌜ ((T : Tables) → T .timetable ≡ timetable (now (t .entry)) c → rowsOf (now r) (length (now r) / 2) ≡ notBefore T m (rowsOf (now (list .entry)) (length (now (list .entry)) / 2))) ⌝ }
+pub fn not_before<'a>(tables: &[u32], c: Counts, list: &'a [u32], m: u32) -> &'a [u32]
+    requires { ⌜ RowsOrdered (now tables) c (now list) (length (now list) / 2) ⌝ }
+    ensures { λ r. ⌜ RowsOrdered (now (tables .entry)) c (now r) (length (now r) / 2) ⌝
+        ∗ ⌜ ((T : Tables) → T .timetable ≡ timetable (now (tables .entry)) c → rowsOf (now r) (length (now r) / 2)
+        ≡ notBefore T m (rowsOf (now (list .entry)) (length (now (list .entry)) / 2))) ⌝ }
 {
-    let from = first_not_before(t, c, list, m);
+    let from = first_not_before(tables, c, list, m);
     departures::departures_of(list, from, list.len() / 2 - from)
 }
 
 // Is the trip not permitted, pruned, without pickup at the offset, or skipping it?
 fn barred_listed(
-    t: &[u32],
+    tables: &[u32],
     c: Counts,
-    rows: &[u32],
+    delay_rows: &[u32],
     stop_rows: &[u32],
     built: &[u32],
     terms: Terms,
@@ -90,10 +98,16 @@ fn barred_listed(
     off: usize,
     work: &[u32],
 ) -> bool
-    requires { ⌜ Ground (now t) c (now rows) (now «stop_rows») ⌝ ∗ ⌜ Known (now rows) adj ⌝ ∗ ⌜ Event (now t) c trip off ⌝ ∗ ⌜ RoundChains lay stamp c (now built) (now work) ⌝ }
-    ensures { λ r. ⌜ ((T : Tables) (Q : Query) (b : Boardings) → Agree T Q (now (t .entry)) c (now (rows .entry)) (now («stop_rows» .entry)) → Asks Q terms → Agrees T lay c (now (built .entry)) (now (work .entry)) → Books lay stamp T Q (now (work .entry)) b → r ≡ (((not (permitted T Q trip) || pruned T Q (hitOf adj) trip off b) || noPickup T trip off) || skipped T Q (hitOf adj) trip off)) ⌝ }
+    requires { ⌜ Ground (now tables) c (now «delay_rows») (now «stop_rows») ⌝
+        ∗ ⌜ Known (now «delay_rows») adj ⌝
+        ∗ ⌜ Event (now tables) c trip off ⌝
+        ∗ ⌜ RoundChains lay stamp c (now built) (now work) ⌝ }
+    ensures { λ r. ⌜ ((T : Tables) (Q : Query) (b : Boardings) → Agree T Q (now (tables .entry)) c (now («delay_rows» .entry))
+        (now («stop_rows» .entry)) → Asks Q terms → Agrees T lay c (now (built .entry)) (now (work .entry))
+        → Books lay stamp T Q (now (work .entry)) b → r
+        ≡ (((not (permitted T Q trip) || pruned T Q (hitOf adj) trip off b) || noPickup T trip off) || skipped T Q (hitOf adj) trip off)) ⌝ }
 {
-    let fit = trip_boarding::permitted(t, c, terms, trip);
+    let fit = trip_boarding::permitted(tables, c, terms, trip);
     if !fit {
         return true;
     }
@@ -101,17 +115,17 @@ fn barred_listed(
     if cut {
         return true;
     }
-    if tables::time(t, c, tables::trip(t, c, trip, 0) + off, 4) == 1 {
+    if tables::time(tables, c, tables::trip(tables, c, trip, 0) + off, 4) == 1 {
         return true;
     }
-    trip_boarding::skipped(t, c, rows, stop_rows, adj, trip, off)
+    trip_boarding::skipped(tables, c, delay_rows, stop_rows, adj, trip, off)
 }
 
 // The tests of one listed departure, in the Rust's order: how it is boarded, if it is.
 fn board_listed(
-    t: &[u32],
+    tables: &[u32],
     c: Counts,
-    rows: &[u32],
+    delay_rows: &[u32],
     stop_rows: &[u32],
     built: &[u32],
     terms: Terms,
@@ -124,13 +138,20 @@ fn board_listed(
     best: u32,
     work: &[u32],
 ) -> FreqBoard
-    requires { ⌜ Ground (now t) c (now rows) (now «stop_rows») ⌝ ∗ ⌜ Known (now rows) adj ⌝ ∗ ⌜ Event (now t) c trip off ⌝ ∗ ⌜ after < 134217728 ⌝ ∗ ⌜ RoundChains lay stamp c (now built) (now work) ⌝ }
-    ensures { λ r. ⌜ ((T : Tables) (Q : Query) (s : State) → Agree T Q (now (t .entry)) c (now (rows .entry)) (now («stop_rows» .entry)) → Asks Q terms → Agrees T lay c (now (built .entry)) (now (work .entry)) → Books lay stamp T Q (now (work .entry)) (s .boardings) → s .arrivals .best ≡ best → r ≡ boarding T Q stamp after (hitOf adj) trip off s) ⌝ ∗ ⌜ AsBoarded (now (t .entry)) c (now (rows .entry)) (now («stop_rows» .entry)) adj trip off after r ⌝ }
+    requires { ⌜ Ground (now tables) c (now «delay_rows») (now «stop_rows») ⌝
+        ∗ ⌜ Known (now «delay_rows») adj ⌝
+        ∗ ⌜ Event (now tables) c trip off ⌝
+        ∗ ⌜ after < 134217728 ⌝
+        ∗ ⌜ RoundChains lay stamp c (now built) (now work) ⌝ }
+    ensures { λ r. ⌜ ((T : Tables) (Q : Query) (s : State) → Agree T Q (now (tables .entry)) c (now («delay_rows» .entry)) (now («stop_rows» .entry))
+        → Asks Q terms → Agrees T lay c (now (built .entry)) (now (work .entry)) → Books lay stamp T Q (now (work .entry)) (s .boardings)
+        → s .arrivals .best ≡ best → r ≡ boarding T Q stamp after (hitOf adj) trip off s) ⌝
+        ∗ ⌜ AsBoarded (now (tables .entry)) c (now («delay_rows» .entry)) (now («stop_rows» .entry)) adj trip off after r ⌝ }
 {
     if barred_listed(
-        t,
+        tables,
         c,
-        rows,
+        delay_rows,
         stop_rows,
         built,
         terms,
@@ -143,7 +164,7 @@ fn board_listed(
     ) {
         return FreqBoard::Nothing;
     }
-    let found = trip_boarding::board_at(t, c, rows, stop_rows, adj, trip, off, after);
+    let found = trip_boarding::board_at(tables, c, delay_rows, stop_rows, adj, trip, off, after);
     let FreqBoard::Board(b) = found else {
         return FreqBoard::Nothing;
     };
@@ -158,33 +179,41 @@ fn board_listed(
 
 // One listed departure of stop x, without the test whether it is too late: boarded not before `after`, if it can be, and scanned.
 fn take_departure(
-    t: &[u32],
-    rows: &[u32],
+    tables: &[u32],
+    delay_rows: &[u32],
     stop_rows: &[u32],
     built: &[u32],
-    bytes: &[u8],
-    area: &[u32],
+    patterns: &[u8],
+    transfers: &[u32],
     p: Phase,
     at: StopScan,
     d: DepartureRow,
     work: &mut [u32],
     labels: &mut [u32],
-    distances: &mut [f64],
+    label_distances: &mut [f64],
     queue: &mut [u32],
     h: Head,
 ) -> Head
-    requires { ⌜ Going (p .context) (slices (now t) (now rows) (now «stop_rows») (now built) (now bytes) (now area)) (p .stamp) (memory (now work) (now labels) (now distances) h) (now queue) ⌝ ∗ ⌜ Event (now t) (p .context .counts .timetable) (d .trip) (d .offset) ⌝ ∗ ⌜ at .after < 134217728 ⌝ }
-    ensures { λ r. ⌜ Rode (p .context .lay) (p .stamp) (Rides (p .context) (slices (now (t .entry)) (now (rows .entry)) (now («stop_rows» .entry)) (now (built .entry)) (now (bytes .entry)) (now (area .entry))) (now (work .entry))) (λ T Q. taken T Q (p .context .flagged) (p .stamp - 2) (p .stamp) (at .stop) (at .after) d) (memory (now (work .entry)) (now (labels .entry)) (now (distances .entry)) h) (memory (now (work .exit)) (now (labels .exit)) (now (distances .exit)) r) (now (queue .entry)) (now (queue .exit)) ⌝ }
+    requires { ⌜ Going (p .context) (slices (now tables) (now «delay_rows») (now «stop_rows») (now built) (now patterns) (now transfers)) (p .stamp)
+        (memory (now work) (now labels) (now «label_distances») h) (now queue) ⌝
+        ∗ ⌜ Event (now tables) (p .context .counts .timetable) (d .trip) (d .offset) ⌝
+        ∗ ⌜ at .after < 134217728 ⌝ }
+    ensures { λ r. ⌜ Rode (p .context .lay) (p .stamp)
+        (Rides (p .context) (slices (now (tables .entry)) (now («delay_rows» .entry)) (now («stop_rows» .entry)) (now (built .entry))
+        (now (patterns .entry)) (now (transfers .entry))) (now (work .entry)))
+        (λ T Q. taken T Q (p .context .flagged) (p .stamp - 2) (p .stamp) (at .stop) (at .after) d)
+        (memory (now (work .entry)) (now (labels .entry)) (now («label_distances» .entry)) h)
+        (memory (now (work .exit)) (now (labels .exit)) (now («label_distances» .exit)) r) (now (queue .entry)) (now (queue .exit)) ⌝ }
 {
     let trip = d.trip as u32;
     let off = d.offset as u32;
     let counts = p.context.counts.timetable;
     let lay = p.context.lay;
-    let adj = trip_boarding::delay_of(rows, trip);
+    let adj = trip_boarding::delay_of(delay_rows, trip);
     let found = board_listed(
-        t,
+        tables,
         counts,
-        rows,
+        delay_rows,
         stop_rows,
         built,
         p.context.net.terms,
@@ -211,28 +240,29 @@ fn take_departure(
     let context = p.context;
     let s = Scan { context, adj, ride };
     trip_scan::scan_trip_forward(
-        t,
-        rows,
+        tables,
+        delay_rows,
         stop_rows,
         built,
-        bytes,
-        area,
+        patterns,
+        transfers,
         s,
         work,
         labels,
-        distances,
+        label_distances,
         queue,
         h,
     )
 }
 
 // At a stop without frequency trips: does a trip depart so late that no delay brings it before the best total?
-fn too_late(t: &[u32], p: Phase, has_freq: bool, d: DepartureRow, best: u32) -> bool
-    requires { ⌜ Sane (now t) (p .context .counts .timetable) ⌝ ∗ ⌜ Event (now t) (p .context .counts .timetable) (d .trip) (d .offset) ⌝ }
-    ensures { λ r. ⌜ ((T : Tables) (Q : Query) → T .timetable ≡ timetable (now (t .entry)) (p .context .counts .timetable) → Asks Q (p .context .net .terms) → r ≡ (not «has_freq» && leb (best + marginOf T Q) (departure T (d .trip) (d .offset)))) ⌝ }
+fn too_late(tables: &[u32], p: Phase, has_freq: bool, d: DepartureRow, best: u32) -> bool
+    requires { ⌜ Sane (now tables) (p .context .counts .timetable) ⌝ ∗ ⌜ Event (now tables) (p .context .counts .timetable) (d .trip) (d .offset) ⌝ }
+    ensures { λ r. ⌜ ((T : Tables) (Q : Query) → T .timetable ≡ timetable (now (tables .entry)) (p .context .counts .timetable)
+        → Asks Q (p .context .net .terms) → r ≡ (not «has_freq» && leb (best + marginOf T Q) (departure T (d .trip) (d .offset)))) ⌝ }
 {
-    let first = tables::trip(t, p.context.counts.timetable, d.trip, 0);
-    let dep = tables::time(t, p.context.counts.timetable, first + d.offset, 2) as u64;
+    let first = tables::trip(tables, p.context.counts.timetable, d.trip, 0);
+    let dep = tables::time(tables, p.context.counts.timetable, first + d.offset, 2) as u64;
     let terms = p.context.net.terms;
     let late = best as u64 + terms.margin as u64 <= dep;
     door::both(!has_freq, late)
@@ -240,45 +270,54 @@ fn too_late(t: &[u32], p: Phase, has_freq: bool, d: DepartureRow, best: u32) -> 
 
 // The departures of stop x in `list`, one by one; at a stop without frequency trips until one is too late.
 pub fn scan_departures(
-    t: &[u32],
-    rows: &[u32],
+    tables: &[u32],
+    delay_rows: &[u32],
     stop_rows: &[u32],
     built: &[u32],
-    bytes: &[u8],
-    area: &[u32],
+    patterns: &[u8],
+    transfers: &[u32],
     p: Phase,
     at: StopScan,
     list: &[u32],
     work: &mut [u32],
     labels: &mut [u32],
-    distances: &mut [f64],
+    label_distances: &mut [f64],
     queue: &mut [u32],
     h: Head,
 ) -> Head
-    requires { ⌜ Going (p .context) (slices (now t) (now rows) (now «stop_rows») (now built) (now bytes) (now area)) (p .stamp) (memory (now work) (now labels) (now distances) h) (now queue) ⌝ ∗ ⌜ RowsKnown (now t) (p .context .counts .timetable) (now list) (length (now list) / 2) ⌝ ∗ ⌜ at .after < 134217728 ⌝ }
-    ensures { λ r. ⌜ Rode (p .context .lay) (p .stamp) (Rides (p .context) (slices (now (t .entry)) (now (rows .entry)) (now («stop_rows» .entry)) (now (built .entry)) (now (bytes .entry)) (now (area .entry))) (now (work .entry))) (λ T Q. scanDepartures T Q (p .context .flagged) (at .«has_freq») (p .stamp - 2) (p .stamp) (at .stop) (at .after) (rowsOf (now (list .entry)) (length (now (list .entry)) / 2))) (memory (now (work .entry)) (now (labels .entry)) (now (distances .entry)) h) (memory (now (work .exit)) (now (labels .exit)) (now (distances .exit)) r) (now (queue .entry)) (now (queue .exit)) ⌝ }
+    requires { ⌜ Going (p .context) (slices (now tables) (now «delay_rows») (now «stop_rows») (now built) (now patterns) (now transfers)) (p .stamp)
+        (memory (now work) (now labels) (now «label_distances») h) (now queue) ⌝
+        ∗ ⌜ RowsKnown (now tables) (p .context .counts .timetable) (now list) (length (now list) / 2) ⌝
+        ∗ ⌜ at .after < 134217728 ⌝ }
+    ensures { λ r. ⌜ Rode (p .context .lay) (p .stamp)
+        (Rides (p .context) (slices (now (tables .entry)) (now («delay_rows» .entry)) (now («stop_rows» .entry)) (now (built .entry))
+        (now (patterns .entry)) (now (transfers .entry))) (now (work .entry)))
+        (λ T Q. scanDepartures T Q (p .context .flagged) (at .«has_freq») (p .stamp - 2) (p .stamp) (at .stop) (at .after)
+        (rowsOf (now (list .entry)) (length (now (list .entry)) / 2)))
+        (memory (now (work .entry)) (now (labels .entry)) (now («label_distances» .entry)) h)
+        (memory (now (work .exit)) (now (labels .exit)) (now («label_distances» .exit)) r) (now (queue .entry)) (now (queue .exit)) ⌝ }
 {
     let m = list.len() / 2;
     let mut g = h;
     let mut i: usize = 0;
     while i < m {
         let d = departures::departure_row(list, i);
-        if too_late(t, p, at.has_freq, d, g.best) {
+        if too_late(tables, p, at.has_freq, d, g.best) {
             return g;
         }
         g = take_departure(
-            t,
-            rows,
+            tables,
+            delay_rows,
             stop_rows,
             built,
-            bytes,
-            area,
+            patterns,
+            transfers,
             p,
             at,
             d,
             work,
             labels,
-            distances,
+            label_distances,
             queue,
             g,
         );

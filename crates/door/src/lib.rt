@@ -1,6 +1,7 @@
 // door: what an entry answers. Document 01 puts its questions in order; the answer to the first no is that question's
 // number, 0 is success.
-// Specs: `ask` (the first no wins), an answer that carries one number, the limit of times.
+// Place: the foundation.
+// Specs (a claim): `ask` (the first no wins), an answer that carries one number, the limit of times.
 // Proves: that the two ways to make an answer are those of the definition.
 // Assumes nothing.
 ghost use mathlib.Core.Path.{_≡_};

@@ -1,5 +1,5 @@
-// event_transfers: the transfers of every stop event (document 01, item 8): from one event to each line at its stop, lines rising, the first departure
-// not too early; then all events, trip by trip and offset by offset, counted and written with their runs.
+// event_transfers: the transfers of every stop event (document 01, item 8): from one event to each line at its stop, lines rising, the first
+// departure not too early; then all events, trip by trip and offset by offset, counted and written with their runs.
 // Place: tables. Its call: `transfers_call`.
 // Specs: the transfers of a timetable (Transfers, a claim); how the code holds a departure in one number and writes row by row (Packed, inner).
 // Proves: each function meets its definition of Packed, which `transfers_call` shows to be Transfers' own; how many events there are.
@@ -11,7 +11,9 @@ ghost use lib.Dec.{ltb, leb, eqb};
 ghost use Rattle.loops.specs.Count.{one};
 ghost use Rattle.loops.specs.Order.{Halved};
 ghost use Rattle.sorts.specs.Sort.{hi};
-ghost use Rattle.event_transfers.specs.Packed.{Keys, Stretch, Lines, LineEnd, Group, laid, lay, layRow, putRow, toGroup, targets, LinesAfter, depX, areaWalk, putRun, layEvent, layEvents, Most, MostAt, prepared, alightKeys, eventKeys, tripKeys, allKeys, SortedRuns, EventAt, TripAt};
+ghost use Rattle.event_transfers.specs.Packed.{Keys, Stretch, Lines, LineEnd, Group, laid, lay, layRow, putRow, toGroup, targets, LinesAfter};
+ghost use Rattle.event_transfers.specs.Packed.{depX, areaWalk, putRun, layEvent, layEvents, Most, MostAt, prepared, alightKeys, eventKeys};
+ghost use Rattle.event_transfers.specs.Packed.{tripKeys, allKeys, SortedRuns, EventAt, TripAt};
 ghost use mathlib.Core.List.{flatten};
 ghost use Rattle.tables.specs.Tables.{timeOf};
 ghost use Rattle.tables.specs.Sane.{CountsOk, SlicesOk, Sane};
@@ -30,7 +32,10 @@ fn below(x: u64, key: u64) -> usize
 
 // One halving of a search: the middle where the number there is below the key, else the start.
 fn narrowed(part: &[u64], key: u64, lo: usize, size: usize) -> usize
-    requires { ⌜ Keys (now part) ⌝ ∗ ⌜ key ≤ 8589934592 ⌝ ∗ ⌜ Halved (λ i. leb key (hi (getD (now part) i 0))) (length (now part)) lo (lo + size) ⌝ ∗ ⌜ 1 < size ⌝ }
+    requires { ⌜ Keys (now part) ⌝
+        ∗ ⌜ key ≤ 8589934592 ⌝
+        ∗ ⌜ Halved (λ i. leb key (hi (getD (now part) i 0))) (length (now part)) lo (lo + size) ⌝
+        ∗ ⌜ 1 < size ⌝ }
     ensures { λ r. ⌜ Halved (λ i. leb key (hi (getD (now (part .entry)) i 0))) (length (now (part .entry))) r (r + (size - size / 2)) ⌝ }
 {
     let half = size / 2;
@@ -192,16 +197,16 @@ fn to_lines(
 }
 
 // Is getting off barred at a stop time? Only drop-off 1 bars.
-fn barred(t: &[u32], c: Counts, at: usize) -> bool
-    requires { ⌜ CountsOk c ⌝ ∗ ⌜ SlicesOk (now t) c ⌝ ∗ ⌜ at < c .times ⌝ }
-    ensures { λ b. ⌜ b ≡ eqb (timeOf (now (t .entry)) at 5) 1 ⌝ }
+fn barred(tables: &[u32], c: Counts, at: usize) -> bool
+    requires { ⌜ CountsOk c ⌝ ∗ ⌜ SlicesOk (now tables) c ⌝ ∗ ⌜ at < c .times ⌝ }
+    ensures { λ b. ⌜ b ≡ eqb (timeOf (now (tables .entry)) at 5) 1 ⌝ }
 {
-    tables::time(t, c, at, 5) == 1
+    tables::time(tables, c, at, 5) == 1
 }
 
 // Getting off at a stop time: where drop-off is not 1, the transfers to every line at its stop.
 fn alight(
-    t: &[u32],
+    tables: &[u32],
     c: Counts,
     runs: &[u32],
     d: usize,
@@ -213,91 +218,109 @@ fn alight(
     at: usize,
     n: usize,
 ) -> usize
-    requires { ⌜ Sane (now t) c ⌝ ∗ ⌜ RunsListed c (now runs) d ⌝ ∗ ⌜ SortedRuns c (now runs) (now work) (now ends) d ⌝ ∗ ⌜ at < c .times ⌝ ∗ ⌜ time ≤ 3600 ⌝ }
-    ensures { λ r. ⌜ laid r (now (area .exit)) ≡ lay time (alightKeys (prepared (now (t .entry)) c (now (runs .entry)) (now (work .entry)) time) ti at) (laid n (now (area .entry))) ⌝ }
+    requires { ⌜ Sane (now tables) c ⌝
+        ∗ ⌜ RunsListed c (now runs) d ⌝
+        ∗ ⌜ SortedRuns c (now runs) (now work) (now ends) d ⌝
+        ∗ ⌜ at < c .times ⌝
+        ∗ ⌜ time ≤ 3600 ⌝ }
+    ensures { λ r. ⌜ laid r (now (area .exit))
+        ≡ lay time (alightKeys (prepared (now (tables .entry)) c (now (runs .entry)) (now (work .entry)) time) ti at)
+        (laid n (now (area .entry))) ⌝ }
 {
     if 65536 < n {
         return n;
     }
-    if barred(t, c, at) {
+    if barred(tables, c, at) {
         return n;
     }
-    let w = tables::time(t, c, at, 1) + time;
-    let r = departures::stop_run(runs, tables::time(t, c, at, 0));
+    let w = tables::time(tables, c, at, 1) + time;
+    let r = departures::stop_run(runs, tables::time(tables, c, at, 0));
     let first = r.first;
     let end = first + r.length;
     to_lines(&work[first..end], &ends[first..end], area, time, ti, w, n)
 }
 
 // The run of event e, where there is space for it: n transfers stand before it, r after it.
-fn put_run(evs: &mut [u32], e: usize, n: usize, r: usize)
+fn put_run(transfer_runs: &mut [u32], e: usize, n: usize, r: usize)
     requires { ⌜ e < 268435456 ⌝ ∗ ⌜ n ≤ r ⌝ ∗ ⌜ r ≤ 65537 ⌝ }
-    ensures { λ _. ⌜ now (evs .exit) ≡ putRun (now (evs .entry)) e n (r - n) ⌝ }
+    ensures { λ _. ⌜ now («transfer_runs» .exit) ≡ putRun (now («transfer_runs» .entry)) e n (r - n) ⌝ }
 {
     let at = e * 2;
-    if evs.len() < at + 2 {
+    if transfer_runs.len() < at + 2 {
         return;
     }
-    evs[at] = n as u32;
-    evs[at + 1] = (r - n) as u32;
+    transfer_runs[at] = n as u32;
+    transfer_runs[at + 1] = (r - n) as u32;
 }
 
 // One stop event of a trip, number e of all events.
 fn event(
-    t: &[u32],
+    tables: &[u32],
     c: Counts,
     runs: &[u32],
     d: usize,
     work: &[u64],
     ends: &[u64],
     area: &mut [u32],
-    evs: &mut [u32],
+    transfer_runs: &mut [u32],
     time: usize,
     ti: usize,
     off: usize,
     e: usize,
     n: usize,
 ) -> usize
-    requires { ⌜ Sane (now t) c ⌝ ∗ ⌜ RunsListed c (now runs) d ⌝ ∗ ⌜ SortedRuns c (now runs) (now work) (now ends) d ⌝ ∗ ⌜ EventAt (now t) c ti off e n time ⌝ }
-    ensures { λ r. ⌜ areaWalk r (now (area .exit)) (now (evs .exit)) ≡ layEvent time e (eventKeys (prepared (now (t .entry)) c (now (runs .entry)) (now (work .entry)) time) ti off) (areaWalk n (now (area .entry)) (now (evs .entry))) ⌝ ∗ ⌜ r ≤ 65537 ⌝ }
+    requires { ⌜ Sane (now tables) c ⌝
+        ∗ ⌜ RunsListed c (now runs) d ⌝
+        ∗ ⌜ SortedRuns c (now runs) (now work) (now ends) d ⌝
+        ∗ ⌜ EventAt (now tables) c ti off e n time ⌝ }
+    ensures { λ r. ⌜ areaWalk r (now (area .exit)) (now («transfer_runs» .exit))
+        ≡ layEvent time e (eventKeys (prepared (now (tables .entry)) c (now (runs .entry)) (now (work .entry)) time) ti off)
+        (areaWalk n (now (area .entry)) (now («transfer_runs» .entry))) ⌝
+        ∗ ⌜ r ≤ 65537 ⌝ }
 {
-    let at = tables::trip(t, c, ti, 0) + off;
-    let r = alight(t, c, runs, d, work, ends, area, time, ti, at, n);
-    put_run(evs, e, n, r);
+    let at = tables::trip(tables, c, ti, 0) + off;
+    let r = alight(tables, c, runs, d, work, ends, area, time, ti, at, n);
+    put_run(transfer_runs, e, n, r);
     r
 }
 
 // The stop events of a trip, number e and on of all events.
 fn trip_events(
-    t: &[u32],
+    tables: &[u32],
     c: Counts,
     runs: &[u32],
     d: usize,
     work: &[u64],
     ends: &[u64],
     area: &mut [u32],
-    evs: &mut [u32],
+    transfer_runs: &mut [u32],
     time: usize,
     ti: usize,
     e: usize,
     n: usize,
 ) -> usize
-    requires { ⌜ Sane (now t) c ⌝ ∗ ⌜ RunsListed c (now runs) d ⌝ ∗ ⌜ SortedRuns c (now runs) (now work) (now ends) d ⌝ ∗ ⌜ TripAt c ti e n time ⌝ }
-    ensures { λ r. ⌜ areaWalk r (now (area .exit)) (now (evs .exit)) ≡ layEvents time e (tripKeys (prepared (now (t .entry)) c (now (runs .entry)) (now (work .entry)) time) ti) (areaWalk n (now (area .entry)) (now (evs .entry))) ⌝ ∗ ⌜ r ≤ 65537 ⌝ }
+    requires { ⌜ Sane (now tables) c ⌝
+        ∗ ⌜ RunsListed c (now runs) d ⌝
+        ∗ ⌜ SortedRuns c (now runs) (now work) (now ends) d ⌝
+        ∗ ⌜ TripAt c ti e n time ⌝ }
+    ensures { λ r. ⌜ areaWalk r (now (area .exit)) (now («transfer_runs» .exit))
+        ≡ layEvents time e (tripKeys (prepared (now (tables .entry)) c (now (runs .entry)) (now (work .entry)) time) ti)
+        (areaWalk n (now (area .entry)) (now («transfer_runs» .entry))) ⌝
+        ∗ ⌜ r ≤ 65537 ⌝ }
 {
-    let count = tables::trip(t, c, ti, 1);
+    let count = tables::trip(tables, c, ti, 1);
     let mut m = n;
     let mut off: usize = 0;
     while off < count {
         m = event(
-            t,
+            tables,
             c,
             runs,
             d,
             work,
             ends,
             area,
-            evs,
+            transfer_runs,
             time,
             ti,
             off,
@@ -311,26 +334,42 @@ fn trip_events(
 
 // All stop events. How many transfers there are, counted no further than 65,537.
 pub fn all_events(
-    t: &[u32],
+    tables: &[u32],
     c: Counts,
     runs: &[u32],
     d: usize,
     work: &[u64],
     ends: &[u64],
     area: &mut [u32],
-    evs: &mut [u32],
+    transfer_runs: &mut [u32],
     time: usize,
 ) -> usize
-    requires { ⌜ Sane (now t) c ⌝ ∗ ⌜ RunsListed c (now runs) d ⌝ ∗ ⌜ SortedRuns c (now runs) (now work) (now ends) d ⌝ ∗ ⌜ time ≤ 3600 ⌝ }
-    ensures { λ r. ⌜ areaWalk r (now (area .exit)) (now (evs .exit)) ≡ layEvents time 0 (allKeys (prepared (now (t .entry)) c (now (runs .entry)) (now (work .entry)) time)) (areaWalk 0 (now (area .entry)) (now (evs .entry))) ⌝ ∗ ⌜ r ≤ 65537 ⌝ }
+    requires { ⌜ Sane (now tables) c ⌝ ∗ ⌜ RunsListed c (now runs) d ⌝ ∗ ⌜ SortedRuns c (now runs) (now work) (now ends) d ⌝ ∗ ⌜ time ≤ 3600 ⌝ }
+    ensures { λ r. ⌜ areaWalk r (now (area .exit)) (now («transfer_runs» .exit))
+        ≡ layEvents time 0 (allKeys (prepared (now (tables .entry)) c (now (runs .entry)) (now (work .entry)) time))
+        (areaWalk 0 (now (area .entry)) (now («transfer_runs» .entry))) ⌝
+        ∗ ⌜ r ≤ 65537 ⌝ }
 {
     let trips = c.trips;
     let mut n: usize = 0;
     let mut e: usize = 0;
     let mut ti: usize = 0;
     while ti < trips {
-        n = trip_events(t, c, runs, d, work, ends, area, evs, time, ti, e, n);
-        e += tables::trip(t, c, ti, 1);
+        n = trip_events(
+            tables,
+            c,
+            runs,
+            d,
+            work,
+            ends,
+            area,
+            transfer_runs,
+            time,
+            ti,
+            e,
+            n,
+        );
+        e += tables::trip(tables, c, ti, 1);
         ti += 1;
     }
     n
@@ -338,7 +377,7 @@ pub fn all_events(
 
 // No fewer than the transfers of an event at a stop time, after n of others; past 65,536 no more are counted.
 fn most_alight(
-    t: &[u32],
+    tables: &[u32],
     c: Counts,
     runs: &[u32],
     d: usize,
@@ -348,17 +387,21 @@ fn most_alight(
     at: usize,
     n: usize,
 ) -> usize
-    requires { ⌜ Sane (now t) c ⌝ ∗ ⌜ RunsListed c (now runs) d ⌝ ∗ ⌜ SortedRuns c (now runs) (now work) (now ends) d ⌝ ∗ ⌜ MostAt at (c .times) n time ⌝ }
-    ensures { λ r. ⌜ ((ti : ℕ) → Most n (length (alightKeys (prepared (now (t .entry)) c (now (runs .entry)) (now (work .entry)) time) ti at)) r 0) ⌝ }
+    requires { ⌜ Sane (now tables) c ⌝
+        ∗ ⌜ RunsListed c (now runs) d ⌝
+        ∗ ⌜ SortedRuns c (now runs) (now work) (now ends) d ⌝
+        ∗ ⌜ MostAt at (c .times) n time ⌝ }
+    ensures { λ r. ⌜ ((ti : ℕ) → Most n (length (alightKeys (prepared (now (tables .entry)) c (now (runs .entry)) (now (work .entry)) time) ti at)) r
+        0) ⌝ }
 {
     if 65536 < n {
         return n;
     }
-    if barred(t, c, at) {
+    if barred(tables, c, at) {
         return n;
     }
-    let w = tables::time(t, c, at, 1) + time;
-    let r = departures::stop_run(runs, tables::time(t, c, at, 0));
+    let w = tables::time(tables, c, at, 1) + time;
+    let r = departures::stop_run(runs, tables::time(tables, c, at, 0));
     let first = r.first;
     let end = first + r.length;
     n + lines_after(&work[first..end], &ends[first..end], w)
@@ -366,7 +409,7 @@ fn most_alight(
 
 // Of a trip's events.
 fn most_trip(
-    t: &[u32],
+    tables: &[u32],
     c: Counts,
     runs: &[u32],
     d: usize,
@@ -376,15 +419,18 @@ fn most_trip(
     ti: usize,
     n: usize,
 ) -> usize
-    requires { ⌜ Sane (now t) c ⌝ ∗ ⌜ RunsListed c (now runs) d ⌝ ∗ ⌜ SortedRuns c (now runs) (now work) (now ends) d ⌝ ∗ ⌜ MostAt ti (c .trips) n time ⌝ }
-    ensures { λ r. ⌜ Most n (length (flatten (tripKeys (prepared (now (t .entry)) c (now (runs .entry)) (now (work .entry)) time) ti))) r 0 ⌝ }
+    requires { ⌜ Sane (now tables) c ⌝
+        ∗ ⌜ RunsListed c (now runs) d ⌝
+        ∗ ⌜ SortedRuns c (now runs) (now work) (now ends) d ⌝
+        ∗ ⌜ MostAt ti (c .trips) n time ⌝ }
+    ensures { λ r. ⌜ Most n (length (flatten (tripKeys (prepared (now (tables .entry)) c (now (runs .entry)) (now (work .entry)) time) ti))) r 0 ⌝ }
 {
-    let first = tables::trip(t, c, ti, 0);
-    let count = tables::trip(t, c, ti, 1);
+    let first = tables::trip(tables, c, ti, 0);
+    let count = tables::trip(tables, c, ti, 1);
     let mut m = n;
     let mut off: usize = 0;
     while off < count {
-        m = most_alight(t, c, runs, d, work, ends, time, first + off, m);
+        m = most_alight(tables, c, runs, d, work, ends, time, first + off, m);
         off += 1;
     }
     m
@@ -392,7 +438,7 @@ fn most_trip(
 
 // Of all events.
 pub fn most_all(
-    t: &[u32],
+    tables: &[u32],
     c: Counts,
     runs: &[u32],
     d: usize,
@@ -400,14 +446,14 @@ pub fn most_all(
     ends: &[u64],
     time: usize,
 ) -> usize
-    requires { ⌜ Sane (now t) c ⌝ ∗ ⌜ RunsListed c (now runs) d ⌝ ∗ ⌜ SortedRuns c (now runs) (now work) (now ends) d ⌝ ∗ ⌜ time ≤ 3600 ⌝ }
-    ensures { λ r. ⌜ Most 0 (length (flatten (allKeys (prepared (now (t .entry)) c (now (runs .entry)) (now (work .entry)) time)))) r 0 ⌝ }
+    requires { ⌜ Sane (now tables) c ⌝ ∗ ⌜ RunsListed c (now runs) d ⌝ ∗ ⌜ SortedRuns c (now runs) (now work) (now ends) d ⌝ ∗ ⌜ time ≤ 3600 ⌝ }
+    ensures { λ r. ⌜ Most 0 (length (flatten (allKeys (prepared (now (tables .entry)) c (now (runs .entry)) (now (work .entry)) time)))) r 0 ⌝ }
 {
     let trips = c.trips;
     let mut n: usize = 0;
     let mut ti: usize = 0;
     while ti < trips {
-        n = most_trip(t, c, runs, d, work, ends, time, ti, n);
+        n = most_trip(tables, c, runs, d, work, ends, time, ti, n);
         ti += 1;
     }
     n
@@ -415,7 +461,7 @@ pub fn most_all(
 
 // How many transfers there are, counted no further than 65,537: the same walk with space for none.
 pub fn total(
-    t: &[u32],
+    tables: &[u32],
     c: Counts,
     runs: &[u32],
     d: usize,
@@ -423,24 +469,24 @@ pub fn total(
     ends: &[u64],
     time: usize,
 ) -> usize
-    requires { ⌜ Sane (now t) c ⌝ ∗ ⌜ RunsListed c (now runs) d ⌝ ∗ ⌜ SortedRuns c (now runs) (now work) (now ends) d ⌝ ∗ ⌜ time ≤ 3600 ⌝ }
-    ensures { λ r. ⌜ r ≡ min (length (flatten (allKeys (prepared (now (t .entry)) c (now (runs .entry)) (now (work .entry)) time)))) 65537 ⌝ }
+    requires { ⌜ Sane (now tables) c ⌝ ∗ ⌜ RunsListed c (now runs) d ⌝ ∗ ⌜ SortedRuns c (now runs) (now work) (now ends) d ⌝ ∗ ⌜ time ≤ 3600 ⌝ }
+    ensures { λ r. ⌜ r ≡ min (length (flatten (allKeys (prepared (now (tables .entry)) c (now (runs .entry)) (now (work .entry)) time)))) 65537 ⌝ }
 {
     let mut a = [0u32; 1];
     let mut v = [0u32; 1];
-    all_events(t, c, runs, d, work, ends, &mut a, &mut v, time)
+    all_events(tables, c, runs, d, work, ends, &mut a, &mut v, time)
 }
 
 // How many stop events the trips have.
-pub fn event_count(t: &[u32], c: Counts) -> usize
-    requires { ⌜ CountsOk c ⌝ ∗ ⌜ SlicesOk (now t) c ⌝ }
-    ensures { λ r. ⌜ r ≡ eventsBefore (timetable (now (t .entry)) c) (c .trips) ⌝ ∗ ⌜ r ≤ 17592186044416 ⌝ }
+pub fn event_count(tables: &[u32], c: Counts) -> usize
+    requires { ⌜ CountsOk c ⌝ ∗ ⌜ SlicesOk (now tables) c ⌝ }
+    ensures { λ r. ⌜ r ≡ eventsBefore (timetable (now (tables .entry)) c) (c .trips) ⌝ ∗ ⌜ r ≤ 17592186044416 ⌝ }
 {
     let n = c.trips;
     let mut e: usize = 0;
     let mut i: usize = 0;
     while i < n {
-        e += tables::trip(t, c, i, 1);
+        e += tables::trip(tables, c, i, 1);
         i += 1;
     }
     e

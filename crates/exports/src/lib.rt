@@ -2,6 +2,8 @@
 // Numbers and structs pass as themselves, a slice as a pointer and a length. No call has a `requires`: what the door of
 // document 01 does not admit is refused by the number of the first question answered no, and what was lent is as it came.
 // The comments above calls and structs, and those that stand alone, go into the C header (bindings/generate).
+// Place: the library's own crate.
+// Specs (a claim): what a call shows of an outcome (Shown).
 // Proves: each call's whole outcome is the leaf's definition of it.
 // Assumes nothing.
 ghost use mathlib.Core.Path.{_≡_};
@@ -275,7 +277,9 @@ pub extern "C" fn savoiky_label_store_access(
     labels: &mut [u32],
     distances: &mut [f64],
 ) -> u32
-    ensures { λ r. ⌜ labelOutcome r (now (labels .exit)) (now (distances .exit)) ≡ storeOutcome (Access «stop_idx» «arrival_s» «walk_duration» «walk_distance») stops stop row (now (labels .entry)) (now (distances .entry)) ⌝ }
+    ensures { λ r. ⌜ labelOutcome r (now (labels .exit)) (now (distances .exit))
+        ≡ storeOutcome (Access «stop_idx» «arrival_s» «walk_duration» «walk_distance») stops stop row (now (labels .entry))
+        (now (distances .entry)) ⌝ }
 {
     label_call::store_access(
         stops,
@@ -306,7 +310,9 @@ pub extern "C" fn savoiky_label_store_transit(
     labels: &mut [u32],
     distances: &mut [f64],
 ) -> u32
-    ensures { λ r. ⌜ labelOutcome r (now (labels .exit)) (now (distances .exit)) ≡ storeOutcome (Transit «arrival_s» «trip_idx» «board_stop» «board_off» «alight_off» «prev_round» «time_shift_s») stops stop row (now (labels .entry)) (now (distances .entry)) ⌝ }
+    ensures { λ r. ⌜ labelOutcome r (now (labels .exit)) (now (distances .exit))
+        ≡ storeOutcome (Transit «arrival_s» «trip_idx» «board_stop» «board_off» «alight_off» «prev_round» «time_shift_s») stops stop row
+        (now (labels .entry)) (now (distances .entry)) ⌝ }
 {
     label_call::store_transit(
         stops,
@@ -339,7 +345,9 @@ pub extern "C" fn savoiky_label_store_walk(
     labels: &mut [u32],
     distances: &mut [f64],
 ) -> u32
-    ensures { λ r. ⌜ labelOutcome r (now (labels .exit)) (now (distances .exit)) ≡ storeOutcome (Walk «arrival_s» «from_stop» «to_stop» «duration_s» «distance_m» «prev_round») stops stop row (now (labels .entry)) (now (distances .entry)) ⌝ }
+    ensures { λ r. ⌜ labelOutcome r (now (labels .exit)) (now (distances .exit))
+        ≡ storeOutcome (Walk «arrival_s» «from_stop» «to_stop» «duration_s» «distance_m» «prev_round») stops stop row (now (labels .entry))
+        (now (distances .entry)) ⌝ }
 {
     label_call::store_walk(
         stops,
@@ -401,7 +409,9 @@ pub extern "C" fn savoiky_sort_stop_departures(
     work: &mut [u64],
     other: &mut [u64],
 ) -> u32
-    ensures { λ r. ⌜ sortOutcomeOf r (sortAreas (now (rows .exit)) (now (marks .exit)) (now (work .exit)) (now (other .exit))) ≡ sortOutcome (now (tables .entry)) (countsOf stops trips times windows edges) departures (now (runs .entry)) (sortAreas (now (rows .entry)) (now (marks .entry)) (now (work .entry)) (now (other .entry))) ⌝ }
+    ensures { λ r. ⌜ sortOutcomeOf r (sortAreas (now (rows .exit)) (now (marks .exit)) (now (work .exit)) (now (other .exit)))
+        ≡ sortOutcome (now (tables .entry)) (countsOf stops trips times windows edges) departures (now (runs .entry))
+        (sortAreas (now (rows .entry)) (now (marks .entry)) (now (work .entry)) (now (other .entry))) ⌝ }
 {
     let c = sizes::counts(stops, trips, times, windows, edges);
     departures_call::sort_stop_departures(
@@ -442,7 +452,9 @@ pub extern "C" fn savoiky_compute_line_groups(
     work: &mut [u64],
     other: &mut [u64],
 ) -> Answer
-    ensures { λ r. ⌜ shown r (lineAreas (now (lines .exit)) (now (runs .exit)) (now (entries .exit)) (now (work .exit)) (now (other .exit))) ≡ shownOf (linesOutcome (now (tables .entry)) (countsOf stops trips times windows edges) (lineAreas (now (lines .entry)) (now (runs .entry)) (now (entries .entry)) (now (work .entry)) (now (other .entry)))) ⌝ }
+    ensures { λ r. ⌜ shown r (lineAreas (now (lines .exit)) (now (runs .exit)) (now (entries .exit)) (now (work .exit)) (now (other .exit)))
+        ≡ shownOf (linesOutcome (now (tables .entry)) (countsOf stops trips times windows edges)
+        (lineAreas (now (lines .entry)) (now (runs .entry)) (now (entries .entry)) (now (work .entry)) (now (other .entry)))) ⌝ }
 {
     let c = sizes::counts(stops, trips, times, windows, edges);
     lines_answer(lines_call::compute_line_groups(tables, c, lines, runs, entries, work, other))
@@ -466,7 +478,9 @@ pub extern "C" fn savoiky_line_layout(
     positions: &mut [u32],
     fifo: &mut [u32],
 ) -> u32
-    ensures { λ r. ⌜ layoutOutcomeOf r (layoutAreas (now (positions .exit)) (now (fifo .exit))) ≡ layoutOutcome (now (tables .entry)) (countsOf stops trips times windows edges) lines «entry_count» (now (runs .entry)) (now (entries .entry)) (layoutAreas (now (positions .entry)) (now (fifo .entry))) ⌝ }
+    ensures { λ r. ⌜ layoutOutcomeOf r (layoutAreas (now (positions .exit)) (now (fifo .exit)))
+        ≡ layoutOutcome (now (tables .entry)) (countsOf stops trips times windows edges) lines «entry_count» (now (runs .entry))
+        (now (entries .entry)) (layoutAreas (now (positions .entry)) (now (fifo .entry))) ⌝ }
 {
     let c = sizes::counts(stops, trips, times, windows, edges);
     layout_call::line_layout(
@@ -511,7 +525,10 @@ pub extern "C" fn savoiky_compute_trip_transfers(
     area: &mut [u32],
     transfer_runs: &mut [u32],
 ) -> Answer
-    ensures { λ r. ⌜ shownTransfers r (transferAreas (now (area .exit)) (now («transfer_runs» .exit))) ≡ shownTransfersOf (transfersOutcome (transferLent (now (tables .entry)) (countsOf stops trips times windows edges) «line_count» (now (lines .entry)) departures (now (runs .entry)) (now (rows .entry)) 120) (transferAreas (now (area .entry)) (now («transfer_runs» .entry)))) ⌝ }
+    ensures { λ r. ⌜ shownTransfers r (transferAreas (now (area .exit)) (now («transfer_runs» .exit)))
+        ≡ shownTransfersOf (transfersOutcome (transferLent (now (tables .entry)) (countsOf stops trips times windows edges) «line_count»
+        (now (lines .entry)) departures (now (runs .entry)) (now (rows .entry)) 120)
+        (transferAreas (now (area .entry)) (now («transfer_runs» .entry)))) ⌝ }
 {
     let c = sizes::counts(stops, trips, times, windows, edges);
     transfers_answer(transfers_call::compute_trip_transfers(
@@ -575,7 +592,15 @@ pub extern "C" fn savoiky_run_tbr(
     queue_b: &mut [u32],
     candidates: &mut [u32],
 ) -> Reply
-    ensures { λ r. ⌜ record { reply = r; areas = queryAreas (now (labels .exit)) (now («label_distances» .exit)) (now (work .exit)) (now («queue_a» .exit)) (now («queue_b» .exit)) (now (candidates .exit)) } ≡ runTbrOutcome (lentForQuery (queryCountsOf sizes) (now (tables .entry)) (now (built .entry)) (now (transfers .entry)) (now (patterns .entry)) (now (distances .entry)) (now (query .entry))) (queryAreas (now (labels .entry)) (now («label_distances» .entry)) (now (work .entry)) (now («queue_a» .entry)) (now («queue_b» .entry)) (now (candidates .entry))) ⌝ }
+    ensures { λ r. ⌜ record {
+      reply = r;
+      areas = queryAreas (now (labels .exit)) (now («label_distances» .exit)) (now (work .exit))
+          (now («queue_a» .exit)) (now («queue_b» .exit)) (now (candidates .exit));
+    }
+        ≡ runTbrOutcome (lentForQuery (queryCountsOf sizes) (now (tables .entry)) (now (built .entry)) (now (transfers .entry))
+        (now (patterns .entry)) (now (distances .entry)) (now (query .entry)))
+        (queryAreas (now (labels .entry)) (now («label_distances» .entry)) (now (work .entry)) (now («queue_a» .entry)) (now («queue_b» .entry))
+        (now (candidates .entry))) ⌝ }
 {
     query_call::run_tbr(
         sizes::query_counts(sizes),
@@ -612,7 +637,15 @@ pub extern "C" fn savoiky_query(
     queue_b: &mut [u32],
     candidates: &mut [u32],
 ) -> Reply
-    ensures { λ r. ⌜ record { reply = r; areas = queryAreas (now (labels .exit)) (now («label_distances» .exit)) (now (work .exit)) (now («queue_a» .exit)) (now («queue_b» .exit)) (now (candidates .exit)) } ≡ queryOutcome (lentForQuery (queryCountsOf sizes) (now (tables .entry)) (now (built .entry)) (now (transfers .entry)) (now (patterns .entry)) (now (distances .entry)) (now (query .entry))) (queryAreas (now (labels .entry)) (now («label_distances» .entry)) (now (work .entry)) (now («queue_a» .entry)) (now («queue_b» .entry)) (now (candidates .entry))) ⌝ }
+    ensures { λ r. ⌜ record {
+      reply = r;
+      areas = queryAreas (now (labels .exit)) (now («label_distances» .exit)) (now (work .exit))
+          (now («queue_a» .exit)) (now («queue_b» .exit)) (now (candidates .exit));
+    }
+        ≡ queryOutcome (lentForQuery (queryCountsOf sizes) (now (tables .entry)) (now (built .entry)) (now (transfers .entry))
+        (now (patterns .entry)) (now (distances .entry)) (now (query .entry)))
+        (queryAreas (now (labels .entry)) (now («label_distances» .entry)) (now (work .entry)) (now («queue_a» .entry)) (now («queue_b» .entry))
+        (now (candidates .entry))) ⌝ }
 {
     query_call::query(
         sizes::query_counts(sizes),

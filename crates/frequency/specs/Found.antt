@@ -22,7 +22,7 @@ abbrev pub windowRun : Window → ℕ → ℕ → ℕ → Run
 windowRun w base dep after = runOf w (firstRun w base dep after)
 
 -- the boarding of run k of window i, which starts at t
-abbrev pub boardOf : ℕ → ℕ → ℕ → ℕ → ℕ → FreqBoard
+abbrev pub boardOf : (start window base dep run : ℕ) → FreqBoard
 boardOf t i base dep k = cond (ltb t 4294967295) (boardStart t i base dep k) Nothing
 
 -- t is no run, or the start of a run that leaves the boarding stop no earlier than at 0

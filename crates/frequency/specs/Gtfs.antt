@@ -45,11 +45,11 @@ isRun w k = not (eqb (w .headway) 0) && ltb (runStart w k) (w .end)
 
 -- A run that starts at t leaves the boarding stop at t + (dep - base), where the template leaves it at dep. That is not before the
 -- wanted time `after` exactly if after + base ≤ t + dep; so put it is exact in ℕ, also where dep is less than base.
-abbrev pub leavesNotBefore : ℕ → ℕ → ℕ → ℕ → Bool
+abbrev pub leavesNotBefore : (base dep after start : ℕ) → Bool
 leavesNotBefore base dep after t = leb (after + base) (t + dep)
 
 -- run k can be boarded
-abbrev pub isBoardable : Window → ℕ → ℕ → ℕ → ℕ → Bool
+abbrev pub isBoardable : (w : Window) (base dep after run : ℕ) → Bool
 isBoardable w base dep after k = isRun w k && leavesNotBefore base dep after (runStart w k)
 
 -- The first run of a window that can be boarded. Headways are at least a second, so there are at most end - start runs.
@@ -57,7 +57,7 @@ unfoldable pub firstRun : Window → ℕ → ℕ → ℕ → Hit
 firstRun w base dep after = firstIn (isBoardable w base dep after) 0 (w .end - w .start)
 
 -- Boarding run k of window i, which starts at t: its departure, and its time shift, t - base, as the bits of an i32.
-abbrev pub boardStart : ℕ → ℕ → ℕ → ℕ → ℕ → FreqBoard
+abbrev pub boardStart : (start window base dep run : ℕ) → FreqBoard
 boardStart t i base dep k = Board (record { departure = t + dep - base; «time_shift_s» = bitsOf (subℕ t base); window = i; run = k })
 
 abbrev pub boardHit : Window → ℕ → ℕ → ℕ → Hit → FreqBoard
@@ -65,7 +65,7 @@ boardHit w i base dep (hit k) = boardStart (runStart w k) i base dep k
 boardHit w i base dep miss = Nothing
 
 -- the earliest boarding of window i
-abbrev pub windowBoard : Window → ℕ → ℕ → ℕ → ℕ → FreqBoard
+abbrev pub windowBoard : (w : Window) (number base dep after : ℕ) → FreqBoard
 windowBoard w i base dep after = boardHit w i base dep (firstRun w base dep after)
 
 -- the one that departs earlier; equal ones keep the first
@@ -75,11 +75,11 @@ earlierOf (Board a) Nothing = Board a
 earlierOf (Board a) (Board b) = cond (leb (a .departure) (b .departure)) (Board a) (Board b)
 
 -- window i is looked at, after the best of those before it
-abbrev pub boardNext : (ℕ → Window) → ℕ → ℕ → ℕ → ℕ → FreqBoard → FreqBoard
+abbrev pub boardNext : (window : ℕ → Window) (base dep after i : ℕ) (best : FreqBoard) → FreqBoard
 boardNext window base dep after i best = earlierOf best (windowBoard (window i) i base dep after)
 
 -- earliest_freq_board: over n windows, the earliest
-unfoldable pub earliestFreqBoard : ℕ → (ℕ → Window) → ℕ → ℕ → ℕ → FreqBoard
+unfoldable pub earliestFreqBoard : (n : ℕ) (window : ℕ → Window) (base dep after : ℕ) → FreqBoard
 earliestFreqBoard n window base dep after = range (boardNext window base dep after) 0 n Nothing
 
 -- What the inner call asks: at most 65,536 windows of times, and a template base that is a time. The other two are wider than at

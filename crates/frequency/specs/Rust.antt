@@ -54,7 +54,7 @@ firstTry w t =
     (saturatingAdd (w .start) (saturatingMul (divCeil (asU32 t - w .start) (w .headway)) (w .headway)))
 
 -- the while loop: n more tries at most, the next at t. Its find: departure and shift.
-unfoldable pub tries : Window → ℕ → ℕ → ℕ → ℕ → ℕ → Option (ℕ × ℤ)
+unfoldable pub tries : (w : Window) (base dep after left start : ℕ) → Option (ℕ × ℤ)
 tries w base dep after zero t = none
 tries w base dep after (suc n) t =
     cond (ltb t (w .end))
@@ -76,7 +76,7 @@ keepBest best none = best
 keepBest none (some f) = some f
 keepBest (some b) (some f) = cond (leb (b .0) (f .0)) (some b) (some f)
 
-unfoldable pub rustBoard : ℕ → (ℕ → Window) → ℕ → ℕ → ℕ → Option (ℕ × ℤ)
+unfoldable pub rustBoard : (n : ℕ) (window : ℕ → Window) (base dep after : ℕ) → Option (ℕ × ℤ)
 rustBoard n window base dep after = range (λ i best. keepBest best (rustWindow (window i) base dep after)) 0 n none
 
 -- a boarding as the Rust returns it

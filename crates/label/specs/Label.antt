@@ -14,7 +14,7 @@ use Rattle.label.specs.declared.LabelRow.{LabelRow}
 abbrev pub noDistance : Float
 noDistance = fin false 0 (pos 0)
 
-abbrev pub labelRow : ℕ → ℕ → ℕ → ℕ → ℕ → ℕ → ℕ → ℕ → Float → LabelRow
+abbrev pub labelRow : (k a b c d e f g : ℕ) (x : Float) → LabelRow
 labelRow k a b c d e f g x =
     record { kind = k; word1 = a; word2 = b; word3 = c; word4 = d; word5 = e; word6 = f; word7 = g; distance = x }
 

@@ -207,7 +207,8 @@ pub fn label_of(r: LabelRow) -> Label
 // A row is put at a record.
 fn put_row(r: LabelRow, labels: &mut [u32], distances: &mut [f64], record: usize)
     requires { ⌜ InTable (now labels) (now distances) «record» ⌝ }
-    ensures { λ _. ⌜ (now (labels .exit) ≡ putWords r (now (labels .entry)) «record») × (now (distances .exit) ≡ putDistance r (now (distances .entry)) «record») ⌝ }
+    ensures { λ _. ⌜ (now (labels .exit) ≡ putWords r (now (labels .entry)) «record»)
+        × (now (distances .exit) ≡ putDistance r (now (distances .entry)) «record») ⌝ }
 {
     let at = 8 * record;
     labels[at] = r.kind;
@@ -243,7 +244,8 @@ pub fn get_row(labels: &[u32], distances: &[f64], record: usize) -> LabelRow
 // The label is put into its record.
 pub fn store_label(label: Label, labels: &mut [u32], distances: &mut [f64], record: usize)
     requires { ⌜ InTable (now labels) (now distances) «record» ⌝ }
-    ensures { λ _. ⌜ (now (labels .exit) ≡ putWords (rowOf label) (now (labels .entry)) «record») × (now (distances .exit) ≡ putDistance (rowOf label) (now (distances .entry)) «record») ⌝ }
+    ensures { λ _. ⌜ (now (labels .exit) ≡ putWords (rowOf label) (now (labels .entry)) «record»)
+        × (now (distances .exit) ≡ putDistance (rowOf label) (now (distances .entry)) «record») ⌝ }
 {
     put_row(row_of(label), labels, distances, record);
 }

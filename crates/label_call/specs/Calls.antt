@@ -21,16 +21,16 @@ stopsBelow (Walk arrival from to duration distance prevRound) stops = ltb from s
 
 -- the questions about a row in slices of these lengths: 1 at most 4,096 stops, 2 the slices' lengths, 4 whether the stop numbers
 -- are below the count, 5 the row
-unfoldable pub placeCode : Bool → ℕ → ℕ → ℕ → ℕ → ℕ
+unfoldable pub placeCode : (below : Bool) (stops row words distances : ℕ) → ℕ
 placeCode below stops row words distances =
     ask 1 (leb stops 4096) (ask 2 (lengthsRight stops words distances) (ask 4 below (ask 5 (leb row 12) 0)))
 
 -- of a store: 4 is of the stop and of the stop numbers in the label
-abbrev pub storeCode : Label → ℕ → ℕ → ℕ → ℕ → ℕ → ℕ
+abbrev pub storeCode : (x : Label) (stops stop row words distances : ℕ) → ℕ
 storeCode x stops stop row words distances = placeCode (ltb stop stops && stopsBelow x stops) stops row words distances
 
 -- of a load: 4 is of the stop
-abbrev pub loadCode : ℕ → ℕ → ℕ → ℕ → ℕ → ℕ
+abbrev pub loadCode : (stops stop row words distances : ℕ) → ℕ
 loadCode stops stop row words distances = placeCode (ltb stop stops) stops row words distances
 
 -- a storing call's code, and both slices as it leaves them

@@ -1,5 +1,6 @@
-// label_calls: the calls that store and load one label by its stop and row (document 01, item 10, "Label rows").
-// Specs: their questions, what store_access, store_transit, store_walk and load answer and leave (Calls).
+// label_call: the calls that store and load one label by its stop and row (document 01, item 10, "Label rows").
+// Place: a call crate; only `exports` and programs use it.
+// Specs (a claim): their questions, what store_access, store_transit, store_walk and load answer and leave (Calls).
 // Proves: each call meets its definition for every input, refusals included; in proofs/Calls that a label stored by a call and loaded by
 // one is the same label, and that a store, made or refused, changes no load of another record; in proofs/Examples a label of each kind.
 // Assumes nothing.
@@ -55,7 +56,8 @@ fn store(
     distances: &mut [f64],
 ) -> u32
     requires { ⌜ below ≡ stopsBelow label stops ⌝ }
-    ensures { λ r. ⌜ labelOutcome r (now (labels .exit)) (now (distances .exit)) ≡ storeOutcome label stops stop row (now (labels .entry)) (now (distances .entry)) ⌝ }
+    ensures { λ r. ⌜ labelOutcome r (now (labels .exit)) (now (distances .exit))
+        ≡ storeOutcome label stops stop row (now (labels .entry)) (now (distances .entry)) ⌝ }
 {
     let known = door::both(stop < stops, below);
     let code = place(known, stops, row, labels.len(), distances.len());
@@ -78,7 +80,9 @@ pub fn store_access(
     labels: &mut [u32],
     distances: &mut [f64],
 ) -> u32
-    ensures { λ r. ⌜ labelOutcome r (now (labels .exit)) (now (distances .exit)) ≡ storeOutcome (Label.Access «stop_idx» «arrival_s» «walk_duration» «walk_distance») stops stop row (now (labels .entry)) (now (distances .entry)) ⌝ }
+    ensures { λ r. ⌜ labelOutcome r (now (labels .exit)) (now (distances .exit))
+        ≡ storeOutcome (Label.Access «stop_idx» «arrival_s» «walk_duration» «walk_distance») stops stop row (now (labels .entry))
+        (now (distances .entry)) ⌝ }
 {
     let label = Label::Access {
         stop_idx,
@@ -104,7 +108,9 @@ pub fn store_transit(
     labels: &mut [u32],
     distances: &mut [f64],
 ) -> u32
-    ensures { λ r. ⌜ labelOutcome r (now (labels .exit)) (now (distances .exit)) ≡ storeOutcome (Label.Transit «arrival_s» «trip_idx» «board_stop» «board_off» «alight_off» «prev_round» «time_shift_s») stops stop row (now (labels .entry)) (now (distances .entry)) ⌝ }
+    ensures { λ r. ⌜ labelOutcome r (now (labels .exit)) (now (distances .exit))
+        ≡ storeOutcome (Label.Transit «arrival_s» «trip_idx» «board_stop» «board_off» «alight_off» «prev_round» «time_shift_s») stops stop row
+        (now (labels .entry)) (now (distances .entry)) ⌝ }
 {
     let label = Label::Transit {
         arrival_s,
@@ -140,7 +146,9 @@ pub fn store_walk(
     labels: &mut [u32],
     distances: &mut [f64],
 ) -> u32
-    ensures { λ r. ⌜ labelOutcome r (now (labels .exit)) (now (distances .exit)) ≡ storeOutcome (Label.Walk «arrival_s» «from_stop» «to_stop» «duration_s» «distance_m» «prev_round») stops stop row (now (labels .entry)) (now (distances .entry)) ⌝ }
+    ensures { λ r. ⌜ labelOutcome r (now (labels .exit)) (now (distances .exit))
+        ≡ storeOutcome (Label.Walk «arrival_s» «from_stop» «to_stop» «duration_s» «distance_m» «prev_round») stops stop row (now (labels .entry))
+        (now (distances .entry)) ⌝ }
 {
     let label = Label::Walk {
         arrival_s,

@@ -22,7 +22,7 @@ abbrev pub layoutAreas : List ℕ → List ℕ → LayoutAreas
 layoutAreas p f = record { positions = p; fifo = f }
 
 -- 2: is every lent slice exactly as long as the counts say?
-unfoldable pub layoutSizesOk : Counts → ℕ → ℕ → ℕ → ℕ → ℕ → ℕ → Bool
+unfoldable pub layoutSizesOk : (c : Counts) (lines n runs entries positions fifo : ℕ) → Bool
 layoutSizesOk c lines n runs entries positions fifo =
     (eqb runs (lines * 2) && eqb entries n) && (eqb positions (c .trips) && eqb fifo lines)
 

@@ -1,5 +1,6 @@
 // layout_call: the call that writes each line's FIFO flag and each trip's position in its line (document 01, item 7; the Rust's line_layout).
-// Specs: its questions in order and what it answers and writes (Call). What the flags and positions are: line_layout.
+// Place: a call crate; only `exports` and programs use it.
+// Specs (a claim): its questions in order and what it answers and writes (Call). What the flags and positions are: `line_layout`.
 // Proves: the call's outcome is the defined one on every input, on lines made by hand too. In proofs/Examples: Timetable K, computed.
 // Assumes nothing.
 ghost use mathlib.Core.Path.{_≡_};
@@ -27,7 +28,7 @@ fn sizes_ok(
 
 // The questions: the number of the first that is answered no, or 0.
 fn questions(
-    t: &[u32],
+    tables: &[u32],
     c: Counts,
     lines: usize,
     n: usize,
@@ -36,31 +37,32 @@ fn questions(
     positions: usize,
     fifo: usize,
 ) -> u32
-    ensures { λ r. ⌜ r ≡ layoutVerdict (now (t .entry)) c lines n (now (runs .entry)) (now (entries .entry)) (layoutSizesOk c lines n (length (now (runs .entry))) (length (now (entries .entry))) positions fifo) ⌝ }
+    ensures { λ r. ⌜ r ≡ layoutVerdict (now (tables .entry)) c lines n (now (runs .entry)) (now (entries .entry))
+        (layoutSizesOk c lines n (length (now (runs .entry))) (length (now (entries .entry))) positions fifo) ⌝ }
 {
     if !door::both(tables::counts_ok(c), door::both(lines <= 4096, n <= 4096)) {
         return 1;
     }
     if !door::both(
-        tables::slices_ok(t, c),
+        tables::slices_ok(tables, c),
         sizes_ok(c, lines, n, runs.len(), entries.len(), positions, fifo),
     ) {
         return 2;
     }
     if !door::both(
-        tables::runs_ok(t, c),
+        tables::runs_ok(tables, c),
         line_layout::line_runs_ok(runs, lines, n),
     ) {
         return 3;
     }
     let known = line_layout::entries_ok(c, entries, n);
-    if door::both(known, tables::rows_ok(t, c)) {
-        if tables::order_ok(t, c) {
+    if door::both(known, tables::rows_ok(tables, c)) {
+        if tables::order_ok(tables, c) {
             return 0;
         }
         return 6;
     }
-    if !door::both(tables::numbers_ok(t, c), known) {
+    if !door::both(tables::numbers_ok(tables, c), known) {
         return 4;
     }
     5
@@ -68,7 +70,7 @@ fn questions(
 
 // What an admitted call writes.
 fn lay_out(
-    t: &[u32],
+    tables: &[u32],
     c: Counts,
     lines: usize,
     runs: &[u32],
@@ -76,18 +78,19 @@ fn lay_out(
     positions: &mut [u32],
     fifo: &mut [u32],
 )
-    requires { ⌜ LayoutAdmitted (now t) c lines (now runs) (now entries) (layoutAreas (now positions) (now fifo)) ⌝ }
-    ensures { λ _. ⌜ layoutAreas (now (positions .exit)) (now (fifo .exit)) ≡ layoutMade (now (t .entry)) c lines (now (runs .entry)) (now (entries .entry)) ⌝ }
+    requires { ⌜ LayoutAdmitted (now tables) c lines (now runs) (now entries) (layoutAreas (now positions) (now fifo)) ⌝ }
+    ensures { λ _. ⌜ layoutAreas (now (positions .exit)) (now (fifo .exit))
+        ≡ layoutMade (now (tables .entry)) c lines (now (runs .entry)) (now (entries .entry)) ⌝ }
 {
     line_layout::line_positions(c, lines, runs, entries, positions);
-    line_layout::line_fifo(t, c, lines, runs, entries, fifo);
+    line_layout::line_fifo(tables, c, lines, runs, entries, fifo);
 }
 
 // Positions and FIFO flags. `runs` are pairs (first entry, count), one a line; `entries` are trip numbers; `positions` takes
 // one number a trip, `fifo` one a line, 1 or 0. The answer is the number of the first question that is answered no, or 0. A
 // refusal leaves both slices as they came.
 pub fn line_layout(
-    t: &[u32],
+    tables: &[u32],
     c: Counts,
     lines: usize,
     entry_count: usize,
@@ -96,10 +99,12 @@ pub fn line_layout(
     positions: &mut [u32],
     fifo: &mut [u32],
 ) -> u32
-    ensures { λ r. ⌜ layoutOutcomeOf r (layoutAreas (now (positions .exit)) (now (fifo .exit))) ≡ layoutOutcome (now (t .entry)) c lines «entry_count» (now (runs .entry)) (now (entries .entry)) (layoutAreas (now (positions .entry)) (now (fifo .entry))) ⌝ }
+    ensures { λ r. ⌜ layoutOutcomeOf r (layoutAreas (now (positions .exit)) (now (fifo .exit)))
+        ≡ layoutOutcome (now (tables .entry)) c lines «entry_count» (now (runs .entry)) (now (entries .entry))
+        (layoutAreas (now (positions .entry)) (now (fifo .entry))) ⌝ }
 {
     let v = questions(
-        t,
+        tables,
         c,
         lines,
         entry_count,
@@ -111,6 +116,6 @@ pub fn line_layout(
     if v != 0 {
         return v;
     }
-    lay_out(t, c, lines, runs, entries, positions, fifo);
+    lay_out(tables, c, lines, runs, entries, positions, fifo);
     v
 }

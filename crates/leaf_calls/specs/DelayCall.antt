@@ -33,7 +33,7 @@ delaysDoor trips n m rows stops numbered ranged =
     (ask 6 (delayOrder (delayTables rows stops)) 0))))
 
 -- the margin; the cap is in question 5
-abbrev pub marginOutcome : ℕ → ℕ → ℕ → List ℕ → List ℕ → ℕ → Answer
+abbrev pub marginOutcome : (trips n m : ℕ) (rows stops : List ℕ) (cap : ℕ) → Answer
 marginOutcome trips n m rows stops cap = answer (delaysDoor trips n m rows stops true (leb cap timeLimit)) (margin (delayTables rows stops) cap)
 
 -- has the trip a delay row?
@@ -59,7 +59,7 @@ delayAnswer zero known d = told 0 known d
 delayAnswer (suc n) known d = told (suc n) 0 noDelay
 
 -- what the tables say of the stop time of a trip; the trip is in question 4
-abbrev pub delayAtOutcome : ℕ → ℕ → ℕ → List ℕ → List ℕ → ℕ → ℕ → DelayAt
+abbrev pub delayAtOutcome : (trips n m : ℕ) (rows stops : List ℕ) (trip sequence : ℕ) → DelayAt
 delayAtOutcome trips n m rows stops trip sequence =
     let D = delayTables rows stops in
     delayAnswer (delaysDoor trips n m rows stops (ltb trip trips) true) (knownOf (delayRow D trip)) (stopDelay D (delayRow D trip) sequence)

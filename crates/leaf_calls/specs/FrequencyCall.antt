@@ -36,7 +36,7 @@ abbrev pub windowLimit : ℕ
 windowLimit = 65536
 
 -- 1: is the count of windows within the limit? 2: are there three words for each? 5: is every time in its range?
-abbrev pub freqCode : ℕ → List ℕ → ℕ → ℕ → ℕ → ℕ
+abbrev pub freqCode : (count : ℕ) (ws : List ℕ) (base dep after : ℕ) → ℕ
 freqCode count ws base dep after =
     ask 1 (leb count windowLimit) (ask 2 (eqb (length ws) (3 * count)) (ask 5 (freqInRange ws base dep after) 0))
 
@@ -54,5 +54,5 @@ abbrev pub freqAnswer : ℕ → FreqBoard → FreqAnswer
 freqAnswer zero b = boardAnswer b
 freqAnswer (suc n) b = noBoard (suc n)
 
-abbrev pub freqOutcome : ℕ → List ℕ → ℕ → ℕ → ℕ → FreqAnswer
+abbrev pub freqOutcome : (count : ℕ) (ws : List ℕ) (base dep after : ℕ) → FreqAnswer
 freqOutcome count ws base dep after = freqAnswer (freqCode count ws base dep after) (earliestFreqBoard (windowCount ws) (windowIn ws) base dep after)

@@ -9,15 +9,15 @@ use Rattle.stop_delay.specs.Times.{skippedAt, effectiveDeparture, effectiveArri
 use Rattle.stop_delay.specs.Door.{sizeOk}
 
 -- 5, of an effective time: the time, the flags, the trip delay and the stop's own
-abbrev pub timeInRange : ℕ → ℕ → ℕ → ℕ → Bool
+abbrev pub timeInRange : (time flags trip own : ℕ) → Bool
 timeInRange time flags trip own = (leb time timeLimit && leb flags 7) && (sizeOk trip && sizeOk own)
 
-abbrev pub departureOutcome : ℕ → ℕ → ℕ → ℕ → Answer
+abbrev pub departureOutcome : (departure trip flags own : ℕ) → Answer
 departureOutcome departure trip flags own =
     answer (ask 5 (timeInRange departure flags trip own) 0)
     (effectiveDeparture departure (record { «trip_delay» = trip; flags = flags; «departure_delay» = own; «arrival_delay» = 0 }))
 
-abbrev pub arrivalOutcome : ℕ → ℕ → ℕ → ℕ → ℕ → Answer
+abbrev pub arrivalOutcome : (arrival shift trip flags own : ℕ) → Answer
 arrivalOutcome arrival shift trip flags own =
     answer (ask 5 (timeInRange arrival flags trip own && sizeOk shift) 0)
     (effectiveArrival arrival shift (record { «trip_delay» = trip; flags = flags; «departure_delay» = 0; «arrival_delay» = own }))

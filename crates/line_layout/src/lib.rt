@@ -1,9 +1,10 @@
-// line_layout: each line's FIFO flag and each trip's position in its line (document 01, item 7). The call is in layout_call.
-// Specs: FIFO, neighbours and positions (Layout); the questions that concern the lines' table and what a yes gives (Listed);
-// what the laws speak of (Claims).
+// line_layout: each line's FIFO flag and each trip's position in its line (document 01, item 7). Its call: `layout_call`.
+// Place: tables.
+// Specs: FIFO, neighbours and positions (Layout); the questions that concern the lines' table and what a yes gives (Listed); both
+// claims. What the laws speak of (Claims).
 // Proves: positions and flags equal to their definitions, on lines made by hand too; each question answers exactly its definition. In
-// proofs/Laws: a line is FIFO exactly if no trip of it has windows and any two have equal stop counts and codes, the one at the earlier place nowhere later;
-// a trip's position is its place where it is listed last, 4,294,967,295 where no line lists it; where every trip is listed once,
+// proofs/Laws: a line is FIFO exactly if no trip of it has windows and any two have equal stop counts and codes, the one at the earlier place nowhere
+// later; a trip's position is its place where it is listed last, 4,294,967,295 where no line lists it; where every trip is listed once,
 // in its line, its position is its place there.
 // Assumes nothing.
 ghost use mathlib.Core.Path.{_≡_};
@@ -141,15 +142,15 @@ fn in_order(p: StopTimeRow, q: StopTimeRow) -> bool
 }
 
 // Of n stop times from x on, against those from y on.
-fn times_in_order(t: &[u32], c: Counts, x: usize, y: usize, n: usize) -> bool
-    requires { ⌜ Sane (now t) c ⌝ ∗ ⌜ x + n ≤ c .times ⌝ ∗ ⌜ y + n ≤ c .times ⌝ }
-    ensures { λ r. ⌜ r ≡ everyIn (λ k. inOrder (stopTimeAt (now (t .entry)) (x + k)) (stopTimeAt (now (t .entry)) (y + k))) 0 n ⌝ }
+fn times_in_order(tables: &[u32], c: Counts, x: usize, y: usize, n: usize) -> bool
+    requires { ⌜ Sane (now tables) c ⌝ ∗ ⌜ x + n ≤ c .times ⌝ ∗ ⌜ y + n ≤ c .times ⌝ }
+    ensures { λ r. ⌜ r ≡ everyIn (λ k. inOrder (stopTimeAt (now (tables .entry)) (x + k)) (stopTimeAt (now (tables .entry)) (y + k))) 0 n ⌝ }
 {
     let mut k: usize = 0;
     while k < n {
         if !in_order(
-            tables::stop_time_row(t, c, x + k),
-            tables::stop_time_row(t, c, y + k),
+            tables::stop_time_row(tables, c, x + k),
+            tables::stop_time_row(tables, c, y + k),
         ) {
             return false;
         }
@@ -158,40 +159,41 @@ fn times_in_order(t: &[u32], c: Counts, x: usize, y: usize, n: usize) -> bool
     true
 }
 
-fn no_windows(t: &[u32], c: Counts, a: usize) -> bool
-    requires { ⌜ Sane (now t) c ⌝ ∗ ⌜ a < c .trips ⌝ }
-    ensures { λ r. ⌜ r ≡ eqb (windowsOf (now (t .entry)) c a) 0 ⌝ }
+fn no_windows(tables: &[u32], c: Counts, a: usize) -> bool
+    requires { ⌜ Sane (now tables) c ⌝ ∗ ⌜ a < c .trips ⌝ }
+    ensures { λ r. ⌜ r ≡ eqb (windowsOf (now (tables .entry)) c a) 0 ⌝ }
 {
-    tables::trip(t, c, a, 5) == 0
+    tables::trip(tables, c, a, 5) == 0
 }
 
 // May trip b stand after trip a in a FIFO line?
-fn neighbours_ok(t: &[u32], c: Counts, a: usize, b: usize) -> bool
-    requires { ⌜ Sane (now t) c ⌝ ∗ ⌜ a < c .trips ⌝ ∗ ⌜ b < c .trips ⌝ }
-    ensures { λ r. ⌜ r ≡ neighbours (timetable (now (t .entry)) c) a b ⌝ }
+fn neighbours_ok(tables: &[u32], c: Counts, a: usize, b: usize) -> bool
+    requires { ⌜ Sane (now tables) c ⌝ ∗ ⌜ a < c .trips ⌝ ∗ ⌜ b < c .trips ⌝ }
+    ensures { λ r. ⌜ r ≡ neighbours (timetable (now (tables .entry)) c) a b ⌝ }
 {
-    if !door::both(no_windows(t, c, a), no_windows(t, c, b)) {
+    if !door::both(no_windows(tables, c, a), no_windows(tables, c, b)) {
         return false;
     }
-    let n = tables::trip(t, c, a, 1);
-    if n != tables::trip(t, c, b, 1) {
+    let n = tables::trip(tables, c, a, 1);
+    if n != tables::trip(tables, c, b, 1) {
         return false;
     }
-    let x = tables::trip(t, c, a, 0);
-    let y = tables::trip(t, c, b, 0);
-    times_in_order(t, c, x, y, n)
+    let x = tables::trip(tables, c, a, 0);
+    let y = tables::trip(tables, c, b, 0);
+    times_in_order(tables, c, x, y, n)
 }
 
 // Of all neighbours of a run.
-fn run_in_order(t: &[u32], c: Counts, entries: &[u32], first: usize, n: usize) -> bool
-    requires { ⌜ Sane (now t) c ⌝ ∗ ⌜ EntriesListed c (now entries) ⌝ ∗ ⌜ first + n ≤ length (now entries) ⌝ }
-    ensures { λ r. ⌜ r ≡ everyIn (λ p. neighbours (timetable (now (t .entry)) c) (getD (now (entries .entry)) (first + (p - 1)) 0) (getD (now (entries .entry)) (first + p) 0)) 1 n ⌝ }
+fn run_in_order(tables: &[u32], c: Counts, entries: &[u32], first: usize, n: usize) -> bool
+    requires { ⌜ Sane (now tables) c ⌝ ∗ ⌜ EntriesListed c (now entries) ⌝ ∗ ⌜ first + n ≤ length (now entries) ⌝ }
+    ensures { λ r. ⌜ r ≡ everyIn (λ p. neighbours (timetable (now (tables .entry)) c) (getD (now (entries .entry)) (first + (p - 1)) 0)
+        (getD (now (entries .entry)) (first + p) 0)) 1 n ⌝ }
 {
     let mut p: usize = 1;
     while p < n {
         let a = words::field(entries, first + (p - 1));
         let b = words::field(entries, first + p);
-        if !neighbours_ok(t, c, a, b) {
+        if !neighbours_ok(tables, c, a, b) {
             return false;
         }
         p += 1;
@@ -200,9 +202,9 @@ fn run_in_order(t: &[u32], c: Counts, entries: &[u32], first: usize, n: usize) -
 }
 
 // Is a run FIFO?
-fn run_fifo(t: &[u32], c: Counts, entries: &[u32], r: LineRun) -> bool
-    requires { ⌜ Sane (now t) c ⌝ ∗ ⌜ EntriesListed c (now entries) ⌝ ∗ ⌜ r .first + r .count ≤ length (now entries) ⌝ }
-    ensures { λ b. ⌜ b ≡ fifoLine (timetable (now (t .entry)) c) (tripsIn (now (entries .entry)) r) ⌝ }
+fn run_fifo(tables: &[u32], c: Counts, entries: &[u32], r: LineRun) -> bool
+    requires { ⌜ Sane (now tables) c ⌝ ∗ ⌜ EntriesListed c (now entries) ⌝ ∗ ⌜ r .first + r .count ≤ length (now entries) ⌝ }
+    ensures { λ b. ⌜ b ≡ fifoLine (timetable (now (tables .entry)) c) (tripsIn (now (entries .entry)) r) ⌝ }
 {
     let first = r.first;
     let n = r.count;
@@ -210,9 +212,9 @@ fn run_fifo(t: &[u32], c: Counts, entries: &[u32], r: LineRun) -> bool
         return true;
     }
     if n == 1 {
-        return no_windows(t, c, words::field(entries, first));
+        return no_windows(tables, c, words::field(entries, first));
     }
-    run_in_order(t, c, entries, first, n)
+    run_in_order(tables, c, entries, first, n)
 }
 
 fn flag(b: bool) -> u32
@@ -222,28 +224,28 @@ fn flag(b: bool) -> u32
 }
 
 // A line's FIFO flag.
-fn fifo_at(t: &[u32], c: Counts, lines: usize, runs: &[u32], entries: &[u32], l: usize) -> u32
-    requires { ⌜ Sane (now t) c ⌝ ∗ ⌜ LinesListed c lines (now runs) (now entries) ⌝ ∗ ⌜ l < lines ⌝ }
-    ensures { λ r. ⌜ r ≡ fifoOf (timetable (now (t .entry)) c) (now (runs .entry)) (now (entries .entry)) l ⌝ }
+fn fifo_at(tables: &[u32], c: Counts, lines: usize, runs: &[u32], entries: &[u32], l: usize) -> u32
+    requires { ⌜ Sane (now tables) c ⌝ ∗ ⌜ LinesListed c lines (now runs) (now entries) ⌝ ∗ ⌜ l < lines ⌝ }
+    ensures { λ r. ⌜ r ≡ fifoOf (timetable (now (tables .entry)) c) (now (runs .entry)) (now (entries .entry)) l ⌝ }
 {
-    flag(run_fifo(t, c, entries, line_run(runs, l)))
+    flag(run_fifo(tables, c, entries, line_run(runs, l)))
 }
 
 // Each line's FIFO flag.
 pub fn line_fifo(
-    t: &[u32],
+    tables: &[u32],
     c: Counts,
     lines: usize,
     runs: &[u32],
     entries: &[u32],
     fifo: &mut [u32],
 )
-    requires { ⌜ Sane (now t) c ⌝ ∗ ⌜ LinesListed c lines (now runs) (now entries) ⌝ ∗ ⌜ length (now fifo) ≡ lines ⌝ }
-    ensures { λ _. ⌜ now (fifo .exit) ≡ fifosOf (timetable (now (t .entry)) c) lines (now (runs .entry)) (now (entries .entry)) ⌝ }
+    requires { ⌜ Sane (now tables) c ⌝ ∗ ⌜ LinesListed c lines (now runs) (now entries) ⌝ ∗ ⌜ length (now fifo) ≡ lines ⌝ }
+    ensures { λ _. ⌜ now (fifo .exit) ≡ fifosOf (timetable (now (tables .entry)) c) lines (now (runs .entry)) (now (entries .entry)) ⌝ }
 {
     let mut l: usize = 0;
     while l < fifo.len() {
-        fifo[l] = fifo_at(t, c, lines, runs, entries, l);
+        fifo[l] = fifo_at(tables, c, lines, runs, entries, l);
         l += 1;
     }
 }

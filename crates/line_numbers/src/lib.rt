@@ -1,6 +1,9 @@
 // line_numbers: each trip's line, numbered by first trip: a trip finds its line by a key of its stops.
-// Specs: lines of a timetable (Lines: document 01, item 6); how far the code has come (Grouping).
-// Proves: `number_lines` writes each trip's line and each line's first trip, as Lines defines them; no promise rests on the key.
+// Place: tables. Its call: `lines_call`.
+// Specs: lines of a timetable (Lines: document 01, item 6; a claim); how far the code has come (Grouping, inner).
+// Proves: `number_lines` writes each trip's line and each line's first trip, as Lines defines them; no promise rests on the key. In proofs/Laws:
+// trips have one line exactly if they have the same stops in the same order; every trip stands once among the entries, in its line's run; lines are
+// numbered by first trip.
 // Assumes nothing.
 ghost use mathlib.Core.Path.{_≡_};
 ghost use Prim.Native.Nat.{_+_, _≤_, _<_};
@@ -14,13 +17,13 @@ ghost use Rattle.line_numbers.specs.Grouping.{runSame, keyStep, bucketOf
 use tables::Counts;
 
 // Have two runs of stop times the same stops?
-fn same_run(t: &[u32], c: Counts, x: usize, y: usize, n: usize) -> bool
-    requires { ⌜ CountsOk c ⌝ ∗ ⌜ SlicesOk (now t) c ⌝ ∗ ⌜ x + n ≤ c .times ⌝ ∗ ⌜ y + n ≤ c .times ⌝ }
-    ensures { λ r. ⌜ r ≡ everyIn (runSame (timetable (now (t .entry)) c) x y) 0 n ⌝ }
+fn same_run(tables: &[u32], c: Counts, x: usize, y: usize, n: usize) -> bool
+    requires { ⌜ CountsOk c ⌝ ∗ ⌜ SlicesOk (now tables) c ⌝ ∗ ⌜ x + n ≤ c .times ⌝ ∗ ⌜ y + n ≤ c .times ⌝ }
+    ensures { λ r. ⌜ r ≡ everyIn (runSame (timetable (now (tables .entry)) c) x y) 0 n ⌝ }
 {
     let mut k: usize = 0;
     while k < n {
-        if tables::time(t, c, x + k, 0) != tables::time(t, c, y + k, 0) {
+        if tables::time(tables, c, x + k, 0) != tables::time(tables, c, y + k, 0) {
             return false;
         }
         k += 1;
@@ -29,42 +32,42 @@ fn same_run(t: &[u32], c: Counts, x: usize, y: usize, n: usize) -> bool
 }
 
 // Have two trips the same stops in the same order?
-fn same_stops(t: &[u32], c: Counts, a: usize, b: usize) -> bool
-    requires { ⌜ Sane (now t) c ⌝ ∗ ⌜ a < c .trips ⌝ ∗ ⌜ b < c .trips ⌝ }
-    ensures { λ r. ⌜ r ≡ same (timetable (now (t .entry)) c) a b ⌝ }
+fn same_stops(tables: &[u32], c: Counts, a: usize, b: usize) -> bool
+    requires { ⌜ Sane (now tables) c ⌝ ∗ ⌜ a < c .trips ⌝ ∗ ⌜ b < c .trips ⌝ }
+    ensures { λ r. ⌜ r ≡ same (timetable (now (tables .entry)) c) a b ⌝ }
 {
-    let n = tables::trip(t, c, a, 1);
-    let m = tables::trip(t, c, b, 1);
+    let n = tables::trip(tables, c, a, 1);
+    let m = tables::trip(tables, c, b, 1);
     if n != m {
         return false;
     }
-    let x = tables::trip(t, c, a, 0);
-    let y = tables::trip(t, c, b, 0);
-    same_run(t, c, x, y, n)
+    let x = tables::trip(tables, c, a, 0);
+    let y = tables::trip(tables, c, b, 0);
+    same_run(tables, c, x, y, n)
 }
 
 // The key of n stop times from x on, made of their stops.
-fn key_run(t: &[u32], c: Counts, x: usize, n: usize) -> usize
-    requires { ⌜ CountsOk c ⌝ ∗ ⌜ SlicesOk (now t) c ⌝ ∗ ⌜ x + n ≤ c .times ⌝ }
-    ensures { λ r. ⌜ r ≡ range (keyStep (timetable (now (t .entry)) c) x) 0 n 0 ⌝ ∗ ⌜ r < 4294967296 ⌝ }
+fn key_run(tables: &[u32], c: Counts, x: usize, n: usize) -> usize
+    requires { ⌜ CountsOk c ⌝ ∗ ⌜ SlicesOk (now tables) c ⌝ ∗ ⌜ x + n ≤ c .times ⌝ }
+    ensures { λ r. ⌜ r ≡ range (keyStep (timetable (now (tables .entry)) c) x) 0 n 0 ⌝ ∗ ⌜ r < 4294967296 ⌝ }
 {
     let mut h: usize = 0;
     let mut k: usize = 0;
     while k < n {
-        h = (h * 1000003 + tables::time(t, c, x + k, 0) + 1) % 4294967296;
+        h = (h * 1000003 + tables::time(tables, c, x + k, 0) + 1) % 4294967296;
         k += 1;
     }
     h
 }
 
 // The bucket of a trip.
-fn bucket(t: &[u32], c: Counts, i: usize) -> usize
-    requires { ⌜ Sane (now t) c ⌝ ∗ ⌜ i < c .trips ⌝ }
-    ensures { λ r. ⌜ r ≡ bucketOf (timetable (now (t .entry)) c) i ⌝ }
+fn bucket(tables: &[u32], c: Counts, i: usize) -> usize
+    requires { ⌜ Sane (now tables) c ⌝ ∗ ⌜ i < c .trips ⌝ }
+    ensures { λ r. ⌜ r ≡ bucketOf (timetable (now (tables .entry)) c) i ⌝ }
 {
-    let x = tables::trip(t, c, i, 0);
-    let n = tables::trip(t, c, i, 1);
-    key_run(t, c, x, n) * 1000003 % 4294967296 / 65536 % c.trips
+    let x = tables::trip(tables, c, i, 0);
+    let n = tables::trip(tables, c, i, 1);
+    key_run(tables, c, x, n) * 1000003 % 4294967296 / 65536 % c.trips
 }
 
 // One number of a chain.
@@ -77,7 +80,7 @@ fn link(s: &[u64], i: usize) -> usize
 
 // Which of the first n lines has trip i's stops? n where none has. Only the lines of i's bucket, b, are looked at.
 fn find_line(
-    t: &[u32],
+    tables: &[u32],
     c: Counts,
     leads: &[u32],
     work: &[u64],
@@ -86,13 +89,17 @@ fn find_line(
     i: usize,
     b: usize,
 ) -> usize
-    requires { ⌜ Sane (now t) c ⌝ ∗ ⌜ Leads (timetable (now t) c) (now leads) n i ⌝ ∗ ⌜ Chained (timetable (now t) c) (now leads) (now work) (now other) n ⌝ ∗ ⌜ i < c .trips ⌝ ∗ ⌜ b ≡ bucketOf (timetable (now t) c) i ⌝ }
-    ensures { λ r. ⌜ r ≡ foundLine (timetable (now (t .entry)) c) (now (leads .entry)) n i ⌝ }
+    requires { ⌜ Sane (now tables) c ⌝
+        ∗ ⌜ Leads (timetable (now tables) c) (now leads) n i ⌝
+        ∗ ⌜ Chained (timetable (now tables) c) (now leads) (now work) (now other) n ⌝
+        ∗ ⌜ i < c .trips ⌝
+        ∗ ⌜ b ≡ bucketOf (timetable (now tables) c) i ⌝ }
+    ensures { λ r. ⌜ r ≡ foundLine (timetable (now (tables .entry)) c) (now (leads .entry)) n i ⌝ }
 {
     let mut l = link(work, b);
     while l != 0 {
         let k = l - 1;
-        if same_stops(t, c, words::field(leads, k), i) {
+        if same_stops(tables, c, words::field(leads, k), i) {
             return k;
         }
         l = link(other, k);
@@ -102,7 +109,7 @@ fn find_line(
 
 // Trip i joins its line, or is the first of a new one. How many lines there are then.
 fn place(
-    t: &[u32],
+    tables: &[u32],
     c: Counts,
     lines: &mut [u32],
     leads: &mut [u32],
@@ -111,11 +118,14 @@ fn place(
     n: usize,
     i: usize,
 ) -> usize
-    requires { ⌜ Sane (now t) c ⌝ ∗ ⌜ Grouping (timetable (now t) c) (now lines) (now leads) (now work) (now other) n i ⌝ ∗ ⌜ i < c .trips ⌝ }
-    ensures { λ r. ⌜ Grouping (timetable (now (t .entry)) c) (now (lines .exit)) (now (leads .exit)) (now (work .exit)) (now (other .exit)) r (i + 1) ⌝ }
+    requires { ⌜ Sane (now tables) c ⌝
+        ∗ ⌜ Grouping (timetable (now tables) c) (now lines) (now leads) (now work) (now other) n i ⌝
+        ∗ ⌜ i < c .trips ⌝ }
+    ensures { λ r. ⌜ Grouping (timetable (now (tables .entry)) c) (now (lines .exit)) (now (leads .exit)) (now (work .exit)) (now (other .exit)) r
+        (i + 1) ⌝ }
 {
-    let b = bucket(t, c, i);
-    let l = find_line(t, c, leads, work, other, n, i, b);
+    let b = bucket(tables, c, i);
+    let l = find_line(tables, c, leads, work, other, n, i, b);
     if l < n {
         lines[i] = l as u32;
         return n;
@@ -129,22 +139,27 @@ fn place(
 
 // Each trip's line, and how many lines there are.
 pub fn number_lines(
-    t: &[u32],
+    tables: &[u32],
     c: Counts,
     lines: &mut [u32],
     leads: &mut [u32],
     work: &mut [u64],
     other: &mut [u64],
 ) -> usize
-    requires { ⌜ Sane (now t) c ⌝ ∗ ⌜ length (now lines) ≡ c .trips ⌝ ∗ ⌜ length (now leads) ≡ c .trips ⌝ ∗ ⌜ length (now work) ≡ c .trips ⌝ ∗ ⌜ length (now other) ≡ c .trips ⌝ }
-    ensures { λ r. ⌜ now (lines .exit) ≡ tab (lineOf (timetable (now (t .entry)) c)) (c .trips) ⌝ ∗ ⌜ r ≡ linesOf (timetable (now (t .entry)) c) ⌝ }
+    requires { ⌜ Sane (now tables) c ⌝
+        ∗ ⌜ length (now lines) ≡ c .trips ⌝
+        ∗ ⌜ length (now leads) ≡ c .trips ⌝
+        ∗ ⌜ length (now work) ≡ c .trips ⌝
+        ∗ ⌜ length (now other) ≡ c .trips ⌝ }
+    ensures { λ r. ⌜ now (lines .exit) ≡ tab (lineOf (timetable (now (tables .entry)) c)) (c .trips) ⌝
+        ∗ ⌜ r ≡ linesOf (timetable (now (tables .entry)) c) ⌝ }
 {
     words::clear_keys(work);
     let trips = c.trips;
     let mut n: usize = 0;
     let mut i: usize = 0;
     while i < trips {
-        n = place(t, c, lines, leads, work, other, n, i);
+        n = place(tables, c, lines, leads, work, other, n, i);
         i += 1;
     }
     n

@@ -7,34 +7,14 @@ use lib.ListN.{length, getD}
 use lib.Seq.{getD-take}
 use lib.Ieee.{Float}
 use Rattle.loops.specs.Iter.{Hit}
-use Rattle.tables.specs.declared.Counts.{Counts}
 use Rattle.query_types.specs.declared.Lay.{Lay}
 use Rattle.query_types.specs.declared.Head.{Head}
 use Rattle.search_state.specs.Part.{part}
 use Rattle.search_state.specs.Places.{Sized, Walks}
-use Rattle.query_types.specs.Layout.{restAt, positionsAt, tripStampsAt}
+use Rattle.query_types.specs.Layout.{restAt, tripStampsAt}
 use Rattle.search_state.specs.View.{memory, arrivalsOf}
-use Rattle.model.specs.Tables.{Tables}
-use Rattle.line_pruning.specs.Books.{Agrees, Noted}
+use Rattle.line_pruning.specs.Books.{Noted}
 use Rattle.line_pruning.proofs.Chains.{part-ext}
-
--- the lines where positions and FIFO flags are as they were
-agrees-by : (T : Tables) (lay : Lay) (c : Counts) (built w w′ : List ℕ) → ((i : ℕ) → positionsAt lay ≤ i → i < tripStampsAt lay → getD w′ i 0 ≡ getD w i 0)
-    → Agrees T lay c built w → Agrees T lay c built w′
-agrees-by T lay c built w w′ f ag =
-    record {
-      trips = ag .trips;
-      counted = ag .counted;
-      stops = ag .stops;
-      lines = record {
-        lines = ag .lines .lines;
-        lineOf = ag .lines .lineOf;
-        count = ag .lines .count;
-        entry = ag .lines .entry;
-        position = λ i h. ag .lines .position i h ∙ sym (f (c .stops * 5 + c .trips + 128 + i) (omega (arith, ag .stops, ag .counted)) (omega (arith, ag .stops, ag .counted, h)));
-        fifo = λ l h. ag .lines .fifo l h ∙ sym (f (c .stops * 5 + c .trips * 2 + 128 + l) (omega (arith, ag .stops, ag .counted)) (omega (arith, ag .stops, ag .counted, h)));
-      };
-    }
 
 -- after a boarding
 module _ (lay : Lay) (stamp : ℕ) (built : List ℕ) (adj : Hit) (t o dep : ℕ) (w w′ : List ℕ) (n : Noted lay stamp built adj t o dep w w′) where

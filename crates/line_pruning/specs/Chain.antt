@@ -39,7 +39,7 @@ someBefore lay w p o [] = false
 someBefore lay w p o (x ∷ xs) = before lay w p o x || someBefore lay w p o xs
 
 -- trip t at the front of the chain of line l, with offset o
-abbrev pub linked : Lay → ℕ → ℕ → ℕ → ℕ → List ℕ → List ℕ
+abbrev pub linked : (lay : Lay) (stamp line trip offset : ℕ) (w : List ℕ) → List ℕ
 linked lay stamp l t o w =
     set (set (set (set w (linksAt lay + t) (chainFirst lay stamp w l)) (leastAt lay + t) o) (headsAt lay + l) (t + 1)) (lineStampsAt lay + l) stamp
 
@@ -48,9 +48,9 @@ abbrev pub lowered : Lay → ℕ → ℕ → List ℕ → List ℕ
 lowered lay t o w = cond (ltb o (getD w (leastAt lay + t) 0)) (set w (leastAt lay + t) o) w
 
 -- trip t in the chain of line l: at the front if it was not boarded under this stamp before
-abbrev pub listed : Lay → ℕ → Bool → ℕ → ℕ → ℕ → List ℕ → List ℕ
+abbrev pub listed : (lay : Lay) (stamp : ℕ) (prunes : Bool) (line trip offset : ℕ) (w : List ℕ) → List ℕ
 listed lay stamp prunes l t o w = cond prunes (cond (eqb (getD w (tripStampsAt lay + t) 0) stamp) (lowered lay t o w) (linked lay stamp l t o w)) w
 
 -- the stamp, offset and departure of trip t
-abbrev pub stampedAs : Lay → ℕ → ℕ → ℕ → ℕ → List ℕ → List ℕ
+abbrev pub stampedAs : (lay : Lay) (stamp trip offset departure : ℕ) (w : List ℕ) → List ℕ
 stampedAs lay stamp t o dep w = set (set (set w (tripStampsAt lay + t) stamp) (boardedOffsetsAt lay + t) o) (boardedDeparturesAt lay + t) dep

@@ -13,7 +13,8 @@ ghost use lib.ListN.{length, getD};
 ghost use Rattle.tables.specs.declared.Counts.{Counts};
 ghost use Rattle.trip_boarding.specs.Reads.{hitOf};
 ghost use Rattle.model.specs.Tables.{Tables, Query};
-ghost use Rattle.model.specs.Search.{Boardings, lineAt, prunable as mayPrune, dominated as isDominated, pruned as isPruned, passedOver, undelayed as noRow};
+ghost use Rattle.model.specs.Search.{Boardings, lineAt, prunable as mayPrune, dominated as isDominated, pruned as isPruned, passedOver};
+ghost use Rattle.model.specs.Search.{undelayed as noRow};
 ghost use Rattle.search_state.specs.Places.{Sized};
 ghost use Rattle.line_pruning.specs.Chain.{chainFirst, chainFrom, before, someBefore, linked, lowered, listed, stampedAs};
 ghost use Rattle.line_pruning.specs.Books.{Agrees, Chains, Books, Inside, Noted};
@@ -33,7 +34,8 @@ fn undelayed(adj: Found) -> bool
 // May the trip prune and be pruned?
 fn prunable(lay: Lay, built: &[u32], adj: Found, trip: usize, work: &[u32]) -> bool
     requires { ⌜ Sized lay (length (now work)) (lay .stops * 104) (lay .stops * 13) ⌝ ∗ ⌜ lay .trips ≤ length (now built) ⌝ ∗ ⌜ trip < lay .trips ⌝ }
-    ensures { λ r. ⌜ (r ≡ true → getD (now (built .entry)) trip 0 < lay .lines) ⌝ ∗ ⌜ ((T : Tables) (Q : Query) (c : Counts) → Agrees T lay c (now (built .entry)) (now (work .entry)) → r ≡ mayPrune T Q (hitOf adj) trip) ⌝ }
+    ensures { λ r. ⌜ (r ≡ true → getD (now (built .entry)) trip 0 < lay .lines) ⌝
+        ∗ ⌜ ((T : Tables) (Q : Query) (c : Counts) → Agrees T lay c (now (built .entry)) (now (work .entry)) → r ≡ mayPrune T Q (hitOf adj) trip) ⌝ }
 {
     let line = words::field(built, trip);
     if lay.lines <= line {
@@ -91,8 +93,12 @@ fn some_before(lay: Lay, first: usize, p: usize, off: usize, work: &[u32]) -> bo
 
 // An earlier trip of this line was boarded in this round at this offset or before.
 fn dominated(lay: Lay, stamp: u32, line: usize, trip: usize, off: usize, work: &[u32]) -> bool
-    requires { ⌜ Sized lay (length (now work)) (lay .stops * 104) (lay .stops * 13) ⌝ ∗ ⌜ Chains lay stamp (now work) ⌝ ∗ ⌜ line < lay .lines ⌝ ∗ ⌜ trip < lay .trips ⌝ }
-    ensures { λ r. ⌜ ((T : Tables) (Q : Query) (c : Counts) (built : List ℕ) (b : Boardings) → Agrees T lay c built (now (work .entry)) → Books lay stamp T Q (now (work .entry)) b → line ≡ lineAt T trip → r ≡ isDominated T Q trip off (b .lineBoards)) ⌝ }
+    requires { ⌜ Sized lay (length (now work)) (lay .stops * 104) (lay .stops * 13) ⌝
+        ∗ ⌜ Chains lay stamp (now work) ⌝
+        ∗ ⌜ line < lay .lines ⌝
+        ∗ ⌜ trip < lay .trips ⌝ }
+    ensures { λ r. ⌜ ((T : Tables) (Q : Query) (c : Counts) (built : List ℕ) (b : Boardings) → Agrees T lay c built (now (work .entry))
+        → Books lay stamp T Q (now (work .entry)) b → line ≡ lineAt T trip → r ≡ isDominated T Q trip off (b .lineBoards)) ⌝ }
 {
     let p = words::field(work, lay.stops * 5 + lay.trips + 128 + trip);
     let first = first_of(lay, stamp, line, work) as usize;
@@ -109,8 +115,12 @@ pub fn pruned(
     off: usize,
     work: &[u32],
 ) -> bool
-    requires { ⌜ Sized lay (length (now work)) (lay .stops * 104) (lay .stops * 13) ⌝ ∗ ⌜ Chains lay stamp (now work) ⌝ ∗ ⌜ lay .trips ≤ length (now built) ⌝ ∗ ⌜ trip < lay .trips ⌝ }
-    ensures { λ r. ⌜ ((T : Tables) (Q : Query) (c : Counts) (b : Boardings) → Agrees T lay c (now (built .entry)) (now (work .entry)) → Books lay stamp T Q (now (work .entry)) b → r ≡ isPruned T Q (hitOf adj) trip off b) ⌝ }
+    requires { ⌜ Sized lay (length (now work)) (lay .stops * 104) (lay .stops * 13) ⌝
+        ∗ ⌜ Chains lay stamp (now work) ⌝
+        ∗ ⌜ lay .trips ≤ length (now built) ⌝
+        ∗ ⌜ trip < lay .trips ⌝ }
+    ensures { λ r. ⌜ ((T : Tables) (Q : Query) (c : Counts) (b : Boardings) → Agrees T lay c (now (built .entry)) (now (work .entry))
+        → Books lay stamp T Q (now (work .entry)) b → r ≡ isPruned T Q (hitOf adj) trip off b) ⌝ }
 {
     if !prunable(lay, built, adj, trip, work) {
         return false;
@@ -122,7 +132,8 @@ pub fn pruned(
 // The trip was boarded in this round, and a boarding at this offset with this departure is no better.
 pub fn passed_over(lay: Lay, stamp: u32, trip: usize, off: u32, dep: u32, work: &[u32]) -> bool
     requires { ⌜ Sized lay (length (now work)) (lay .stops * 104) (lay .stops * 13) ⌝ ∗ ⌜ trip < lay .trips ⌝ }
-    ensures { λ r. ⌜ ((T : Tables) (Q : Query) (b : Boardings) → Books lay stamp T Q (now (work .entry)) b → r ≡ passedOver T Q stamp trip off dep b) ⌝ }
+    ensures { λ r. ⌜ ((T : Tables) (Q : Query) (b : Boardings) → Books lay stamp T Q (now (work .entry)) b → r
+        ≡ passedOver T Q stamp trip off dep b) ⌝ }
 {
     let at = lay.stops * 5 + lay.trips * 3 + lay.lines + 128 + trip;
     if work[at] != stamp {
@@ -164,7 +175,9 @@ fn lower(lay: Lay, trip: usize, off: u32, work: &mut [u32])
 
 // A trip that may prune, in its line's chain.
 fn list(lay: Lay, stamp: u32, prunes: bool, line: usize, trip: usize, off: u32, work: &mut [u32])
-    requires { ⌜ Sized lay (length (now work)) (lay .stops * 104) (lay .stops * 13) ⌝ ∗ ⌜ (prunes ≡ true → line < lay .lines) ⌝ ∗ ⌜ trip < lay .trips ⌝ }
+    requires { ⌜ Sized lay (length (now work)) (lay .stops * 104) (lay .stops * 13) ⌝
+        ∗ ⌜ (prunes ≡ true → line < lay .lines) ⌝
+        ∗ ⌜ trip < lay .trips ⌝ }
     ensures { λ _. ⌜ now (work .exit) ≡ listed lay stamp prunes line trip off (now (work .entry)) ⌝ }
 {
     if !prunes {
@@ -202,7 +215,10 @@ pub fn note(
     dep: u32,
     work: &mut [u32],
 )
-    requires { ⌜ Sized lay (length (now work)) (lay .stops * 104) (lay .stops * 13) ⌝ ∗ ⌜ Chains lay stamp (now work) ⌝ ∗ ⌜ lay .trips ≤ length (now built) ⌝ ∗ ⌜ trip < lay .trips ⌝ }
+    requires { ⌜ Sized lay (length (now work)) (lay .stops * 104) (lay .stops * 13) ⌝
+        ∗ ⌜ Chains lay stamp (now work) ⌝
+        ∗ ⌜ lay .trips ≤ length (now built) ⌝
+        ∗ ⌜ trip < lay .trips ⌝ }
     ensures { λ _. ⌜ Noted lay stamp (now (built .entry)) (hitOf adj) trip off dep (now (work .entry)) (now (work .exit)) ⌝ }
 {
     let prunes = prunable(lay, built, adj, trip, work);

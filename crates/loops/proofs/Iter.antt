@@ -6,7 +6,7 @@ use native.Mathlib.Omega.{arith}
 use native.Mathlib.Numerals.{add-one}
 use mathlib.Core.Bool.{Bool, true, false, _&&_, _||_}
 use mathlib.Core.Logic.{⊎-elim}
-use Rattle.loops.specs.Iter.{iter, range, every, everyIn, some, first, hit, miss, until}
+use Rattle.loops.specs.Iter.{iter, range, every, everyIn, some, first, hit, miss}
 
 pub range-turn : {S : Type 0} (f : ℕ → S → S) (i b : ℕ) (s : S) → i < b → range f i b s ≡ range f (i + 1) b (f i s)
 unfolding iter
@@ -64,12 +64,6 @@ first-yes f i n e = ap (λ (x : Bool). elim x [ true ↦ hit i | false ↦ first
 pub first-next : (f : ℕ → Bool) (i n : ℕ) → f i ≡ false → first f i (suc n) ≡ first f (suc i) n
 unfolding first
 first-next f i n e = ap (λ (x : Bool). elim x [ true ↦ hit i | false ↦ first f (suc i) n ]) e
-
-pub first-done : (f : ℕ → Bool) (i b : ℕ) → b ≤ i → first f i (b - i) ≡ miss
-unfolding first
-first-done f i b h =
-    let e : b - i ≡ 0 = omega arith in
-    rw e
 
 -- the two halves of an `&&`
 pub and-left : (a b : Bool) → a && b ≡ true → a ≡ true
@@ -138,15 +132,6 @@ first-bound f i (suc n) k h = go (f i) refl (first-bound f (suc i) n k)
     go : (t : Bool) → f i ≡ t → (first f (suc i) n ≡ hit k → k < suc i + n) → k < i + suc n
     go true e later = let z : hit i ≡ hit k = sym (first-yes f i n e) ∙ h in let y : i ≡ k = cc in omega arith
     go false e later = let z : first f (suc i) n ≡ hit k = sym (first-next f i n e) ∙ h in omega (arith, later z)
-
--- A loop that is left early, with the invariant `whole ≡ untilIn stop f i b s`: a turn that goes on, the way out before the end, the end.
-pub until-next : {S : Type 0} (stop : ℕ → S → Bool) (f : ℕ → S → S) (i n : ℕ) (s : S) → stop i s ≡ false → until stop f i (suc n) s ≡ until stop f (suc i) n (f i s)
-unfolding until
-until-next stop f i n s e = ap (λ (x : Bool). elim x [ true ↦ s | false ↦ until stop f (suc i) n (f i s) ]) e
-
-pub until-yes : {S : Type 0} (stop : ℕ → S → Bool) (f : ℕ → S → S) (i n : ℕ) (s : S) → stop i s ≡ true → until stop f i (suc n) s ≡ s
-unfolding until
-until-yes stop f i n s e = ap (λ (x : Bool). elim x [ true ↦ s | false ↦ until stop f (suc i) n (f i s) ]) e
 
 -- a check of every number holds where it holds of each
 pub every-all : (f : ℕ → Bool) (i n : ℕ) → ((k : ℕ) → i ≤ k → k < i + n → f k ≡ true) → every f i n ≡ true

@@ -32,14 +32,6 @@ first f i (suc n) = elim (f i) [ true ↦ hit i | false ↦ first f (suc i) n ]
 abbrev pub firstIn : (ℕ → Bool) → ℕ → ℕ → Hit
 firstIn f a b = first f a (b - a)
 
--- a loop that is left early: from i on, n steps at most, f at each, until `stop` holds before one
-unfoldable pub until : {S : Type 0} → (ℕ → S → Bool) → (ℕ → S → S) → ℕ → ℕ → S → S
-until stop f i zero s = s
-until stop f i (suc n) s = elim (stop i s) [ true ↦ s | false ↦ until stop f (suc i) n (f i s) ]
-
-abbrev pub untilIn : {S : Type 0} → (ℕ → S → Bool) → (ℕ → S → S) → ℕ → ℕ → S → S
-untilIn stop f a b s = until stop f a (b - a) s
-
 -- where a search found it, or n where it found nothing
 abbrev pub foundOr : Hit → ℕ → ℕ
 foundOr (hit k) n = k

@@ -1,6 +1,6 @@
 -- Members of sorted, kept and counted lists.
-use Prim.Native.Nat.{ℕ, zero, suc, _+_, _≤_, _<_}
-use mathlib.Core.Path.{_≡_, refl, sym, ap, _∙_}
+use Prim.Native.Nat.{ℕ, zero, suc, _+_, _<_}
+use mathlib.Core.Path.{_≡_, refl, ap, _∙_}
 use mathlib.Core.Logic.{_⊎_, inl, inr, ⊎-elim}
 use mathlib.Core.Bool.{Bool, true, false, cond}
 use mathlib.Core.List.{List, [], _∷_, List·Memᴰ, List·Memᴰ·head, List·Memᴰ·tail, List·Memᴰ·cases-cons, List·Memᴰ·not-nil}
@@ -9,7 +9,7 @@ use lib.Dec.{leb}
 use Rattle.loops.specs.Count.{tabFrom, upto}
 use Rattle.sorts.specs.Sort.{insertBy, sortBy}
 use Rattle.sorts.specs.Orders.{keep}
-use Rattle.model.proofs.Base.{no-both, split-eq}
+use Rattle.model.proofs.Base.{no-both}
 
 module _ {A : Type 0} (key : A → ℕ) where
   insert-has : (x : A) (l : List A) (a : A) → (a ≡ x) ⊎ List·Memᴰ a l → List·Memᴰ a (insertBy key x l)
@@ -55,8 +55,3 @@ from-only i (suc n) a m = ⊎-elim (λ (e : a ≡ i). omega arith) (λ k. omega 
 
 pub upto-only : (n a : ℕ) → List·Memᴰ a (upto n) → a < n
 upto-only n a m = omega (arith, from-only 0 n a m)
-
-from-has : (i n a : ℕ) → i ≤ a → a < i + n → List·Memᴰ a (tabFrom (λ j. j) i n)
-unfolding tabFrom
-from-has i zero a h l = absurd (omega arith)
-from-has i (suc n) a h l = ⊎-elim (λ e. List·Memᴰ·head (sym e)) (λ q. List·Memᴰ·tail (from-has (suc i) n a q (omega arith))) (split-eq h)

@@ -195,7 +195,7 @@ module _ (T : Tables) (Q : Query) where
   relax stamp s v l a = cond (ltb v (at a s)) (improve stamp s v l a) a
 
   -- resolve_transfer_target: over k places of a line from place p on. A trip past the table is passed over; modes are not tested.
-  unfoldable pub resolveIn : Bool → ℕ → ℕ → ℕ → (ℕ → ℕ) → ℕ → ℕ → Option (ℕ × BoardedRun)
+  unfoldable pub resolveIn : (isFifo : Bool) (offset after best : ℕ) (trip : ℕ → ℕ) (left place : ℕ) → Option (ℕ × BoardedRun)
   resolveIn isFifo o after best trip zero p = none
   resolveIn isFifo o after best trip (suc k) p =
       let t : ℕ = trip p in
@@ -232,7 +232,7 @@ module _ (T : Tables) (Q : Query) where
       ]
 
   -- queue trip t, boarded at offset o at stop s: a frequency trip each time, another only at a lower offset than before
-  unfoldable pub enqueue : ℕ → ℕ → ℕ → ℕ → Arrivals → Arrivals
+  unfoldable pub enqueue : (trip offset stop shift : ℕ) (a : Arrivals) → Arrivals
   enqueue t o s shift a =
       elim (not (noWindows T t) || ltb o (getD (a .segReach) t 0)) [
         | false ↦ a
@@ -265,7 +265,7 @@ module _ (T : Tables) (Q : Query) where
       ]
 
   -- scan_trip_forward, its first loop: alighting at k stop times from offset p on, of trip t boarded at stop s at offset o
-  unfoldable pub alightings : ℕ → Hit → ℕ → ℕ → ℕ → ℕ → ℕ → ℕ → Arrivals → Arrivals
+  unfoldable pub alightings : (stamp : ℕ) (adj : Hit) (shift trip stop board left next : ℕ) (a : Arrivals) → Arrivals
   alightings stamp adj shift t s o zero p a = a
   alightings stamp adj shift t s o (suc k) p a =
       elim (noDropOff T t p || skipped adj t p) [
@@ -279,7 +279,7 @@ module _ (T : Tables) (Q : Query) where
       ]
 
   -- its second loop, flagged: the transfers at each. Skipped stops are not tested.
-  unfoldable pub transferring : ℕ → Hit → ℕ → ℕ → ℕ → ℕ → Arrivals → Arrivals
+  unfoldable pub transferring : (stamp : ℕ) (adj : Hit) (shift trip left next : ℕ) (a : Arrivals) → Arrivals
   transferring stamp adj shift t zero p a = a
   transferring stamp adj shift t (suc k) p a =
       elim (noDropOff T t p) [
@@ -293,7 +293,7 @@ module _ (T : Tables) (Q : Query) where
       ]
 
   -- scan_trip_forward: trip t, boarded at stop s at offset o
-  unfoldable pub scanTripForward : Bool → ℕ → Hit → ℕ → ℕ → ℕ → ℕ → Arrivals → Arrivals
+  unfoldable pub scanTripForward : (flagged : Bool) (stamp : ℕ) (adj : Hit) (shift trip stop board : ℕ) (a : Arrivals) → Arrivals
   scanTripForward flagged stamp adj shift t s o a =
       let b : Arrivals = alightings stamp adj shift t s o (stopCount T t - suc o) (suc o) a in
       elim flagged [ true ↦ transferring stamp adj shift t (stopCount T t - suc o) (suc o) b | false ↦ b ]
@@ -335,13 +335,13 @@ module _ (T : Tables) (Q : Query) where
   pruned adj t o b = prunable adj t && dominated t o (b .lineBoards)
 
   -- the trip was boarded this round, and a boarding at offset o with this departure is no better
-  unfoldable pub passedOver : ℕ → ℕ → ℕ → ℕ → Boardings → Bool
+  unfoldable pub passedOver : (stamp trip offset departure : ℕ) (b : Boardings) → Bool
   passedOver stamp t o dep b =
       eqb (getD (b .tripStamp) t 0) stamp
       && not (ltb dep (getD (b .boardDeparture) t 0) || (eqb dep (getD (b .boardDeparture) t 0) && ltb o (getD (b .boardOffset) t 0)))
 
   -- the tests of one listed departure, in the Rust's order: how it is boarded, if it is
-  unfoldable pub boarding : ℕ → ℕ → Hit → ℕ → ℕ → State → FreqBoard
+  unfoldable pub boarding : (stamp after : ℕ) (adj : Hit) (trip offset : ℕ) (s : State) → FreqBoard
   boarding stamp after adj t o s =
       elim (((not (permitted T Q t) || pruned adj t o (s .boardings)) || noPickup T t o) || skipped adj t o) [
         | true ↦ Nothing
@@ -352,7 +352,7 @@ module _ (T : Tables) (Q : Query) where
       ]
 
   -- trip t is boarded at offset o
-  unfoldable pub board : ℕ → ℕ → Hit → ℕ → ℕ → ℕ → Boardings → Boardings
+  unfoldable pub board : (round stamp : ℕ) (adj : Hit) (trip offset departure : ℕ) (b : Boardings) → Boardings
   board round stamp adj t o dep b =
       record {
         tripStamp = set (b .tripStamp) t stamp;
@@ -365,7 +365,7 @@ module _ (T : Tables) (Q : Query) where
 
   -- THE DEPARTURE SCAN of stop x, reached so that one may board at `after`: its departures one by one; at a stop without frequency
   -- trips until one is no earlier than the best total plus the margin
-  unfoldable pub scanDepartures : Bool → Bool → ℕ → ℕ → ℕ → ℕ → List DepartureRow → State → State
+  unfoldable pub scanDepartures : (flagged hasFreq : Bool) (round stamp stop after : ℕ) (listed : List DepartureRow) (s : State) → State
   scanDepartures flagged hasFreq round stamp x after [] s = s
   scanDepartures flagged hasFreq round stamp x after (d ∷ ds) s =
       elim (not hasFreq && leb (s .arrivals .best + marginOf) (departure T (d .trip) (d .offset))) [
@@ -560,7 +560,7 @@ module _ (T : Tables) (Q : Query) where
 
   -- THE CANDIDATES (total, stop, row) of k rows from r on: earlier than the last one taken, and not later than the best by more than
   -- the slack
-  unfoldable pub candidatesFrom : Arrivals → ℕ → ℕ → ℕ → ℕ → List (ℕ × ℕ × ℕ)
+  unfoldable pub candidatesFrom : (a : Arrivals) (top left row last : ℕ) → List (ℕ × ℕ × ℕ)
   candidatesFrom a top zero r last = []
   candidatesFrom a top (suc k) r last =
       let b = rowTarget a r (Q .egress) (never, never) in

@@ -38,11 +38,11 @@ built X listed time patterns =
     }
 
 -- a stop time with ordinary pickup and drop-off: stop, sequence, arrival, departure
-abbrev pub calls : ℕ → ℕ → ℕ → ℕ → StopTimeRow
+abbrev pub calls : (stop sequence arrival departure : ℕ) → StopTimeRow
 calls s n a d = record { stop = s; arrival = a; departure = d; sequence = n; pickup = 0; «drop_off» = 0 }
 
 -- a trip of mode 0, not excluded: first stop time, count, is it active, how many windows from the first on
-abbrev pub runs : ℕ → ℕ → ℕ → ℕ → TripRow
+abbrev pub runs : (first count active windows : ℕ) → TripRow
 runs i n active windows = record { first = i; count = n; mode = 0; wheelchair = 0; window = 0; windows = windows; active = active; excluded = 0 }
 
 -- a departure: trip, offset
@@ -53,7 +53,7 @@ abbrev pub window : ℕ → ℕ → ℕ → WindowRow
 window s e h = record { start = s; end = e; headway = h }
 
 -- a walk edge of pattern 0: from, to, duration, pathway mode
-abbrev pub footEdge : ℕ → ℕ → ℕ → ℕ → EdgeRow
+abbrev pub footEdge : (from to duration mode : ℕ) → EdgeRow
 footEdge a b d m = record { from = a; to = b; duration = d; pathway = m; pattern = 0 }
 
 abbrev pub origin : ℕ → ℕ → Origin

@@ -1,5 +1,5 @@
 -- AN INSTANCE of a steady day, in one statement about what is lent: K's stops and trips, without transfers, T0 not listed at stop 1, on a day with
--- delay rows, times given at single stops, a skipped stop, and a trip that is not in the table and later than the cap (`days` specs/K
+-- delay rows, times given at single stops, a skipped stop, and a trip that is not in the table and later than the cap (`plain_days` specs/K
 -- `givenDelays`). The door admits the slices, the day that they say is a steady one, and the call's whole outcome is the answer with the total 450
 -- at stop 2.
 use Prim.Native.Nat.{ℕ}

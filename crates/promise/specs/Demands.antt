@@ -1,6 +1,6 @@
 -- THE THREE DEMANDS, of the exported calls `query` and `run_tbr`, on lent slices; then the chain, in the order in which a board calls: build, ask,
 -- answer. Each field is a claim over all slices; `the-demands` (proofs/Chain) inhabits the record, `whole-K` (proofs/ChainInstance) shows that the
--- chain's hypotheses can be met. The contracts of the calls (crates `query`, `lines`, `departure_sorting`, `transfers`) equate what they answer
+-- chain's hypotheses can be met. The contracts of the calls (`query_call`, `lines_call`, `departures_call`, `transfers_call`) equate what they answer
 -- and write with the outcomes named here. Definitions only.
 use mathlib.Core.Path.{_≡_}
 use mathlib.Core.Bool.{false}

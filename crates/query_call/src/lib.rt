@@ -1,9 +1,9 @@
-// query_call: the two calls that answer a query: `run_tbr`, the Rust's answer, and `query`, the promise's: `run_tbr` with arc flags put off where they
-// would skip nothing; and the call that says how long a workspace to lend.
+// query_call: the two calls that answer a query: `run_tbr`, the Rust's answer, and `query`, the promise's: `run_tbr` with arc flags put off where
+// they would skip nothing; and the call that says how long a workspace to lend.
 // Place: a call crate; only `exports`, the promise and programs use it.
 // Specs: the outcome of both (Call, a claim) and of the workspace's size (Workspace, a claim); the two calls as one (Parts, inner).
-// Proves: each call's whole outcome is its definition, on every input. Inside: after `search` memory holds the model's `final` in the mode of the call, or
-// question 8 is answered no. The three demands of the calls: crate `promise`.
+// Proves: each call's whole outcome is its definition, on every input. Inside: after `search` memory holds the model's `final` in the mode of the
+// call, or question 8 is answered no. The three demands of the calls: crate `promise`.
 // Assumes nothing.
 ghost use mathlib.Core.Path.{_≡_};
 ghost use Rattle.query_call.specs.Workspace.{workspaceAnswer};
@@ -43,15 +43,18 @@ pub fn workspace(n: QueryCounts) -> Answer
 fn in_use(
     rust: bool,
     n: QueryCounts,
-    t: &[u32],
+    tables: &[u32],
     built: &[u32],
     transfers: &[u32],
     patterns: &[u8],
     net: Net,
     off: bool,
 ) -> bool
-    requires { ⌜ Flagging n (now t) (now built) (now transfers) (now patterns) ⌝ }
-    ensures { λ r. ⌜ ((d : List Float) (q : List ℕ) → net ≡ netOf (lent n (now (t .entry)) (now (built .entry)) (now (transfers .entry)) (now (patterns .entry)) d q) → queryOf (lent n (now (t .entry)) (now (built .entry)) (now (transfers .entry)) (now (patterns .entry)) d q) .flagsOff ≡ off → r ≡ modeBy rust (lent n (now (t .entry)) (now (built .entry)) (now (transfers .entry)) (now (patterns .entry)) d q)) ⌝ }
+    requires { ⌜ Flagging n (now tables) (now built) (now transfers) (now patterns) ⌝ }
+    ensures { λ r. ⌜ ((d : List Float) (q : List ℕ) → net
+        ≡ netOf (lent n (now (tables .entry)) (now (built .entry)) (now (transfers .entry)) (now (patterns .entry)) d q)
+        → queryOf (lent n (now (tables .entry)) (now (built .entry)) (now (transfers .entry)) (now (patterns .entry)) d q) .flagsOff ≡ off → r
+        ≡ modeBy rust (lent n (now (tables .entry)) (now (built .entry)) (now (transfers .entry)) (now (patterns .entry)) d q)) ⌝ }
 {
     if rust {
         return arc_flags::use_arc_flags(n.patterns, net.target, off);
@@ -59,7 +62,7 @@ fn in_use(
     let runs = query_input::transfer_runs(built, n);
     let rows = query_input::transfer_rows(n, transfers.len());
     arc_flags::flags_in_use(
-        t,
+        tables,
         n.timetable,
         runs,
         transfers,
@@ -75,27 +78,42 @@ fn in_use(
 fn search(
     rust: bool,
     n: QueryCounts,
-    t: &[u32],
+    tables: &[u32],
     built: &[u32],
     transfers: &[u32],
     patterns: &[u8],
     distances: &[f64],
-    q: &[u32],
+    query: &[u32],
     labels: &mut [u32],
-    metres: &mut [f64],
+    label_distances: &mut [f64],
     work: &mut [u32],
     queue_a: &mut [u32],
     queue_b: &mut [u32],
 ) -> Head
-    requires { ⌜ AdmittedWith (lent n (now t) (now built) (now transfers) (now patterns) (now distances) (now q)) (length (now labels)) (length (now metres)) (length (now work)) (length (now «queue_a»)) (length (now «queue_b»)) ⌝ }
-    ensures { λ h. ⌜ Ended (lent n (now (t .entry)) (now (built .entry)) (now (transfers .entry)) (now (patterns .entry)) (now (distances .entry)) (now (q .entry))) (modeBy rust (lent n (now (t .entry)) (now (built .entry)) (now (transfers .entry)) (now (patterns .entry)) (now (distances .entry)) (now (q .entry)))) (length (now («queue_a» .entry)) / 4) (layOf n) (memory (now (work .exit)) (now (labels .exit)) (now (metres .exit)) h) ⌝ }
+    requires { ⌜ AdmittedWith (lent n (now tables) (now built) (now transfers) (now patterns) (now distances) (now query)) (length (now labels))
+        (length (now «label_distances»)) (length (now work)) (length (now «queue_a»)) (length (now «queue_b»)) ⌝ }
+    ensures { λ h. ⌜ Ended (lent n (now (tables .entry)) (now (built .entry)) (now (transfers .entry)) (now (patterns .entry))
+        (now (distances .entry)) (now (query .entry)))
+        (modeBy rust (lent n (now (tables .entry)) (now (built .entry)) (now (transfers .entry)) (now (patterns .entry)) (now (distances .entry))
+        (now (query .entry)))) (length (now («queue_a» .entry)) / 4) (layOf n)
+        (memory (now (work .exit)) (now (labels .exit)) (now («label_distances» .exit)) h) ⌝ }
 {
     let lay = search_begin::lay_of(n);
-    let net = search_begin::net_of(n, t, built, distances, q);
-    let off = words::field(q, 6) == 1;
-    let flagged = in_use(rust, n, t, built, transfers, patterns, net, off);
-    let h = search_begin::begin(n, t, built, distances, q, lay, work, labels, metres);
-    let change = q[1];
+    let net = search_begin::net_of(n, tables, built, distances, query);
+    let off = words::field(query, 6) == 1;
+    let flagged = in_use(rust, n, tables, built, transfers, patterns, net, off);
+    let h = search_begin::begin(
+        n,
+        tables,
+        built,
+        distances,
+        query,
+        lay,
+        work,
+        labels,
+        label_distances,
+    );
+    let change = query[1];
     let ctx = Context {
         counts: n,
         lay,
@@ -105,15 +123,15 @@ fn search(
     };
     rounds::rounds(
         ctx,
-        t,
+        tables,
         built,
         transfers,
         patterns,
         distances,
-        q,
+        query,
         work,
         labels,
-        metres,
+        label_distances,
         queue_a,
         queue_b,
         h,
@@ -124,12 +142,12 @@ fn search(
 fn answer_query(
     rust: bool,
     n: QueryCounts,
-    t: &[u32],
+    tables: &[u32],
     built: &[u32],
     transfers: &[u32],
     patterns: &[u8],
     distances: &[f64],
-    q: &[u32],
+    query: &[u32],
     labels: &mut [u32],
     label_distances: &mut [f64],
     work: &mut [u32],
@@ -137,18 +155,28 @@ fn answer_query(
     queue_b: &mut [u32],
     candidates: &mut [u32],
 ) -> Reply
-    requires { ⌜ Admitted (lent n (now t) (now built) (now transfers) (now patterns) (now distances) (now q)) (queryLengths (queryAreas (now labels) (now «label_distances») (now work) (now «queue_a») (now «queue_b») (now candidates))) ⌝ }
-    ensures { λ r. ⌜ queryOutcomeOf r (queryAreas (now (labels .exit)) (now («label_distances» .exit)) (now (work .exit)) (now («queue_a» .exit)) (now («queue_b» .exit)) (now (candidates .exit))) ≡ querySettled 0 (queueFull (answerBy rust (lent n (now (t .entry)) (now (built .entry)) (now (transfers .entry)) (now (patterns .entry)) (now (distances .entry)) (now (q .entry)))) (queryAreas (now (labels .entry)) (now («label_distances» .entry)) (now (work .entry)) (now («queue_a» .entry)) (now («queue_b» .entry)) (now (candidates .entry)))) (answerBy rust (lent n (now (t .entry)) (now (built .entry)) (now (transfers .entry)) (now (patterns .entry)) (now (distances .entry)) (now (q .entry)))) (queryAreas (now (labels .entry)) (now («label_distances» .entry)) (now (work .entry)) (now («queue_a» .entry)) (now («queue_b» .entry)) (now (candidates .entry))) ⌝ }
+    requires { ⌜ Admitted (lent n (now tables) (now built) (now transfers) (now patterns) (now distances) (now query))
+        (queryLengths (queryAreas (now labels) (now «label_distances») (now work) (now «queue_a») (now «queue_b») (now candidates))) ⌝ }
+    ensures { λ r. ⌜ queryOutcomeOf r (queryAreas (now (labels .exit)) (now («label_distances» .exit)) (now (work .exit)) (now («queue_a» .exit))
+        (now («queue_b» .exit)) (now (candidates .exit)))
+        ≡ querySettled 0 (queueFull (answerBy rust
+        (lent n (now (tables .entry)) (now (built .entry)) (now (transfers .entry)) (now (patterns .entry)) (now (distances .entry))
+        (now (query .entry)))) (queryAreas (now (labels .entry)) (now («label_distances» .entry)) (now (work .entry)) (now («queue_a» .entry))
+        (now («queue_b» .entry)) (now (candidates .entry))))
+        (answerBy rust (lent n (now (tables .entry)) (now (built .entry)) (now (transfers .entry)) (now (patterns .entry))
+        (now (distances .entry)) (now (query .entry))))
+        (queryAreas (now (labels .entry)) (now («label_distances» .entry)) (now (work .entry)) (now («queue_a» .entry)) (now («queue_b» .entry))
+        (now (candidates .entry))) ⌝ }
 {
     let h = search(
         rust,
         n,
-        t,
+        tables,
         built,
         transfers,
         patterns,
         distances,
-        q,
+        query,
         labels,
         label_distances,
         work,
@@ -157,7 +185,7 @@ fn answer_query(
     );
     query_reply::finish(
         n,
-        q,
+        query,
         h,
         labels,
         label_distances,
@@ -172,12 +200,12 @@ fn answer_query(
 fn ask(
     rust: bool,
     n: QueryCounts,
-    t: &[u32],
+    tables: &[u32],
     built: &[u32],
     transfers: &[u32],
     patterns: &[u8],
     distances: &[f64],
-    q: &[u32],
+    query: &[u32],
     labels: &mut [u32],
     label_distances: &mut [f64],
     work: &mut [u32],
@@ -185,7 +213,12 @@ fn ask(
     queue_b: &mut [u32],
     candidates: &mut [u32],
 ) -> Reply
-    ensures { λ r. ⌜ queryOutcomeOf r (queryAreas (now (labels .exit)) (now («label_distances» .exit)) (now (work .exit)) (now («queue_a» .exit)) (now («queue_b» .exit)) (now (candidates .exit))) ≡ outcomeBy rust (lent n (now (t .entry)) (now (built .entry)) (now (transfers .entry)) (now (patterns .entry)) (now (distances .entry)) (now (q .entry))) (queryAreas (now (labels .entry)) (now («label_distances» .entry)) (now (work .entry)) (now («queue_a» .entry)) (now («queue_b» .entry)) (now (candidates .entry))) ⌝ }
+    ensures { λ r. ⌜ queryOutcomeOf r (queryAreas (now (labels .exit)) (now («label_distances» .exit)) (now (work .exit)) (now («queue_a» .exit))
+        (now («queue_b» .exit)) (now (candidates .exit)))
+        ≡ outcomeBy rust (lent n (now (tables .entry)) (now (built .entry)) (now (transfers .entry)) (now (patterns .entry))
+        (now (distances .entry)) (now (query .entry)))
+        (queryAreas (now (labels .entry)) (now («label_distances» .entry)) (now (work .entry)) (now («queue_a» .entry)) (now («queue_b» .entry))
+        (now (candidates .entry))) ⌝ }
 {
     let l = Lengths {
         labels: labels.len(),
@@ -195,7 +228,7 @@ fn ask(
         queue_b: queue_b.len(),
         candidates: candidates.len(),
     };
-    let code = query_door::questions(n, t, built, transfers, patterns, distances, q, l);
+    let code = query_door::questions(n, tables, built, transfers, patterns, distances, query, l);
     if code != 0 {
         return Reply {
             code: code,
@@ -207,12 +240,12 @@ fn ask(
     answer_query(
         rust,
         n,
-        t,
+        tables,
         built,
         transfers,
         patterns,
         distances,
-        q,
+        query,
         labels,
         label_distances,
         work,
@@ -225,12 +258,12 @@ fn ask(
 // THE CALL `run_tbr`.
 pub fn run_tbr(
     n: QueryCounts,
-    t: &[u32],
+    tables: &[u32],
     built: &[u32],
     transfers: &[u32],
     patterns: &[u8],
     distances: &[f64],
-    q: &[u32],
+    query: &[u32],
     labels: &mut [u32],
     label_distances: &mut [f64],
     work: &mut [u32],
@@ -238,17 +271,25 @@ pub fn run_tbr(
     queue_b: &mut [u32],
     candidates: &mut [u32],
 ) -> Reply
-    ensures { λ r. ⌜ record { reply = r; areas = queryAreas (now (labels .exit)) (now («label_distances» .exit)) (now (work .exit)) (now («queue_a» .exit)) (now («queue_b» .exit)) (now (candidates .exit)) } ≡ runTbrOutcome (lent n (now (t .entry)) (now (built .entry)) (now (transfers .entry)) (now (patterns .entry)) (now (distances .entry)) (now (q .entry))) (queryAreas (now (labels .entry)) (now («label_distances» .entry)) (now (work .entry)) (now («queue_a» .entry)) (now («queue_b» .entry)) (now (candidates .entry))) ⌝ }
+    ensures { λ r. ⌜ record {
+      reply = r;
+      areas = queryAreas (now (labels .exit)) (now («label_distances» .exit)) (now (work .exit))
+          (now («queue_a» .exit)) (now («queue_b» .exit)) (now (candidates .exit));
+    }
+        ≡ runTbrOutcome (lent n (now (tables .entry)) (now (built .entry)) (now (transfers .entry)) (now (patterns .entry))
+        (now (distances .entry)) (now (query .entry)))
+        (queryAreas (now (labels .entry)) (now («label_distances» .entry)) (now (work .entry)) (now («queue_a» .entry)) (now («queue_b» .entry))
+        (now (candidates .entry))) ⌝ }
 {
     ask(
         true,
         n,
-        t,
+        tables,
         built,
         transfers,
         patterns,
         distances,
-        q,
+        query,
         labels,
         label_distances,
         work,
@@ -261,12 +302,12 @@ pub fn run_tbr(
 // THE CALL `query`.
 pub fn query(
     n: QueryCounts,
-    t: &[u32],
+    tables: &[u32],
     built: &[u32],
     transfers: &[u32],
     patterns: &[u8],
     distances: &[f64],
-    q: &[u32],
+    query: &[u32],
     labels: &mut [u32],
     label_distances: &mut [f64],
     work: &mut [u32],
@@ -274,17 +315,25 @@ pub fn query(
     queue_b: &mut [u32],
     candidates: &mut [u32],
 ) -> Reply
-    ensures { λ r. ⌜ record { reply = r; areas = queryAreas (now (labels .exit)) (now («label_distances» .exit)) (now (work .exit)) (now («queue_a» .exit)) (now («queue_b» .exit)) (now (candidates .exit)) } ≡ queryOutcome (lent n (now (t .entry)) (now (built .entry)) (now (transfers .entry)) (now (patterns .entry)) (now (distances .entry)) (now (q .entry))) (queryAreas (now (labels .entry)) (now («label_distances» .entry)) (now (work .entry)) (now («queue_a» .entry)) (now («queue_b» .entry)) (now (candidates .entry))) ⌝ }
+    ensures { λ r. ⌜ record {
+      reply = r;
+      areas = queryAreas (now (labels .exit)) (now («label_distances» .exit)) (now (work .exit))
+          (now («queue_a» .exit)) (now («queue_b» .exit)) (now (candidates .exit));
+    }
+        ≡ queryOutcome (lent n (now (tables .entry)) (now (built .entry)) (now (transfers .entry)) (now (patterns .entry))
+        (now (distances .entry)) (now (query .entry)))
+        (queryAreas (now (labels .entry)) (now («label_distances» .entry)) (now (work .entry)) (now («queue_a» .entry)) (now («queue_b» .entry))
+        (now (candidates .entry))) ⌝ }
 {
     ask(
         false,
         n,
-        t,
+        tables,
         built,
         transfers,
         patterns,
         distances,
-        q,
+        query,
         labels,
         label_distances,
         work,

@@ -27,7 +27,7 @@ queryQuestion1 n =
 
 -- 2: IS EVERY LENT SLICE EXACTLY AS LONG AS ITS COUNTS SAY? (Transfer and queue areas may have any length, the two halves of the queue
 -- the same.) First what is read: its lengths but for the timetable's and the transfer area's
-unfoldable pub readOk : List ℕ → QueryCounts → ℕ → ℕ → ℕ → ℕ → Bool
+unfoldable pub readOk : (t : List ℕ) (n : QueryCounts) (built patterns distances q : ℕ) → Bool
 readOk t n built patterns distances q =
     (eqb built (builtSize t n) && eqb patterns (n .patterns * 64)) && (eqb distances (n .timetable .edges + n .origins) && eqb q (querySize n))
 
@@ -37,7 +37,7 @@ writtenOk n l =
     (lengthsRight (n .timetable .stops) (l .labels) (l .«label_distances») && eqb (l .work) (workSizeOf n))
     && (eqb (l .«queue_a») (l .«queue_b») && eqb (l .candidates) 39)
 
-unfoldable pub queryQuestion2 : List ℕ → QueryCounts → ℕ → ℕ → ℕ → ℕ → Lengths → Bool
+unfoldable pub queryQuestion2 : (t : List ℕ) (n : QueryCounts) (built patterns distances q : ℕ) (l : Lengths) → Bool
 queryQuestion2 t n built patterns distances q l = slicesOk t (n .timetable) && (readOk t n built patterns distances q && writtenOk n l)
 
 -- 3: HAS EVERY TRIP A STOP TIME, AND DO ALL RUNS LIE IN THEIR TABLES? The transfer runs of the events, in so many rows:
@@ -53,7 +53,7 @@ queryQuestion3 t built n rows =
 abbrev pub columnAt : List ℕ → ℕ → ℕ → ℕ → ℕ
 columnAt l first stride i = getD l (first + i * stride) 0
 
-unfoldable pub columnBelow : List ℕ → ℕ → ℕ → ℕ → ℕ → Bool
+unfoldable pub columnBelow : (l : List ℕ) (first stride count bound : ℕ) → Bool
 columnBelow l first stride count bound = everyIn (λ i. ltb (columnAt l first stride i) bound) 0 count
 
 -- 4: IS EVERY STOP, TRIP, LINE AND DELAY-ROW NUMBER BELOW ITS COUNT, AND EACH DEPARTURE'S OFFSET BELOW ITS TRIP'S COUNT, WITH THAT STOP

@@ -1,11 +1,11 @@
 // query_door: the door of a query: questions 1 to 6 (document 01), in order.
 // Place: the search; `query_call` asks it.
-// Specs: each question as a test of the lists, and the verdict (Door, a claim); a column of numbers in a list (Columns, inner); questions 4 to 6 asked at
-// once (Once, inner).
-// Proves: `questions` answers the verdict on every input. A pass that reads each stop time and each listed departure once (`passed`) admits what is in
-// order; only where it does not is each question asked on its own, for the number. In proofs/Yes: what each yes gives, and that a verdict of 0 gives the
-// model's door. In proofs/Converse: question 6 finds departures and egress stops in order where the model's door has them so. In proofs/Examples:
-// Timetable K passes, damaged copies are refused.
+// Specs: each question as a test of the lists, and the verdict (Door, a claim); a column of numbers in a list (Columns, inner); questions 4 to 6
+// asked at once (Once, inner).
+// Proves: `questions` answers the verdict on every input. A pass that reads each stop time and each listed departure once (`passed`) admits what is
+// in order; only where it does not is each question asked on its own, for the number. In proofs/Yes: what each yes gives, and that a verdict of 0
+// gives the model's door. In proofs/Converse: question 6 finds departures and egress stops in order where the model's door has them so. In
+// proofs/Examples: Timetable K passes, damaged copies are refused.
 // Assumes nothing.
 ghost use mathlib.Core.Path.{_≡_};
 ghost use Prim.Native.Nat.{_+_, _*_, _≤_, _-_, _<_};
@@ -13,7 +13,9 @@ ghost use lib.ListN.{length};
 ghost use Rattle.tables.specs.Timetable.{timetable};
 ghost use Rattle.tables.specs.Sane.{SlicesOk, CountsOk, RunsOk};
 ghost use Rattle.query_input.specs.Lent.{transferRunsAt, builtSize, marksAt, querySize, delaysOf, stopRuns, departureRows, lent};
-ghost use Rattle.query_door.specs.Door.{queryQuestion1, readOk, writtenOk, queryQuestion2, transferRunsOk, queryQuestion3, columnBelow, columnAt, lineNumbers, queryNumbers, queryQuestion4, markRanges, transferRanges, settingRanges, walkRanges, queryQuestion5, partOrder, departureOrder, columnRises, queryQuestion6, queryVerdict};
+ghost use Rattle.query_door.specs.Door.{queryQuestion1, readOk, writtenOk, queryQuestion2, transferRunsOk, queryQuestion3, columnBelow};
+ghost use Rattle.query_door.specs.Door.{columnAt, lineNumbers, queryNumbers, queryQuestion4, markRanges, transferRanges, settingRanges};
+ghost use Rattle.query_door.specs.Door.{walkRanges, queryQuestion5, partOrder, departureOrder, columnRises, queryQuestion6, queryVerdict};
 ghost use Rattle.query_types.specs.Layout.{workSizeOf};
 ghost use Rattle.query_input.specs.Sane.{Limits, ReadSized, Placed};
 ghost use Rattle.query_door.specs.Columns.{Column};
@@ -57,17 +59,17 @@ pub fn counts_ok(n: QueryCounts) -> bool
 
 // Question 2 of what is read, but for the timetable's slice, whose numbers the others are measured by.
 fn read_ok(
-    t: &[u32],
+    tables: &[u32],
     n: QueryCounts,
     built: usize,
     patterns: usize,
     distances: usize,
     q: usize,
 ) -> bool
-    requires { ⌜ Limits n ⌝ ∗ ⌜ SlicesOk (now t) (n .timetable) ⌝ }
-    ensures { λ r. ⌜ r ≡ readOk (now (t .entry)) n built patterns distances q ⌝ }
+    requires { ⌜ Limits n ⌝ ∗ ⌜ SlicesOk (now tables) (n .timetable) ⌝ }
+    ensures { λ r. ⌜ r ≡ readOk (now (tables .entry)) n built patterns distances q ⌝ }
 {
-    let events = event_transfers::event_count(t, n.timetable);
+    let events = event_transfers::event_count(tables, n.timetable);
     let a = built == query_input::transfer_runs_at(n) + events * 2;
     let b = distances == n.timetable.edges + n.origins;
     both(
@@ -92,7 +94,7 @@ fn written_ok(n: QueryCounts, l: Lengths) -> bool
 }
 
 fn sizes_ok(
-    t: &[u32],
+    tables: &[u32],
     n: QueryCounts,
     built: usize,
     patterns: usize,
@@ -101,13 +103,13 @@ fn sizes_ok(
     l: Lengths,
 ) -> bool
     requires { ⌜ Limits n ⌝ }
-    ensures { λ r. ⌜ r ≡ queryQuestion2 (now (t .entry)) n built patterns distances q l ⌝ }
+    ensures { λ r. ⌜ r ≡ queryQuestion2 (now (tables .entry)) n built patterns distances q l ⌝ }
 {
-    if !tables::slices_ok(t, n.timetable) {
+    if !tables::slices_ok(tables, n.timetable) {
         return false;
     }
     both(
-        read_ok(t, n, built, patterns, distances, q),
+        read_ok(tables, n, built, patterns, distances, q),
         written_ok(n, l),
     )
 }
@@ -135,9 +137,9 @@ fn transfer_runs_ok(built: &[u32], n: QueryCounts, events: usize, rows: usize) -
 }
 
 // Question 3.
-fn runs_ok(t: &[u32], built: &[u32], n: QueryCounts, rows: usize) -> bool
-    requires { ⌜ Limits n ⌝ ∗ ⌜ SlicesOk (now t) (n .timetable) ⌝ ∗ ⌜ length (now built) ≡ builtSize (now t) n ⌝ ∗ ⌜ rows ≤ 65536 ⌝ }
-    ensures { λ r. ⌜ r ≡ queryQuestion3 (now (t .entry)) (now (built .entry)) n rows ⌝ }
+fn runs_ok(tables: &[u32], built: &[u32], n: QueryCounts, rows: usize) -> bool
+    requires { ⌜ Limits n ⌝ ∗ ⌜ SlicesOk (now tables) (n .timetable) ⌝ ∗ ⌜ length (now built) ≡ builtSize (now tables) n ⌝ ∗ ⌜ rows ≤ 65536 ⌝ }
+    ensures { λ r. ⌜ r ≡ queryQuestion3 (now (tables .entry)) (now (built .entry)) n rows ⌝ }
 {
     let lines = line_layout::line_runs_ok(query_input::line_runs(built, n), n.lines, n.entries);
     let stops = departures::stop_runs_ok(
@@ -145,9 +147,9 @@ fn runs_ok(t: &[u32], built: &[u32], n: QueryCounts, rows: usize) -> bool
         n.timetable,
         n.departures,
     );
-    let events = event_transfers::event_count(t, n.timetable);
+    let events = event_transfers::event_count(tables, n.timetable);
     both(
-        both(tables::runs_ok(t, n.timetable), lines),
+        both(tables::runs_ok(tables, n.timetable), lines),
         both(stops, transfer_runs_ok(built, n, events, rows)),
     )
 }
@@ -182,45 +184,48 @@ fn line_numbers(built: &[u32], n: QueryCounts) -> bool
 }
 
 // Question 4 of origins and egress.
-fn query_numbers(q: &[u32], n: QueryCounts) -> bool
-    requires { ⌜ Limits n ⌝ ∗ ⌜ querySize n ≤ length (now q) ⌝ }
-    ensures { λ r. ⌜ r ≡ queryNumbers (now (q .entry)) n ⌝ }
+fn query_numbers(query: &[u32], n: QueryCounts) -> bool
+    requires { ⌜ Limits n ⌝ ∗ ⌜ querySize n ≤ length (now query) ⌝ }
+    ensures { λ r. ⌜ r ≡ queryNumbers (now (query .entry)) n ⌝ }
 {
     let stops = n.timetable.stops;
-    let origins = column_below(q, 7, 2, n.origins, stops);
-    let egress = column_below(q, 7 + n.origins * 2, 2, n.egress, stops);
+    let origins = column_below(query, 7, 2, n.origins, stops);
+    let egress = column_below(query, 7 + n.origins * 2, 2, n.egress, stops);
     both(origins, egress)
 }
 
 // Question 4, 5 or 6 of the delay tables.
-fn delays_ok(question: u32, q: &[u32], n: QueryCounts) -> bool
-    requires { ⌜ Limits n ⌝ ∗ ⌜ querySize n ≤ length (now q) ⌝ }
-    ensures { λ r. ⌜ r ≡ rowsAsked question (n .timetable .trips) (delaysOf (now (q .entry)) n) ⌝ }
+fn delays_ok(question: u32, query: &[u32], n: QueryCounts) -> bool
+    requires { ⌜ Limits n ⌝ ∗ ⌜ querySize n ≤ length (now query) ⌝ }
+    ensures { λ r. ⌜ r ≡ rowsAsked question (n .timetable .trips) (delaysOf (now (query .entry)) n) ⌝ }
 {
     delay_rows::rows_asked(
         question,
         n.timetable.trips as u32,
-        query_input::delay_rows(q, n),
-        query_input::stop_rows(q, n),
+        query_input::delay_rows(query, n),
+        query_input::stop_rows(query, n),
     )
 }
 
 // Question 4.
-fn numbers_ok(t: &[u32], built: &[u32], q: &[u32], n: QueryCounts, rows: usize) -> bool
-    requires { ⌜ Limits n ⌝ ∗ ⌜ ReadSized (now t) n (length (now built)) (length (now q)) ⌝ ∗ ⌜ Placed (now t) (now built) n rows ⌝ }
-    ensures { λ r. ⌜ r ≡ queryQuestion4 (now (t .entry)) (now (built .entry)) (now (q .entry)) n ⌝ }
+fn numbers_ok(tables: &[u32], built: &[u32], query: &[u32], n: QueryCounts, rows: usize) -> bool
+    requires { ⌜ Limits n ⌝ ∗ ⌜ ReadSized (now tables) n (length (now built)) (length (now query)) ⌝ ∗ ⌜ Placed (now tables) (now built) n rows ⌝ }
+    ensures { λ r. ⌜ r ≡ queryQuestion4 (now (tables .entry)) (now (built .entry)) (now (query .entry)) n ⌝ }
 {
     let c = n.timetable;
     let listed = departures::listed_ok(
-        t,
+        tables,
         c,
         query_input::stop_runs(built, n),
         query_input::departure_rows(built, n),
         n.departures,
     );
     both(
-        both(tables::numbers_ok(t, c), line_numbers(built, n)),
-        both(listed, both(query_numbers(q, n), delays_ok(4, q, n))),
+        both(tables::numbers_ok(tables, c), line_numbers(built, n)),
+        both(
+            listed,
+            both(query_numbers(query, n), delays_ok(4, query, n)),
+        ),
     )
 }
 
@@ -247,56 +252,59 @@ fn transfer_ranges(transfers: &[u32], rows: usize) -> bool
 }
 
 // Question 5 of the query's settings.
-fn setting_ranges(q: &[u32]) -> bool
-    requires { ⌜ 7 ≤ length (now q) ⌝ }
-    ensures { λ r. ⌜ r ≡ settingRanges (now (q .entry)) ⌝ }
+fn setting_ranges(query: &[u32]) -> bool
+    requires { ⌜ 7 ≤ length (now query) ⌝ }
+    ensures { λ r. ⌜ r ≡ settingRanges (now (query .entry)) ⌝ }
 {
-    let times = both(words::field(q, 0) <= 1048575, words::field(q, 1) <= 1048575);
-    let switches = both(words::field(q, 5) <= 1, words::field(q, 6) <= 1);
-    both(times, both(words::field(q, 4) <= 127, switches))
+    let times = both(
+        words::field(query, 0) <= 1048575,
+        words::field(query, 1) <= 1048575,
+    );
+    let switches = both(words::field(query, 5) <= 1, words::field(query, 6) <= 1);
+    both(times, both(words::field(query, 4) <= 127, switches))
 }
 
 // Question 5 of origins and egress.
-fn walk_ranges(q: &[u32], n: QueryCounts) -> bool
-    requires { ⌜ Limits n ⌝ ∗ ⌜ querySize n ≤ length (now q) ⌝ }
-    ensures { λ r. ⌜ r ≡ walkRanges (now (q .entry)) n ⌝ }
+fn walk_ranges(query: &[u32], n: QueryCounts) -> bool
+    requires { ⌜ Limits n ⌝ ∗ ⌜ querySize n ≤ length (now query) ⌝ }
+    ensures { λ r. ⌜ r ≡ walkRanges (now (query .entry)) n ⌝ }
 {
-    let origins = column_below(q, 8, 2, n.origins, 1048576);
-    let egress = column_below(q, 7 + n.origins * 2 + 1, 2, n.egress, 1048576);
+    let origins = column_below(query, 8, 2, n.origins, 1048576);
+    let egress = column_below(query, 7 + n.origins * 2 + 1, 2, n.egress, 1048576);
     both(origins, egress)
 }
 
 // Question 5.
 fn ranges_ok(
-    t: &[u32],
+    tables: &[u32],
     built: &[u32],
     transfers: &[u32],
-    q: &[u32],
+    query: &[u32],
     n: QueryCounts,
     rows: usize,
 ) -> bool
-    requires { ⌜ Limits n ⌝ ∗ ⌜ ReadSized (now t) n (length (now built)) (length (now q)) ⌝ ∗ ⌜ rows * 4 ≤ length (now transfers) ⌝ }
-    ensures { λ r. ⌜ r ≡ queryQuestion5 (now (t .entry)) (now (built .entry)) (now (transfers .entry)) (now (q .entry)) n rows ⌝ }
+    requires { ⌜ Limits n ⌝ ∗ ⌜ ReadSized (now tables) n (length (now built)) (length (now query)) ⌝ ∗ ⌜ rows * 4 ≤ length (now transfers) ⌝ }
+    ensures { λ r. ⌜ r ≡ queryQuestion5 (now (tables .entry)) (now (built .entry)) (now (transfers .entry)) (now (query .entry)) n rows ⌝ }
 {
-    let tables = both(
-        tables::ranges_ok(t, n.timetable),
+    let ranged = both(
+        tables::ranges_ok(tables, n.timetable),
         both(mark_ranges(built, n), transfer_ranges(transfers, rows)),
     );
     both(
-        tables,
+        ranged,
         both(
-            setting_ranges(q),
-            both(walk_ranges(q, n), delays_ok(5, q, n)),
+            setting_ranges(query),
+            both(walk_ranges(query, n), delays_ok(5, query, n)),
         ),
     )
 }
 
 // The departure of row k of a stop's part.
-fn departure_at(t: &[u32], c: Counts, rows: &[u32], count: usize, k: usize) -> usize
-    requires { ⌜ RowsKnown (now t) c (now rows) count ⌝ ∗ ⌜ k < count ⌝ }
-    ensures { λ b. ⌜ b ≡ rowDeparture (timetable (now (t .entry)) c) (rowAt (now (rows .entry)) k) ⌝ }
+fn departure_at(tables: &[u32], c: Counts, rows: &[u32], count: usize, k: usize) -> usize
+    requires { ⌜ RowsKnown (now tables) c (now rows) count ⌝ ∗ ⌜ k < count ⌝ }
+    ensures { λ b. ⌜ b ≡ rowDeparture (timetable (now (tables .entry)) c) (rowAt (now (rows .entry)) k) ⌝ }
 {
-    query_input::row_departure(t, c, departures::departure_row(rows, k))
+    query_input::row_departure(tables, c, departures::departure_row(rows, k))
 }
 
 fn in_order(before: usize, after: usize) -> bool
@@ -306,17 +314,17 @@ fn in_order(before: usize, after: usize) -> bool
 }
 
 // Question 6 of a stop's part: is no row earlier than the one before it?
-fn part_order(t: &[u32], c: Counts, rows: &[u32], count: usize) -> bool
-    requires { ⌜ RowsKnown (now t) c (now rows) count ⌝ }
-    ensures { λ b. ⌜ b ≡ partOrder (timetable (now (t .entry)) c) (now (rows .entry)) count ⌝ }
+fn part_order(tables: &[u32], c: Counts, rows: &[u32], count: usize) -> bool
+    requires { ⌜ RowsKnown (now tables) c (now rows) count ⌝ }
+    ensures { λ b. ⌜ b ≡ partOrder (timetable (now (tables .entry)) c) (now (rows .entry)) count ⌝ }
 {
     if count == 0 {
         return true;
     }
-    let mut last = departure_at(t, c, rows, count, 0);
+    let mut last = departure_at(tables, c, rows, count, 0);
     let mut k: usize = 1;
     while k < count {
-        let next = departure_at(t, c, rows, count, k);
+        let next = departure_at(tables, c, rows, count, k);
         if !in_order(last, next) {
             return false;
         }
@@ -327,13 +335,14 @@ fn part_order(t: &[u32], c: Counts, rows: &[u32], count: usize) -> bool
 }
 
 // Of a stop.
-fn stop_order(t: &[u32], c: Counts, runs: &[u32], rows: &[u32], d: usize, s: usize) -> bool
-    requires { ⌜ RowsListed (now t) c (now runs) (now rows) d ⌝ ∗ ⌜ s < c .stops ⌝ }
-    ensures { λ b. ⌜ b ≡ partOrder (timetable (now (t .entry)) c) (departuresOf (now (runs .entry)) (now (rows .entry)) s) (runLength (now (runs .entry)) s) ⌝ }
+fn stop_order(tables: &[u32], c: Counts, runs: &[u32], rows: &[u32], d: usize, s: usize) -> bool
+    requires { ⌜ RowsListed (now tables) c (now runs) (now rows) d ⌝ ∗ ⌜ s < c .stops ⌝ }
+    ensures { λ b. ⌜ b ≡ partOrder (timetable (now (tables .entry)) c) (departuresOf (now (runs .entry)) (now (rows .entry)) s)
+        (runLength (now (runs .entry)) s) ⌝ }
 {
     let r = departures::stop_run(runs, s);
     part_order(
-        t,
+        tables,
         c,
         departures::departures_of(rows, r.first, r.length),
         r.length,
@@ -341,14 +350,14 @@ fn stop_order(t: &[u32], c: Counts, runs: &[u32], rows: &[u32], d: usize, s: usi
 }
 
 // Of every stop.
-fn departure_order(t: &[u32], c: Counts, runs: &[u32], rows: &[u32], d: usize) -> bool
-    requires { ⌜ RowsListed (now t) c (now runs) (now rows) d ⌝ }
-    ensures { λ b. ⌜ b ≡ departureOrder (timetable (now (t .entry)) c) (now (runs .entry)) (now (rows .entry)) (c .stops) ⌝ }
+fn departure_order(tables: &[u32], c: Counts, runs: &[u32], rows: &[u32], d: usize) -> bool
+    requires { ⌜ RowsListed (now tables) c (now runs) (now rows) d ⌝ }
+    ensures { λ b. ⌜ b ≡ departureOrder (timetable (now (tables .entry)) c) (now (runs .entry)) (now (rows .entry)) (c .stops) ⌝ }
 {
     let n = c.stops;
     let mut s: usize = 0;
     while s < n {
-        if !stop_order(t, c, runs, rows, d, s) {
+        if !stop_order(tables, c, runs, rows, d, s) {
             return false;
         }
         s += 1;
@@ -357,21 +366,21 @@ fn departure_order(t: &[u32], c: Counts, runs: &[u32], rows: &[u32], d: usize) -
 }
 
 // Question 6 of an egress stop: is it above the one before it? They begin at `at`.
-fn stop_rises(q: &[u32], at: usize, i: usize) -> bool
-    requires { ⌜ 0 < i ⌝ ∗ ⌜ at + i * 2 < length (now q) ⌝ }
-    ensures { λ r. ⌜ r ≡ ltb (columnAt (now (q .entry)) at 2 (i - 1)) (columnAt (now (q .entry)) at 2 i) ⌝ }
+fn stop_rises(query: &[u32], at: usize, i: usize) -> bool
+    requires { ⌜ 0 < i ⌝ ∗ ⌜ at + i * 2 < length (now query) ⌝ }
+    ensures { λ r. ⌜ r ≡ ltb (columnAt (now (query .entry)) at 2 (i - 1)) (columnAt (now (query .entry)) at 2 i) ⌝ }
 {
-    words::field(q, at + (i - 1) * 2) < words::field(q, at + i * 2)
+    words::field(query, at + (i - 1) * 2) < words::field(query, at + i * 2)
 }
 
 // Of all egress stops.
-fn egress_order(q: &[u32], at: usize, count: usize) -> bool
-    requires { ⌜ at + count * 2 ≤ length (now q) ⌝ }
-    ensures { λ r. ⌜ r ≡ columnRises (now (q .entry)) at 2 count ⌝ }
+fn egress_order(query: &[u32], at: usize, count: usize) -> bool
+    requires { ⌜ at + count * 2 ≤ length (now query) ⌝ }
+    ensures { λ r. ⌜ r ≡ columnRises (now (query .entry)) at 2 count ⌝ }
 {
     let mut i: usize = 1;
     while i < count {
-        if !stop_rises(q, at, i) {
+        if !stop_rises(query, at, i) {
             return false;
         }
         i += 1;
@@ -380,51 +389,53 @@ fn egress_order(q: &[u32], at: usize, count: usize) -> bool
 }
 
 // Question 6.
-fn order_ok(t: &[u32], built: &[u32], q: &[u32], n: QueryCounts) -> bool
-    requires { ⌜ Limits n ⌝ ∗ ⌜ ReadSized (now t) n (length (now built)) (length (now q)) ⌝ ∗ ⌜ RowsListed (now t) (n .timetable) (stopRuns (now built) n) (departureRows (now built) n) (n .departures) ⌝ }
-    ensures { λ r. ⌜ r ≡ queryQuestion6 (now (t .entry)) (now (built .entry)) (now (q .entry)) n ⌝ }
+fn order_ok(tables: &[u32], built: &[u32], query: &[u32], n: QueryCounts) -> bool
+    requires { ⌜ Limits n ⌝
+        ∗ ⌜ ReadSized (now tables) n (length (now built)) (length (now query)) ⌝
+        ∗ ⌜ RowsListed (now tables) (n .timetable) (stopRuns (now built) n) (departureRows (now built) n) (n .departures) ⌝ }
+    ensures { λ r. ⌜ r ≡ queryQuestion6 (now (tables .entry)) (now (built .entry)) (now (query .entry)) n ⌝ }
 {
     let c = n.timetable;
     let listed = departure_order(
-        t,
+        tables,
         c,
         query_input::stop_runs(built, n),
         query_input::departure_rows(built, n),
         n.departures,
     );
     both(
-        both(tables::order_ok(t, c), listed),
+        both(tables::order_ok(tables, c), listed),
         both(
-            egress_order(q, 7 + n.origins * 2, n.egress),
-            delays_ok(6, q, n),
+            egress_order(query, 7 + n.origins * 2, n.egress),
+            delays_ok(6, query, n),
         ),
     )
 }
 
 // Questions 4 and 6 of a listed row of stop s: when it leaves, plus 1; 0 where its numbers or its stop are not right.
-fn leaving(t: &[u32], c: Counts, s: usize, r: DepartureRow) -> usize
-    requires { ⌜ CountsOk c ⌝ ∗ ⌜ SlicesOk (now t) c ⌝ ∗ ⌜ RunsOk (now t) c ⌝ }
-    ensures { λ b. ⌜ (0 < b → Leaving (now (t .entry)) c s r b) ⌝ }
+fn leaving(tables: &[u32], c: Counts, s: usize, r: DepartureRow) -> usize
+    requires { ⌜ CountsOk c ⌝ ∗ ⌜ SlicesOk (now tables) c ⌝ ∗ ⌜ RunsOk (now tables) c ⌝ }
+    ensures { λ b. ⌜ (0 < b → Leaving (now (tables .entry)) c s r b) ⌝ }
 {
-    if !departures::row_numbers(t, c, r) {
+    if !departures::row_numbers(tables, c, r) {
         return 0;
     }
-    let at = tables::trip(t, c, r.trip, 0) + r.offset;
-    if tables::time(t, c, at, 0) != s {
+    let at = tables::trip(tables, c, r.trip, 0) + r.offset;
+    if tables::time(tables, c, at, 0) != s {
         return 0;
     }
-    tables::time(t, c, at, 2) + 1
+    tables::time(tables, c, at, 2) + 1
 }
 
 // Of the rows of stop s from `first` on, up to `end`: is each right, and none earlier than the one before it?
-fn run_right(t: &[u32], c: Counts, rows: &[u32], s: usize, first: usize, end: usize) -> bool
-    requires { ⌜ CountsOk c ⌝ ∗ ⌜ SlicesOk (now t) c ⌝ ∗ ⌜ RunsOk (now t) c ⌝ ∗ ⌜ end * 2 ≤ length (now rows) ⌝ }
-    ensures { λ b. ⌜ (b ≡ true → RunRight (now (t .entry)) c (now (rows .entry)) s first end) ⌝ }
+fn run_right(tables: &[u32], c: Counts, rows: &[u32], s: usize, first: usize, end: usize) -> bool
+    requires { ⌜ CountsOk c ⌝ ∗ ⌜ SlicesOk (now tables) c ⌝ ∗ ⌜ RunsOk (now tables) c ⌝ ∗ ⌜ end * 2 ≤ length (now rows) ⌝ }
+    ensures { λ b. ⌜ (b ≡ true → RunRight (now (tables .entry)) c (now (rows .entry)) s first end) ⌝ }
 {
     let mut last: usize = 1;
     let mut k = first;
     while k < end {
-        let next = leaving(t, c, s, departures::departure_row(rows, k));
+        let next = leaving(tables, c, s, departures::departure_row(rows, k));
         if next < last {
             return false;
         }
@@ -435,9 +446,9 @@ fn run_right(t: &[u32], c: Counts, rows: &[u32], s: usize, first: usize, end: us
 }
 
 // Of all departures, each read once. Only where the stops' runs follow one another and leave no row out; else false.
-fn in_turn(t: &[u32], c: Counts, runs: &[u32], rows: &[u32], d: usize) -> bool
-    requires { ⌜ SlicesOk (now t) c ⌝ ∗ ⌜ RunsOk (now t) c ⌝ ∗ ⌜ RunsListed c (now runs) d ⌝ ∗ ⌜ length (now rows) ≡ d * 2 ⌝ }
-    ensures { λ b. ⌜ (b ≡ true → InTurn (now (t .entry)) c (now (runs .entry)) (now (rows .entry)) d) ⌝ }
+fn in_turn(tables: &[u32], c: Counts, runs: &[u32], rows: &[u32], d: usize) -> bool
+    requires { ⌜ SlicesOk (now tables) c ⌝ ∗ ⌜ RunsOk (now tables) c ⌝ ∗ ⌜ RunsListed c (now runs) d ⌝ ∗ ⌜ length (now rows) ≡ d * 2 ⌝ }
+    ensures { λ b. ⌜ (b ≡ true → InTurn (now (tables .entry)) c (now (runs .entry)) (now (rows .entry)) d) ⌝ }
 {
     let n = c.stops;
     let mut end: usize = 0;
@@ -449,7 +460,7 @@ fn in_turn(t: &[u32], c: Counts, runs: &[u32], rows: &[u32], d: usize) -> bool
             return false;
         }
         end += r.length;
-        if !run_right(t, c, rows, s, first, end) {
+        if !run_right(tables, c, rows, s, first, end) {
             return false;
         }
         s += 1;
@@ -458,97 +469,104 @@ fn in_turn(t: &[u32], c: Counts, runs: &[u32], rows: &[u32], d: usize) -> bool
 }
 
 // Questions 4 to 6 of the query's numbers.
-fn query_ok(q: &[u32], n: QueryCounts) -> bool
-    requires { ⌜ Limits n ⌝ ∗ ⌜ querySize n ≤ length (now q) ⌝ }
-    ensures { λ r. ⌜ r ≡ queryOk (now (q .entry)) n ⌝ }
+fn query_ok(query: &[u32], n: QueryCounts) -> bool
+    requires { ⌜ Limits n ⌝ ∗ ⌜ querySize n ≤ length (now query) ⌝ }
+    ensures { λ r. ⌜ r ≡ queryOk (now (query .entry)) n ⌝ }
 {
-    let numbers = both(query_numbers(q, n), delays_ok(4, q, n));
+    let numbers = both(query_numbers(query, n), delays_ok(4, query, n));
     let ranges = both(
-        setting_ranges(q),
-        both(walk_ranges(q, n), delays_ok(5, q, n)),
+        setting_ranges(query),
+        both(walk_ranges(query, n), delays_ok(5, query, n)),
     );
     let order = both(
-        egress_order(q, 7 + n.origins * 2, n.egress),
-        delays_ok(6, q, n),
+        egress_order(query, 7 + n.origins * 2, n.egress),
+        delays_ok(6, query, n),
     );
     both(numbers, both(ranges, order))
 }
 
 // Of the tables but for the departures.
-fn tables_ok(t: &[u32], built: &[u32], transfers: &[u32], n: QueryCounts, rows: usize) -> bool
-    requires { ⌜ Limits n ⌝ ∗ ⌜ SlicesOk (now t) (n .timetable) ⌝ ∗ ⌜ transferRunsAt n ≤ length (now built) ⌝ ∗ ⌜ rows * 4 ≤ length (now transfers) ⌝ }
-    ensures { λ r. ⌜ r ≡ tablesOk (now (t .entry)) (now (built .entry)) (now (transfers .entry)) n rows ⌝ }
+fn tables_ok(tables: &[u32], built: &[u32], transfers: &[u32], n: QueryCounts, rows: usize) -> bool
+    requires { ⌜ Limits n ⌝
+        ∗ ⌜ SlicesOk (now tables) (n .timetable) ⌝
+        ∗ ⌜ transferRunsAt n ≤ length (now built) ⌝
+        ∗ ⌜ rows * 4 ≤ length (now transfers) ⌝ }
+    ensures { λ r. ⌜ r ≡ tablesOk (now (tables .entry)) (now (built .entry)) (now (transfers .entry)) n rows ⌝ }
 {
     let c = n.timetable;
-    let timetable = both(tables::rows_ok(t, c), tables::order_ok(t, c));
+    let timetable = both(tables::rows_ok(tables, c), tables::order_ok(tables, c));
     let codes = both(mark_ranges(built, n), transfer_ranges(transfers, rows));
     both(timetable, both(line_numbers(built, n), codes))
 }
 
 // Questions 4, 5 and 6 at once. True is a yes to all three; false says nothing.
 fn passed(
-    t: &[u32],
+    tables: &[u32],
     built: &[u32],
     transfers: &[u32],
-    q: &[u32],
+    query: &[u32],
     n: QueryCounts,
     rows: usize,
 ) -> bool
-    requires { ⌜ Limits n ⌝ ∗ ⌜ ReadSized (now t) n (length (now built)) (length (now q)) ⌝ ∗ ⌜ Placed (now t) (now built) n rows ⌝ ∗ ⌜ rows * 4 ≤ length (now transfers) ⌝ }
-    ensures { λ r. ⌜ (r ≡ true → Passed (now (t .entry)) (now (built .entry)) (now (transfers .entry)) (now (q .entry)) n rows) ⌝ }
+    requires { ⌜ Limits n ⌝
+        ∗ ⌜ ReadSized (now tables) n (length (now built)) (length (now query)) ⌝
+        ∗ ⌜ Placed (now tables) (now built) n rows ⌝
+        ∗ ⌜ rows * 4 ≤ length (now transfers) ⌝ }
+    ensures { λ r. ⌜ (r ≡ true → Passed (now (tables .entry)) (now (built .entry)) (now (transfers .entry)) (now (query .entry)) n rows) ⌝ }
 {
-    if !query_ok(q, n) {
+    if !query_ok(query, n) {
         return false;
     }
-    if !tables_ok(t, built, transfers, n, rows) {
+    if !tables_ok(tables, built, transfers, n, rows) {
         return false;
     }
     let runs = query_input::stop_runs(built, n);
     let listed = query_input::departure_rows(built, n);
-    in_turn(t, n.timetable, runs, listed, n.departures)
+    in_turn(tables, n.timetable, runs, listed, n.departures)
 }
 
 // THE QUESTIONS: the number of the first that is answered no, or 0.
 pub fn questions(
     n: QueryCounts,
-    t: &[u32],
+    tables: &[u32],
     built: &[u32],
     transfers: &[u32],
     patterns: &[u8],
     distances: &[f64],
-    q: &[u32],
+    query: &[u32],
     l: Lengths,
 ) -> u32
-    ensures { λ r. ⌜ r ≡ queryVerdict (lent n (now (t .entry)) (now (built .entry)) (now (transfers .entry)) (now (patterns .entry)) (now (distances .entry)) (now (q .entry))) l ⌝ }
+    ensures { λ r. ⌜ r ≡ queryVerdict (lent n (now (tables .entry)) (now (built .entry)) (now (transfers .entry)) (now (patterns .entry))
+        (now (distances .entry)) (now (query .entry))) l ⌝ }
 {
     if !counts_ok(n) {
         return 1;
     }
     if !sizes_ok(
-        t,
+        tables,
         n,
         built.len(),
         patterns.len(),
         distances.len(),
-        q.len(),
+        query.len(),
         l,
     ) {
         return 2;
     }
     let rows = query_input::transfer_rows(n, transfers.len());
-    if !runs_ok(t, built, n, rows) {
+    if !runs_ok(tables, built, n, rows) {
         return 3;
     }
-    if passed(t, built, transfers, q, n, rows) {
+    if passed(tables, built, transfers, query, n, rows) {
         return 0;
     }
-    if !numbers_ok(t, built, q, n, rows) {
+    if !numbers_ok(tables, built, query, n, rows) {
         return 4;
     }
-    if !ranges_ok(t, built, transfers, q, n, rows) {
+    if !ranges_ok(tables, built, transfers, query, n, rows) {
         return 5;
     }
-    if !order_ok(t, built, q, n) {
+    if !order_ok(tables, built, query, n) {
         return 6;
     }
     0

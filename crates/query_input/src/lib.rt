@@ -10,7 +10,8 @@ ghost use Rattle.tables.specs.Timetable.{timetable};
 ghost use Rattle.tables.specs.Sane.{CountsOk, SlicesOk, RunsOk};
 ghost use Rattle.departures.specs.Departures.{rowDeparture};
 ghost use Rattle.departures.specs.Listed.{RowKnown};
-ghost use Rattle.query_input.specs.Lent.{marksAt, transferRunsAt, querySize, section, lineRuns, lineEntries, stopRuns, departureRows, delayRows, stopRows, egressPart, transferRuns, transferRows};
+ghost use Rattle.query_input.specs.Lent.{marksAt, transferRunsAt, querySize, section, lineRuns, lineEntries, stopRuns, departureRows};
+ghost use Rattle.query_input.specs.Lent.{delayRows, stopRows, egressPart, transferRuns, transferRows};
 ghost use Rattle.query_input.specs.Sane.{Limits};
 use departures::DepartureRow;
 use query_types::QueryCounts;
@@ -60,29 +61,29 @@ pub fn departure_rows(built: &[u32], n: QueryCounts) -> &[u32]
     )
 }
 
-pub fn delay_rows(q: &[u32], n: QueryCounts) -> &[u32]
-    requires { ⌜ Limits n ⌝ ∗ ⌜ querySize n ≤ length (now q) ⌝ }
-    ensures { λ r. ⌜ now r ≡ delayRows (now (q .entry)) n ⌝ }
+pub fn delay_rows(query: &[u32], n: QueryCounts) -> &[u32]
+    requires { ⌜ Limits n ⌝ ∗ ⌜ querySize n ≤ length (now query) ⌝ }
+    ensures { λ r. ⌜ now r ≡ delayRows (now (query .entry)) n ⌝ }
 {
-    part(q, 7 + n.origins * 2 + n.egress * 2, n.delays * 2)
+    part(query, 7 + n.origins * 2 + n.egress * 2, n.delays * 2)
 }
 
-pub fn stop_rows(q: &[u32], n: QueryCounts) -> &[u32]
-    requires { ⌜ Limits n ⌝ ∗ ⌜ querySize n ≤ length (now q) ⌝ }
-    ensures { λ r. ⌜ now r ≡ stopRows (now (q .entry)) n ⌝ }
+pub fn stop_rows(query: &[u32], n: QueryCounts) -> &[u32]
+    requires { ⌜ Limits n ⌝ ∗ ⌜ querySize n ≤ length (now query) ⌝ }
+    ensures { λ r. ⌜ now r ≡ stopRows (now (query .entry)) n ⌝ }
 {
     part(
-        q,
+        query,
         7 + n.origins * 2 + n.egress * 2 + n.delays * 2,
         n.stop_rows * 5,
     )
 }
 
-pub fn egress_rows(q: &[u32], n: QueryCounts) -> &[u32]
-    requires { ⌜ Limits n ⌝ ∗ ⌜ querySize n ≤ length (now q) ⌝ }
-    ensures { λ r. ⌜ now r ≡ egressPart (now (q .entry)) n ⌝ }
+pub fn egress_rows(query: &[u32], n: QueryCounts) -> &[u32]
+    requires { ⌜ Limits n ⌝ ∗ ⌜ querySize n ≤ length (now query) ⌝ }
+    ensures { λ r. ⌜ now r ≡ egressPart (now (query .entry)) n ⌝ }
 {
-    part(q, 7 + n.origins * 2, n.egress * 2)
+    part(query, 7 + n.origins * 2, n.egress * 2)
 }
 
 pub fn transfer_runs(built: &[u32], n: QueryCounts) -> &[u32]
@@ -128,9 +129,9 @@ pub fn transfer_rows(n: QueryCounts, area: usize) -> usize
 }
 
 // When a listed departure leaves.
-pub fn row_departure(t: &[u32], c: Counts, r: DepartureRow) -> usize
-    requires { ⌜ CountsOk c ⌝ ∗ ⌜ SlicesOk (now t) c ⌝ ∗ ⌜ RunsOk (now t) c ⌝ ∗ ⌜ RowKnown (now t) c r ⌝ }
-    ensures { λ b. ⌜ b ≡ rowDeparture (timetable (now (t .entry)) c) r ⌝ }
+pub fn row_departure(tables: &[u32], c: Counts, r: DepartureRow) -> usize
+    requires { ⌜ CountsOk c ⌝ ∗ ⌜ SlicesOk (now tables) c ⌝ ∗ ⌜ RunsOk (now tables) c ⌝ ∗ ⌜ RowKnown (now tables) c r ⌝ }
+    ensures { λ b. ⌜ b ≡ rowDeparture (timetable (now (tables .entry)) c) r ⌝ }
 {
-    tables::time(t, c, tables::trip(t, c, r.trip, 0) + r.offset, 2)
+    tables::time(tables, c, tables::trip(tables, c, r.trip, 0) + r.offset, 2)
 }

@@ -39,7 +39,7 @@ pub record QueryOutcome : Type 0 where
   pub reply : Reply
   pub areas : QueryAreas
 
-abbrev pub reply : ℕ → ℕ → ℕ → ℕ → Reply
+abbrev pub reply : (code total stop candidates : ℕ) → Reply
 reply code total stop candidates = record { code = code; total = total; stop = stop; candidates = candidates }
 
 -- refused by questions 1 to 6: all areas are as they came

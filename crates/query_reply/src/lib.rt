@@ -1,7 +1,7 @@
 // query_reply: what a query leaves: its reply and every area at exit.
 // Place: the search.
-// Specs: the outcome of a search that was refused, that ran out of queue, or that was answered (Outcome, a claim); what the functions that write it are
-// given and leave (Finish, inner).
+// Specs: the outcome of a search that was refused, that ran out of queue, or that was answered (Outcome, a claim); what the functions that write it
+// are given and leave (Finish, inner).
 // Proves: after the rounds the reply, the candidate rows and the cleared areas are as the outcome says.
 // Assumes nothing.
 ghost use mathlib.Core.Path.{_≡_};
@@ -26,17 +26,18 @@ pub struct Reply {
 // Total, stop and candidates, the candidate rows written.
 fn reply_of(
     n: QueryCounts,
-    q: &[u32],
+    query: &[u32],
     work: &[u32],
     labels: &[u32],
     label_distances: &[f64],
     candidates: &mut [u32],
 ) -> Reply
-    requires { ⌜ Ending n (now q) (now work) (now labels) (now «label_distances») ⌝ ∗ ⌜ length (now candidates) ≡ 39 ⌝ }
-    ensures { λ r. ⌜ ((T : Tables) (Q : Query) (a : Arrivals) → AnswerAgrees T Q a n (now (q .entry)) (now (work .entry)) (now (labels .entry)) (now («label_distances» .entry)) → Replied T Q a r (now (candidates .exit))) ⌝ }
+    requires { ⌜ Ending n (now query) (now work) (now labels) (now «label_distances») ⌝ ∗ ⌜ length (now candidates) ≡ 39 ⌝ }
+    ensures { λ r. ⌜ ((T : Tables) (Q : Query) (a : Arrivals) → AnswerAgrees T Q a n (now (query .entry)) (now (work .entry)) (now (labels .entry))
+        (now («label_distances» .entry)) → Replied T Q a r (now (candidates .exit))) ⌝ }
 {
     let stops = n.timetable.stops;
-    let egress = query_input::egress_rows(q, n);
+    let egress = query_input::egress_rows(query, n);
     let best = best_target::best_target(work, stops, egress);
     if best.total == 4294967295 {
         words::clear_words(candidates);
@@ -47,7 +48,7 @@ fn reply_of(
             candidates: 0,
         };
     }
-    let rounds = walk_time::tbr_max_rounds(q[2], q[3]);
+    let rounds = walk_time::tbr_max_rounds(query[2], query[3]);
     let m = best_target::candidates(
         labels,
         label_distances,
@@ -68,7 +69,9 @@ fn reply_of(
 
 // Workspace and queue become 0.
 fn zero_work(work: &mut [u32], queue_a: &mut [u32], queue_b: &mut [u32])
-    ensures { λ _. ⌜ now (work .exit) ≡ cleared (now (work .entry)) ⌝ ∗ ⌜ now («queue_a» .exit) ≡ cleared (now («queue_a» .entry)) ⌝ ∗ ⌜ now («queue_b» .exit) ≡ cleared (now («queue_b» .entry)) ⌝ }
+    ensures { λ _. ⌜ now (work .exit) ≡ cleared (now (work .entry)) ⌝
+        ∗ ⌜ now («queue_a» .exit) ≡ cleared (now («queue_a» .entry)) ⌝
+        ∗ ⌜ now («queue_b» .exit) ≡ cleared (now («queue_b» .entry)) ⌝ }
 {
     words::clear_words(work);
     words::clear_words(queue_a);
@@ -78,7 +81,7 @@ fn zero_work(work: &mut [u32], queue_a: &mut [u32], queue_b: &mut [u32])
 // After the rounds: 8 with all areas but the candidate rows zero, or the answer.
 pub fn finish(
     n: QueryCounts,
-    q: &[u32],
+    query: &[u32],
     h: Head,
     labels: &mut [u32],
     label_distances: &mut [f64],
@@ -87,8 +90,11 @@ pub fn finish(
     queue_b: &mut [u32],
     candidates: &mut [u32],
 ) -> Reply
-    requires { ⌜ (h .full ≡ false → Ending n (now q) (now work) (now labels) (now «label_distances»)) ⌝ ∗ ⌜ length (now candidates) ≡ 39 ⌝ }
-    ensures { λ r. ⌜ Finished n (now (q .entry)) (h .full) (queryAreas (now (labels .entry)) (now («label_distances» .entry)) (now (work .entry)) (now («queue_a» .entry)) (now («queue_b» .entry)) (now (candidates .entry))) (queryAreas (now (labels .exit)) (now («label_distances» .exit)) (now (work .exit)) (now («queue_a» .exit)) (now («queue_b» .exit)) (now (candidates .exit))) r ⌝ }
+    requires { ⌜ (h .full ≡ false → Ending n (now query) (now work) (now labels) (now «label_distances»)) ⌝ ∗ ⌜ length (now candidates) ≡ 39 ⌝ }
+    ensures { λ r. ⌜ Finished n (now (query .entry)) (h .full)
+        (queryAreas (now (labels .entry)) (now («label_distances» .entry)) (now (work .entry)) (now («queue_a» .entry)) (now («queue_b» .entry))
+        (now (candidates .entry))) (queryAreas (now (labels .exit)) (now («label_distances» .exit)) (now (work .exit)) (now («queue_a» .exit))
+        (now («queue_b» .exit)) (now (candidates .exit))) r ⌝ }
 {
     if h.full {
         zero_work(work, queue_a, queue_b);
@@ -101,7 +107,7 @@ pub fn finish(
             candidates: 0,
         };
     }
-    let r = reply_of(n, q, work, labels, label_distances, candidates);
+    let r = reply_of(n, query, work, labels, label_distances, candidates);
     zero_work(work, queue_a, queue_b);
     r
 }

@@ -1,8 +1,11 @@
 // query_types: the structs that a query hands on by value, and the layout of its workspace.
 // Place: the search; every crate of it rests on this one.
 // Specs: where each section of the working numbers begins, and how many numbers there are in all (Layout; the size is a claim, a caller lends it).
-// Proves: nothing; there is no function here.
+// Proves: each section begins where Layout says.
 // Assumes nothing.
+ghost use mathlib.Core.Path.{_≡_};
+ghost use Rattle.query_types.specs.Layout.{reachAt, restAt, positionsAt, fifoAt, eventsAt, tripStampsAt, boardedOffsetsAt};
+ghost use Rattle.query_types.specs.Layout.{boardedDeparturesAt, lineStampsAt, headsAt, linksAt, leastAt, workSize, Few};
 use cell_bitset::CellBitSet;
 use delay_rows::Found;
 use tables::Counts;
@@ -131,4 +134,103 @@ pub struct StopScan {
     pub stop: u32,
     pub after: u32,
     pub has_freq: bool,
+}
+
+// Where each trip's segment reach begins.
+pub fn reach_at(lay: Lay) -> usize
+    requires { ⌜ Few lay ⌝ }
+    ensures { λ r. ⌜ r ≡ reachAt lay ⌝ }
+{
+    lay.stops * 2
+}
+
+// The egress table.
+pub fn rest_at(lay: Lay) -> usize
+    requires { ⌜ Few lay ⌝ }
+    ensures { λ r. ⌜ r ≡ restAt lay ⌝ }
+{
+    lay.stops * 4 + lay.trips + 128
+}
+
+// Each trip's position in its line.
+pub fn positions_at(lay: Lay) -> usize
+    requires { ⌜ Few lay ⌝ }
+    ensures { λ r. ⌜ r ≡ positionsAt lay ⌝ }
+{
+    lay.stops * 5 + lay.trips + 128
+}
+
+// Each line's FIFO flag.
+pub fn fifo_at(lay: Lay) -> usize
+    requires { ⌜ Few lay ⌝ }
+    ensures { λ r. ⌜ r ≡ fifoAt lay ⌝ }
+{
+    lay.stops * 5 + lay.trips * 2 + 128
+}
+
+// The events before each trip.
+pub fn events_at(lay: Lay) -> usize
+    requires { ⌜ Few lay ⌝ }
+    ensures { λ r. ⌜ r ≡ eventsAt lay ⌝ }
+{
+    lay.stops * 5 + lay.trips * 2 + lay.lines + 128
+}
+
+// Each boarded trip's stamp, the offset where it was boarded, the departure there.
+pub fn trip_stamps_at(lay: Lay) -> usize
+    requires { ⌜ Few lay ⌝ }
+    ensures { λ r. ⌜ r ≡ tripStampsAt lay ⌝ }
+{
+    lay.stops * 5 + lay.trips * 3 + lay.lines + 128
+}
+
+pub fn boarded_offsets_at(lay: Lay) -> usize
+    requires { ⌜ Few lay ⌝ }
+    ensures { λ r. ⌜ r ≡ boardedOffsetsAt lay ⌝ }
+{
+    lay.stops * 5 + lay.trips * 4 + lay.lines + 128
+}
+
+pub fn boarded_departures_at(lay: Lay) -> usize
+    requires { ⌜ Few lay ⌝ }
+    ensures { λ r. ⌜ r ≡ boardedDeparturesAt lay ⌝ }
+{
+    lay.stops * 5 + lay.trips * 5 + lay.lines + 128
+}
+
+// Each line's stamp, the first trip of its chain, each trip's next one, each trip's least offset.
+pub fn line_stamps_at(lay: Lay) -> usize
+    requires { ⌜ Few lay ⌝ }
+    ensures { λ r. ⌜ r ≡ lineStampsAt lay ⌝ }
+{
+    lay.stops * 5 + lay.trips * 6 + lay.lines + 128
+}
+
+pub fn heads_at(lay: Lay) -> usize
+    requires { ⌜ Few lay ⌝ }
+    ensures { λ r. ⌜ r ≡ headsAt lay ⌝ }
+{
+    lay.stops * 5 + lay.trips * 6 + lay.lines * 2 + 128
+}
+
+pub fn links_at(lay: Lay) -> usize
+    requires { ⌜ Few lay ⌝ }
+    ensures { λ r. ⌜ r ≡ linksAt lay ⌝ }
+{
+    lay.stops * 5 + lay.trips * 6 + lay.lines * 3 + 128
+}
+
+pub fn least_at(lay: Lay) -> usize
+    requires { ⌜ Few lay ⌝ }
+    ensures { λ r. ⌜ r ≡ leastAt lay ⌝ }
+{
+    lay.stops * 5 + lay.trips * 7 + lay.lines * 3 + 128
+}
+
+// How long the workspace is.
+pub fn work_size(lay: Lay) -> usize
+    requires { ⌜ Few lay ⌝ }
+    ensures { λ r. ⌜ r ≡ workSize lay ⌝ }
+{
+    lay.stops * 5 + lay.trips * 8 + lay.lines * 3 + 128
 }

@@ -1,4 +1,5 @@
-// Lines of chains: a timetable of fixed shape put to the building calls, and a query on what they wrote; beside/list_chains.rs says what a line holds.
+// Lines of chains: a timetable of fixed shape put to the building calls, and a query on what they wrote; beside/list_chains.rs says what a line
+// holds.
 ghost use Prim.Native.Nat.{_<_};
 use crate::building::copy_words;
 use crate::queries::all_are;

@@ -54,43 +54,50 @@ fn ride_of(from: &[u32], stamp: u32, k: usize) -> Ride
 
 // Segment k of `from` is ridden where its trip is permitted.
 fn ride_segment(
-    t: &[u32],
-    rows: &[u32],
+    tables: &[u32],
+    delay_rows: &[u32],
     stop_rows: &[u32],
     built: &[u32],
-    bytes: &[u8],
-    area: &[u32],
+    patterns: &[u8],
+    transfers: &[u32],
     p: Phase,
     k: usize,
     from: &[u32],
     work: &mut [u32],
     labels: &mut [u32],
-    distances: &mut [f64],
+    label_distances: &mut [f64],
     queue: &mut [u32],
     h: Head,
 ) -> Head
-    requires { ⌜ Going (p .context) (slices (now t) (now rows) (now «stop_rows») (now built) (now bytes) (now area)) (p .stamp) (memory (now work) (now labels) (now distances) h) (now queue) ⌝ ∗ ⌜ Segments (p .context .counts .timetable) (now from) (k + 1) ⌝ }
-    ensures { λ r. ⌜ Rode (p .context .lay) (p .stamp) (Rides (p .context) (slices (now (t .entry)) (now (rows .entry)) (now («stop_rows» .entry)) (now (built .entry)) (now (bytes .entry)) (now (area .entry))) (now (work .entry))) (λ T Q. rideSegments T Q (p .context .flagged) (p .stamp - 2) (p .stamp) (segmentAt (now (from .entry)) k ∷ [])) (memory (now (work .entry)) (now (labels .entry)) (now (distances .entry)) h) (memory (now (work .exit)) (now (labels .exit)) (now (distances .exit)) r) (now (queue .entry)) (now (queue .exit)) ⌝ }
+    requires { ⌜ Going (p .context) (slices (now tables) (now «delay_rows») (now «stop_rows») (now built) (now patterns) (now transfers)) (p .stamp)
+        (memory (now work) (now labels) (now «label_distances») h) (now queue) ⌝
+        ∗ ⌜ Segments (p .context .counts .timetable) (now from) (k + 1) ⌝ }
+    ensures { λ r. ⌜ Rode (p .context .lay) (p .stamp)
+        (Rides (p .context) (slices (now (tables .entry)) (now («delay_rows» .entry)) (now («stop_rows» .entry)) (now (built .entry))
+        (now (patterns .entry)) (now (transfers .entry))) (now (work .entry)))
+        (λ T Q. rideSegments T Q (p .context .flagged) (p .stamp - 2) (p .stamp) (segmentAt (now (from .entry)) k ∷ []))
+        (memory (now (work .entry)) (now (labels .entry)) (now («label_distances» .entry)) h)
+        (memory (now (work .exit)) (now (labels .exit)) (now («label_distances» .exit)) r) (now (queue .entry)) (now (queue .exit)) ⌝ }
 {
     let ride = ride_of(from, p.stamp, k);
     let counts = p.context.counts.timetable;
-    if !trip_boarding::permitted(t, counts, p.context.net.terms, ride.trip as usize) {
+    if !trip_boarding::permitted(tables, counts, p.context.net.terms, ride.trip as usize) {
         return h;
     }
-    let adj = trip_boarding::delay_of(rows, ride.trip);
+    let adj = trip_boarding::delay_of(delay_rows, ride.trip);
     let context = p.context;
     let s = Scan { context, adj, ride };
     trip_scan::scan_trip_forward(
-        t,
-        rows,
+        tables,
+        delay_rows,
         stop_rows,
         built,
-        bytes,
-        area,
+        patterns,
+        transfers,
         s,
         work,
         labels,
-        distances,
+        label_distances,
         queue,
         h,
     )
@@ -98,40 +105,47 @@ fn ride_segment(
 
 // The first m segments of `from`, one by one, until a segment does not fit.
 fn ride_segments(
-    t: &[u32],
-    rows: &[u32],
+    tables: &[u32],
+    delay_rows: &[u32],
     stop_rows: &[u32],
     built: &[u32],
-    bytes: &[u8],
-    area: &[u32],
+    patterns: &[u8],
+    transfers: &[u32],
     p: Phase,
     m: usize,
     from: &[u32],
     work: &mut [u32],
     labels: &mut [u32],
-    distances: &mut [f64],
+    label_distances: &mut [f64],
     queue: &mut [u32],
     h: Head,
 ) -> Head
-    requires { ⌜ Going (p .context) (slices (now t) (now rows) (now «stop_rows») (now built) (now bytes) (now area)) (p .stamp) (memory (now work) (now labels) (now distances) h) (now queue) ⌝ ∗ ⌜ Segments (p .context .counts .timetable) (now from) m ⌝ }
-    ensures { λ r. ⌜ Rode (p .context .lay) (p .stamp) (Rides (p .context) (slices (now (t .entry)) (now (rows .entry)) (now («stop_rows» .entry)) (now (built .entry)) (now (bytes .entry)) (now (area .entry))) (now (work .entry))) (λ T Q. rideSegments T Q (p .context .flagged) (p .stamp - 2) (p .stamp) (queueOf (now (from .entry)) m)) (memory (now (work .entry)) (now (labels .entry)) (now (distances .entry)) h) (memory (now (work .exit)) (now (labels .exit)) (now (distances .exit)) r) (now (queue .entry)) (now (queue .exit)) ⌝ }
+    requires { ⌜ Going (p .context) (slices (now tables) (now «delay_rows») (now «stop_rows») (now built) (now patterns) (now transfers)) (p .stamp)
+        (memory (now work) (now labels) (now «label_distances») h) (now queue) ⌝
+        ∗ ⌜ Segments (p .context .counts .timetable) (now from) m ⌝ }
+    ensures { λ r. ⌜ Rode (p .context .lay) (p .stamp)
+        (Rides (p .context) (slices (now (tables .entry)) (now («delay_rows» .entry)) (now («stop_rows» .entry)) (now (built .entry))
+        (now (patterns .entry)) (now (transfers .entry))) (now (work .entry)))
+        (λ T Q. rideSegments T Q (p .context .flagged) (p .stamp - 2) (p .stamp) (queueOf (now (from .entry)) m))
+        (memory (now (work .entry)) (now (labels .entry)) (now («label_distances» .entry)) h)
+        (memory (now (work .exit)) (now (labels .exit)) (now («label_distances» .exit)) r) (now (queue .entry)) (now (queue .exit)) ⌝ }
 {
     let mut g = h;
     let mut k: usize = 0;
     while k < m {
         g = ride_segment(
-            t,
-            rows,
+            tables,
+            delay_rows,
             stop_rows,
             built,
-            bytes,
-            area,
+            patterns,
+            transfers,
             p,
             k,
             from,
             work,
             labels,
-            distances,
+            label_distances,
             queue,
             g,
         );
@@ -165,41 +179,56 @@ fn less(after: u32, margin: u32) -> u32
 
 // The departures of stop x that are scanned: from the first on that is not before `m`; all of them where it has frequency trips.
 fn departures_from<'a>(
-    t: &[u32],
+    tables: &[u32],
     n: QueryCounts,
     built: &'a [u32],
     x: usize,
     has_freq: bool,
     m: u32,
 ) -> &'a [u32]
-    requires { ⌜ Limits n ⌝ ∗ ⌜ marksAt n ≤ length (now built) ⌝ ∗ ⌜ RunsListed (n .timetable) (stopRuns (now built) n) (n .departures) ⌝ ∗ ⌜ x < n .timetable .stops ⌝ ∗ ⌜ RowsOrdered (now t) (n .timetable) (listAt (now built) n x) (length (listAt (now built) n x) / 2) ⌝ }
-    ensures { λ r. ⌜ RowsKnown (now (t .entry)) (n .timetable) (now r) (length (now r) / 2) ⌝ ∗ ⌜ ((T : Tables) → T .timetable ≡ timetable (now (t .entry)) (n .timetable) → listedRows (now r) ≡ scanned T «has_freq» m (listedRows (listAt (now (built .entry)) n x))) ⌝ }
+    requires { ⌜ Limits n ⌝
+        ∗ ⌜ marksAt n ≤ length (now built) ⌝
+        ∗ ⌜ RunsListed (n .timetable) (stopRuns (now built) n) (n .departures) ⌝
+        ∗ ⌜ x < n .timetable .stops ⌝
+        ∗ ⌜ RowsOrdered (now tables) (n .timetable) (listAt (now built) n x) (length (listAt (now built) n x) / 2) ⌝ }
+    ensures { λ r. ⌜ RowsKnown (now (tables .entry)) (n .timetable) (now r) (length (now r) / 2) ⌝
+        ∗ ⌜ ((T : Tables) → T .timetable ≡ timetable (now (tables .entry)) (n .timetable) → listedRows (now r)
+        ≡ scanned T «has_freq» m (listedRows (listAt (now (built .entry)) n x))) ⌝ }
 {
     let list = departure_scan::departures_at(n, built, x);
     if has_freq {
         return list;
     }
-    departure_scan::not_before(t, n.timetable, list, m)
+    departure_scan::not_before(tables, n.timetable, list, m)
 }
 
 // The departures of stop x, reached before, are scanned where they can be before the best total.
 fn scan_stop(
-    t: &[u32],
-    rows: &[u32],
+    tables: &[u32],
+    delay_rows: &[u32],
     stop_rows: &[u32],
     built: &[u32],
-    bytes: &[u8],
-    area: &[u32],
+    patterns: &[u8],
+    transfers: &[u32],
     p: Phase,
     x: usize,
     work: &mut [u32],
     labels: &mut [u32],
-    distances: &mut [f64],
+    label_distances: &mut [f64],
     queue: &mut [u32],
     h: Head,
 ) -> Head
-    requires { ⌜ Going (p .context) (slices (now t) (now rows) (now «stop_rows») (now built) (now bytes) (now area)) (p .stamp) (memory (now work) (now labels) (now distances) h) (now queue) ⌝ ∗ ⌜ x < p .context .counts .timetable .stops ⌝ ∗ ⌜ getD (now work) x 0 ≤ 108003224 ⌝ ∗ ⌜ p .change ≤ timeLimit ⌝ }
-    ensures { λ r. ⌜ Rode (p .context .lay) (p .stamp) (Changing (p .context) (slices (now (t .entry)) (now (rows .entry)) (now («stop_rows» .entry)) (now (built .entry)) (now (bytes .entry)) (now (area .entry))) (p .stamp - 2) (p .change) (now (work .entry))) (λ T Q. scanStops T Q (p .context .flagged) (p .stamp - 2) (p .stamp) (x ∷ [])) (memory (now (work .entry)) (now (labels .entry)) (now (distances .entry)) h) (memory (now (work .exit)) (now (labels .exit)) (now (distances .exit)) r) (now (queue .entry)) (now (queue .exit)) ⌝ }
+    requires { ⌜ Going (p .context) (slices (now tables) (now «delay_rows») (now «stop_rows») (now built) (now patterns) (now transfers)) (p .stamp)
+        (memory (now work) (now labels) (now «label_distances») h) (now queue) ⌝
+        ∗ ⌜ x < p .context .counts .timetable .stops ⌝
+        ∗ ⌜ getD (now work) x 0 ≤ 108003224 ⌝
+        ∗ ⌜ p .change ≤ timeLimit ⌝ }
+    ensures { λ r. ⌜ Rode (p .context .lay) (p .stamp)
+        (Changing (p .context) (slices (now (tables .entry)) (now («delay_rows» .entry)) (now («stop_rows» .entry)) (now (built .entry))
+        (now (patterns .entry)) (now (transfers .entry))) (p .stamp - 2) (p .change) (now (work .entry)))
+        (λ T Q. scanStops T Q (p .context .flagged) (p .stamp - 2) (p .stamp) (x ∷ []))
+        (memory (now (work .entry)) (now (labels .entry)) (now («label_distances» .entry)) h)
+        (memory (now (work .exit)) (now (labels .exit)) (now («label_distances» .exit)) r) (now (queue .entry)) (now (queue .exit)) ⌝ }
 {
     let after = work[x] + p.change;
     if h.best <= after {
@@ -208,7 +237,7 @@ fn scan_stop(
     let has_freq = marked(p.context.counts, built, x);
     let margin = p.context.net.terms.margin;
     let from = less(after, margin);
-    let list = departures_from(t, p.context.counts, built, x, has_freq, from);
+    let list = departures_from(tables, p.context.counts, built, x, has_freq, from);
     let stop = x as u32;
     let at = StopScan {
         stop,
@@ -216,18 +245,18 @@ fn scan_stop(
         has_freq,
     };
     departure_scan::scan_departures(
-        t,
-        rows,
+        tables,
+        delay_rows,
         stop_rows,
         built,
-        bytes,
-        area,
+        patterns,
+        transfers,
         p,
         at,
         list,
         work,
         labels,
-        distances,
+        label_distances,
         queue,
         h,
     )
@@ -235,22 +264,30 @@ fn scan_stop(
 
 // The first `count` stops of lay.other, one by one, until a segment does not fit.
 fn scan_stops(
-    t: &[u32],
-    rows: &[u32],
+    tables: &[u32],
+    delay_rows: &[u32],
     stop_rows: &[u32],
     built: &[u32],
-    bytes: &[u8],
-    area: &[u32],
+    patterns: &[u8],
+    transfers: &[u32],
     p: Phase,
     count: usize,
     work: &mut [u32],
     labels: &mut [u32],
-    distances: &mut [f64],
+    label_distances: &mut [f64],
     queue: &mut [u32],
     h: Head,
 ) -> Head
-    requires { ⌜ Going (p .context) (slices (now t) (now rows) (now «stop_rows») (now built) (now bytes) (now area)) (p .stamp) (memory (now work) (now labels) (now distances) h) (now queue) ⌝ ∗ ⌜ Waiting (p .context .lay) (now work) count ⌝ ∗ ⌜ p .change ≤ timeLimit ⌝ }
-    ensures { λ r. ⌜ Rode (p .context .lay) (p .stamp) (Changing (p .context) (slices (now (t .entry)) (now (rows .entry)) (now («stop_rows» .entry)) (now (built .entry)) (now (bytes .entry)) (now (area .entry))) (p .stamp - 2) (p .change) (now (work .entry))) (λ T Q. scanStops T Q (p .context .flagged) (p .stamp - 2) (p .stamp) (part (now (work .entry)) (p .context .lay .other) count)) (memory (now (work .entry)) (now (labels .entry)) (now (distances .entry)) h) (memory (now (work .exit)) (now (labels .exit)) (now (distances .exit)) r) (now (queue .entry)) (now (queue .exit)) ⌝ }
+    requires { ⌜ Going (p .context) (slices (now tables) (now «delay_rows») (now «stop_rows») (now built) (now patterns) (now transfers)) (p .stamp)
+        (memory (now work) (now labels) (now «label_distances») h) (now queue) ⌝
+        ∗ ⌜ Waiting (p .context .lay) (now work) count ⌝
+        ∗ ⌜ p .change ≤ timeLimit ⌝ }
+    ensures { λ r. ⌜ Rode (p .context .lay) (p .stamp)
+        (Changing (p .context) (slices (now (tables .entry)) (now («delay_rows» .entry)) (now («stop_rows» .entry)) (now (built .entry))
+        (now (patterns .entry)) (now (transfers .entry))) (p .stamp - 2) (p .change) (now (work .entry)))
+        (λ T Q. scanStops T Q (p .context .flagged) (p .stamp - 2) (p .stamp) (part (now (work .entry)) (p .context .lay .other) count))
+        (memory (now (work .entry)) (now (labels .entry)) (now («label_distances» .entry)) h)
+        (memory (now (work .exit)) (now (labels .exit)) (now («label_distances» .exit)) r) (now (queue .entry)) (now (queue .exit)) ⌝ }
 {
     let mut g = h;
     let mut i: usize = 0;
@@ -258,17 +295,17 @@ fn scan_stops(
         let at = p.context.lay.other + i;
         let x = work[at] as usize;
         g = scan_stop(
-            t,
-            rows,
+            tables,
+            delay_rows,
             stop_rows,
             built,
-            bytes,
-            area,
+            patterns,
+            transfers,
             p,
             x,
             work,
             labels,
-            distances,
+            label_distances,
             queue,
             g,
         );
@@ -287,25 +324,32 @@ fn ridden(flagged: bool, queued: usize) -> usize
     if flagged { queued } else { 0 }
 }
 
-// THE RIDE PHASE of a round: the segments in `from` are ridden, then the departures of the first h.count stops of lay.other scanned; the stops reached
-// go to lay.list, the segments queued to `queue`.
+// THE RIDE PHASE of a round: the segments in `from` are ridden, then the departures of the first h.count stops of lay.other scanned; the stops
+// reached go to lay.list, the segments queued to `queue`.
 pub fn ride_phase(
-    t: &[u32],
-    rows: &[u32],
+    tables: &[u32],
+    delay_rows: &[u32],
     stop_rows: &[u32],
     built: &[u32],
-    bytes: &[u8],
-    area: &[u32],
+    patterns: &[u8],
+    transfers: &[u32],
     p: Phase,
     from: &[u32],
     work: &mut [u32],
     labels: &mut [u32],
-    distances: &mut [f64],
+    label_distances: &mut [f64],
     queue: &mut [u32],
     h: Head,
 ) -> Head
-    requires { ⌜ Laid (p .context) (slices (now t) (now rows) (now «stop_rows») (now built) (now bytes) (now area)) (now work) ⌝ ∗ ⌜ Opening (p .context .counts .timetable) (p .context .lay) (p .stamp) (p .change) (memory (now work) (now labels) (now distances) h) (now from) ⌝ }
-    ensures { λ x. ⌜ RidePhase (p .context .lay) (p .context .flagged) (p .stamp) (p .change) (Rides (p .context) (slices (now (t .entry)) (now (rows .entry)) (now («stop_rows» .entry)) (now (built .entry)) (now (bytes .entry)) (now (area .entry))) (now (work .entry))) (memory (now (work .entry)) (now (labels .entry)) (now (distances .entry)) h) (memory (now (work .exit)) (now (labels .exit)) (now (distances .exit)) x) (now (from .entry)) (now (queue .entry)) (now (queue .exit)) ⌝ }
+    requires { ⌜ Laid (p .context) (slices (now tables) (now «delay_rows») (now «stop_rows») (now built) (now patterns) (now transfers)) (now work) ⌝
+        ∗ ⌜ Opening (p .context .counts .timetable) (p .context .lay) (p .stamp) (p .change)
+        (memory (now work) (now labels) (now «label_distances») h) (now from) ⌝ }
+    ensures { λ x. ⌜ RidePhase (p .context .lay) (p .context .flagged) (p .stamp) (p .change)
+        (Rides (p .context) (slices (now (tables .entry)) (now («delay_rows» .entry)) (now («stop_rows» .entry)) (now (built .entry))
+        (now (patterns .entry)) (now (transfers .entry))) (now (work .entry)))
+        (memory (now (work .entry)) (now (labels .entry)) (now («label_distances» .entry)) h)
+        (memory (now (work .exit)) (now (labels .exit)) (now («label_distances» .exit)) x) (now (from .entry)) (now (queue .entry))
+        (now (queue .exit)) ⌝ }
 {
     let count = h.count;
     let m = ridden(p.context.flagged, h.queued);
@@ -316,18 +360,18 @@ pub fn ride_phase(
         full: false,
     };
     let x = ride_segments(
-        t,
-        rows,
+        tables,
+        delay_rows,
         stop_rows,
         built,
-        bytes,
-        area,
+        patterns,
+        transfers,
         p,
         m,
         from,
         work,
         labels,
-        distances,
+        label_distances,
         queue,
         g,
     );
@@ -335,17 +379,17 @@ pub fn ride_phase(
         return x;
     }
     scan_stops(
-        t,
-        rows,
+        tables,
+        delay_rows,
         stop_rows,
         built,
-        bytes,
-        area,
+        patterns,
+        transfers,
         p,
         count,
         work,
         labels,
-        distances,
+        label_distances,
         queue,
         x,
     )

@@ -49,7 +49,7 @@ takenBy T Q flagged round stamp x d (Board b) s =
     }
 
 -- ONE LISTED DEPARTURE of stop x, without the test whether it is too late
-abbrev pub taken : Tables → Query → Bool → ℕ → ℕ → ℕ → ℕ → DepartureRow → State → State
+abbrev pub taken : Tables → Query → (flagged : Bool) (round stamp x after : ℕ) (d : DepartureRow) (s : State) → State
 taken T Q flagged round stamp x after d s = takenBy T Q flagged round stamp x d (boarding T Q stamp after (delayOf Q (d .trip)) (d .trip) (d .offset) s) s
 
 -- the ride of a segment

@@ -30,22 +30,27 @@ fn change_before(r: u32, change: u32) -> u32
 fn round(
     ctx: Context,
     r: u32,
-    t: &[u32],
-    rows: &[u32],
+    tables: &[u32],
+    delay_rows: &[u32],
     stop_rows: &[u32],
     built: &[u32],
-    bytes: &[u8],
-    area: &[u32],
+    patterns: &[u8],
+    transfers: &[u32],
     distances: &[f64],
     from: &[u32],
     work: &mut [u32],
     labels: &mut [u32],
-    metres: &mut [f64],
+    label_distances: &mut [f64],
     to: &mut [u32],
     h: Head,
 ) -> Head
-    requires { ⌜ BeforeRound ctx (slices (now t) (now rows) (now «stop_rows») (now built) (now bytes) (now area)) (now distances) r (memory (now work) (now labels) (now metres) h) (now from) (length (now to)) ⌝ }
-    ensures { λ x. ⌜ Round ctx (slices (now (t .entry)) (now (rows .entry)) (now («stop_rows» .entry)) (now (built .entry)) (now (bytes .entry)) (now (area .entry))) (now (distances .entry)) r (memory (now (work .entry)) (now (labels .entry)) (now (metres .entry)) h) (memory (now (work .exit)) (now (labels .exit)) (now (metres .exit)) x) (now (from .entry)) (now (to .entry)) (now (to .exit)) ⌝ }
+    requires { ⌜ BeforeRound ctx (slices (now tables) (now «delay_rows») (now «stop_rows») (now built) (now patterns) (now transfers)) (now distances)
+        r (memory (now work) (now labels) (now «label_distances») h) (now from) (length (now to)) ⌝ }
+    ensures { λ x. ⌜ Round ctx (slices (now (tables .entry)) (now («delay_rows» .entry)) (now («stop_rows» .entry)) (now (built .entry))
+        (now (patterns .entry)) (now (transfers .entry))) (now (distances .entry)) r
+        (memory (now (work .entry)) (now (labels .entry)) (now («label_distances» .entry)) h)
+        (memory (now (work .exit)) (now (labels .exit)) (now («label_distances» .exit)) x) (now (from .entry)) (now (to .entry))
+        (now (to .exit)) ⌝ }
 {
     let stamp = r + 2;
     let change = change_before(r, ctx.change);
@@ -55,62 +60,79 @@ fn round(
         change,
     };
     let g = ride_phase::ride_phase(
-        t,
-        rows,
+        tables,
+        delay_rows,
         stop_rows,
         built,
-        bytes,
-        area,
+        patterns,
+        transfers,
         p,
         from,
         work,
         labels,
-        metres,
+        label_distances,
         to,
         h,
     );
     if g.full {
         return g;
     }
-    walk_phase::walk_phase(ctx, stamp, t, distances, bytes, work, labels, metres, g)
+    walk_phase::walk_phase(
+        ctx,
+        stamp,
+        tables,
+        distances,
+        patterns,
+        work,
+        labels,
+        label_distances,
+        g,
+    )
 }
 
 // The same with the halves of the queue in turn: an even round reads the first and fills the second.
 fn turn(
     ctx: Context,
     at: Turn,
-    t: &[u32],
-    rows: &[u32],
+    tables: &[u32],
+    delay_rows: &[u32],
     stop_rows: &[u32],
     built: &[u32],
-    bytes: &[u8],
-    area: &[u32],
+    patterns: &[u8],
+    transfers: &[u32],
     distances: &[f64],
     work: &mut [u32],
     labels: &mut [u32],
-    metres: &mut [f64],
+    label_distances: &mut [f64],
     queue_a: &mut [u32],
     queue_b: &mut [u32],
     h: Head,
 ) -> Head
-    requires { ⌜ BeforeRound ctx (slices (now t) (now rows) (now «stop_rows») (now built) (now bytes) (now area)) (now distances) (at .round) (memory (now work) (now labels) (now metres) h) (read (at .even) (now «queue_a») (now «queue_b»)) (length (filled (at .even) (now «queue_a») (now «queue_b»))) ⌝ }
-    ensures { λ x. ⌜ Round ctx (slices (now (t .entry)) (now (rows .entry)) (now («stop_rows» .entry)) (now (built .entry)) (now (bytes .entry)) (now (area .entry))) (now (distances .entry)) (at .round) (memory (now (work .entry)) (now (labels .entry)) (now (metres .entry)) h) (memory (now (work .exit)) (now (labels .exit)) (now (metres .exit)) x) (read (at .even) (now («queue_a» .entry)) (now («queue_b» .entry))) (filled (at .even) (now («queue_a» .entry)) (now («queue_b» .entry))) (filled (at .even) (now («queue_a» .exit)) (now («queue_b» .exit))) ⌝ }
+    requires { ⌜ BeforeRound ctx (slices (now tables) (now «delay_rows») (now «stop_rows») (now built) (now patterns) (now transfers)) (now distances)
+        (at .round) (memory (now work) (now labels) (now «label_distances») h) (read (at .even) (now «queue_a») (now «queue_b»))
+        (length (filled (at .even) (now «queue_a») (now «queue_b»))) ⌝ }
+    ensures { λ x. ⌜ Round ctx (slices (now (tables .entry)) (now («delay_rows» .entry)) (now («stop_rows» .entry)) (now (built .entry))
+        (now (patterns .entry)) (now (transfers .entry))) (now (distances .entry)) (at .round)
+        (memory (now (work .entry)) (now (labels .entry)) (now («label_distances» .entry)) h)
+        (memory (now (work .exit)) (now (labels .exit)) (now («label_distances» .exit)) x)
+        (read (at .even) (now («queue_a» .entry)) (now («queue_b» .entry))) (filled (at .even) (now («queue_a» .entry)) (now («queue_b» .entry)))
+        (filled (at .even) (now («queue_a» .exit)) (now («queue_b» .exit))) ⌝ }
 {
     if at.even {
         return round(
             ctx,
             at.round,
-            t,
-            rows,
+            tables,
+            delay_rows,
             stop_rows,
             built,
-            bytes,
-            area,
+            patterns,
+            transfers,
             distances,
             queue_a,
             work,
             labels,
-            metres,
+            label_distances,
             queue_b,
             h,
         );
@@ -118,17 +140,17 @@ fn turn(
     round(
         ctx,
         at.round,
-        t,
-        rows,
+        tables,
+        delay_rows,
         stop_rows,
         built,
-        bytes,
-        area,
+        patterns,
+        transfers,
         distances,
         queue_b,
         work,
         labels,
-        metres,
+        label_distances,
         queue_a,
         h,
     )
@@ -160,25 +182,28 @@ fn ends(flagged: bool, h: Head) -> bool
 // THE ROUNDS of a query.
 pub fn rounds(
     ctx: Context,
-    t: &[u32],
+    tables: &[u32],
     built: &[u32],
     transfers: &[u32],
     patterns: &[u8],
     distances: &[f64],
-    q: &[u32],
+    query: &[u32],
     work: &mut [u32],
     labels: &mut [u32],
-    metres: &mut [f64],
+    label_distances: &mut [f64],
     queue_a: &mut [u32],
     queue_b: &mut [u32],
     h: Head,
 ) -> Head
-    requires { ⌜ Started (lent (ctx .counts) (now t) (now built) (now transfers) (now patterns) (now distances) (now q)) ctx (memory (now work) (now labels) (now metres) h) (length (now «queue_a»)) (length (now «queue_b»)) ⌝ }
-    ensures { λ x. ⌜ Ended (lent (ctx .counts) (now (t .entry)) (now (built .entry)) (now (transfers .entry)) (now (patterns .entry)) (now (distances .entry)) (now (q .entry))) (ctx .flagged) (length (now («queue_a» .entry)) / 4) (ctx .lay) (memory (now (work .exit)) (now (labels .exit)) (now (metres .exit)) x) ⌝ }
+    requires { ⌜ Started (lent (ctx .counts) (now tables) (now built) (now transfers) (now patterns) (now distances) (now query)) ctx
+        (memory (now work) (now labels) (now «label_distances») h) (length (now «queue_a»)) (length (now «queue_b»)) ⌝ }
+    ensures { λ x. ⌜ Ended (lent (ctx .counts) (now (tables .entry)) (now (built .entry)) (now (transfers .entry)) (now (patterns .entry))
+        (now (distances .entry)) (now (query .entry))) (ctx .flagged) (length (now («queue_a» .entry)) / 4) (ctx .lay)
+        (memory (now (work .exit)) (now (labels .exit)) (now («label_distances» .exit)) x) ⌝ }
 {
-    let rows = query_input::delay_rows(q, ctx.counts);
-    let stop_rows = query_input::stop_rows(q, ctx.counts);
-    let limit = walk_time::tbr_max_rounds(q[2], q[3]);
+    let delay_rows = query_input::delay_rows(query, ctx.counts);
+    let stop_rows = query_input::stop_rows(query, ctx.counts);
+    let limit = walk_time::tbr_max_rounds(query[2], query[3]);
     let mut g = h;
     let mut even = true;
     let mut r: u32 = 0;
@@ -190,8 +215,8 @@ pub fn rounds(
         g = turn(
             ctx,
             at,
-            t,
-            rows,
+            tables,
+            delay_rows,
             stop_rows,
             built,
             patterns,
@@ -199,7 +224,7 @@ pub fn rounds(
             distances,
             work,
             labels,
-            metres,
+            label_distances,
             queue_a,
             queue_b,
             g,

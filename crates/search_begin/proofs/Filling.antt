@@ -21,11 +21,8 @@ use Rattle.query_types.specs.Layout.{restAt}
 use Rattle.search_state.specs.View.{memory, Written, labelsOf, queueOf}
 use Rattle.words.specs.Filled.{Filled}
 use Rattle.search_begin.specs.Fill.{newHead, Fresh, egressRowFrom, egressOf, EgressRows, Egressed}
-use Rattle.words.proofs.Filling.{same-or, all-same}
+use Rattle.words.proofs.Filling.{same-or}
 use Rattle.search_state.proofs.Part.{tab-one, part-same}
-
-pub filled-all : (v : ℕ) (w w′ : List ℕ) → Filled 0 (length w) v w w′ → w′ ≡ replicate (length w) v
-filled-all v w w′ f = all-same w′ (length w) v 0 (f .size) (λ k h. f .inside k (omega arith) h)
 
 -- zeros are empty labels
 no-label : (l : List ℕ) (m : List Float) (k : ℕ) → getD l (8 * k) 0 ≡ 0 → loaded l m k ≡ Empty

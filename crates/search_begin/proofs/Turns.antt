@@ -1,6 +1,6 @@
 -- From one phase of a query to the next: a new state with its egress table, the lists exchanged, a list emptied. Assumes nothing.
-use Prim.Native.Nat.{ℕ, _+_, _*_, _-_, _≤_, _<_}
-use mathlib.Core.Path.{_≡_, refl, sym, ap, _∙_}
+use Prim.Native.Nat.{ℕ, _+_, _*_, _≤_, _<_}
+use mathlib.Core.Path.{_≡_, refl, sym, _∙_}
 use mathlib.Core.Logic.{_⊎_, inl, inr}
 use mathlib.Core.List.{List}
 use native.Mathlib.Omega.{arith}
@@ -8,15 +8,13 @@ use lib.ListN.{length, getD}
 use lib.Ieee.{Float}
 use Rattle.loops.proofs.Count.{tab-is}
 use Rattle.model.specs.Tables.{Tables, Query}
-use Rattle.model.specs.Search.{at, emptied}
+use Rattle.model.specs.Search.{emptied}
 use Rattle.query_types.specs.declared.Lay.{Lay}
 use Rattle.query_types.specs.declared.Head.{Head}
 use Rattle.search_state.specs.Part.{part}
-use Rattle.search_state.specs.Places.{WorkSized, Sized, Same, Walks, turned}
+use Rattle.search_state.specs.Places.{WorkSized, Sized, turned}
 use Rattle.query_types.specs.Layout.{restAt}
-use Rattle.search_state.specs.View.{memory, Written, arrivalsOf, queueOf}
-use Rattle.search_state.specs.Step.{Ready, Starting, Stamp}
-use Rattle.search_begin.specs.Fill.{Egressed}
+use Rattle.search_state.specs.View.{memory, arrivalsOf, queueOf}
 use Rattle.search_state.proofs.Part.{part-at, part-length}
 
 -- two sections with the same numbers
@@ -24,16 +22,6 @@ pub part-same-at : (w w′ : List ℕ) (a n : ℕ) → length w′ ≡ length w 
 part-same-at w w′ a n e r h =
     tab-is (λ k. getD w (a + k) 0) n (part w′ a n) (part-length w′ a n (omega (arith, e, r))) (λ k u. part-at w′ a n k u ∙ h (a + k) (omega arith) (omega (arith, u)))
     ∙ sym (tab-is (λ k. getD w (a + k) 0) n (part w a n) (part-length w a n r) (λ k u. part-at w a n k u))
-
--- the first numbers of the other list are as they came
-pub other-kept : {lay : Lay} {w w′ : List ℕ} → WorkSized lay (length w) → Same lay w w′ → (n : ℕ) → n ≤ lay .stops + 64 → part w′ (lay .other) n ≡ part w (lay .other) n
-other-kept {lay} {w} {w′} ok p n h =
-    part-same-at w w′ (lay .other) n (p .size) (omega (arith, ok .words, ok .other-fits, h))
-    (λ i l u.
-    let e : lay .other + (i - lay .other) ≡ i = omega arith in
-    rw e at (sym (part-at w′ (lay .other) (lay .stops + 64) (i - lay .other) (omega (arith, u, h)))
-    ∙ ap (λ (x : List ℕ). getD x (i - lay .other) 0) (p .list)
-    ∙ part-at w (lay .other) (lay .stops + 64) (i - lay .other) (omega (arith, u, h))))
 
 -- what stands below `restAt` as it came holds the same state
 pub below-view : (lay : Lay) (w w′ l : List ℕ) (m : List Float) (h : Head) (q : List ℕ) → WorkSized lay (length w) → h .count ≤ lay .stops + 64 → length w′ ≡ length w
@@ -50,16 +38,6 @@ below-view lay w w′ l m h q ok few size below =
       segQueue = arrivalsOf lay (memory w l m h) q .segQueue;
       segReach = low (lay .stops * 2) (lay .trips) (omega arith) i;
     }
-
--- the egress table filled changes nothing of the state
-pub egressed-view : (lay : Lay) (es : List (ℕ × ℕ)) (w w′ l : List ℕ) (m : List Float) (h : Head) (q : List ℕ) → WorkSized lay (length w)
-    → h .count ≤ lay .stops + 64 → Egressed es lay w w′ → arrivalsOf lay (memory w′ l m h) q ≡ arrivalsOf lay (memory w l m h) q
-egressed-view lay es w w′ l m h q ok few p = below-view lay w w′ l m h q ok few (p .size) (p .below)
-
--- so the first origin may be gone through
-pub egressed-starting : (lay : Lay) (es : List (ℕ × ℕ)) (w w′ l : List ℕ) (m : List Float) (h : Head) → Sized lay (length w) (length l) (length m) → h .count ≡ 0
-    → Egressed es lay w w′ → Written (lay .stops * 13) l m → Starting lay (memory w′ l m h)
-egressed-starting lay es w w′ l m h ok e p r = record { sized = rw (p .size) ok; walks = p .walks; room = omega (arith, e); written = r }
 
 -- THE LISTS EXCHANGED, the new one empty: the model's state with no stop reached
 pub turned-sections : {lay : Lay} {a : ℕ} → WorkSized lay a → WorkSized (turned lay) a
@@ -92,31 +70,3 @@ pub turned-view : (T : Tables) (Q : Query) (lay : Lay) (w l : List ℕ) (m : Lis
     → arrivalsOf (turned lay) (memory w l m (emptiedHead n h)) q′ ≡ emptied T Q (queueOf q′ n) (arrivalsOf lay (memory w l m h) q)
 unfolding part
 turned-view T Q lay w l m h q q′ n = refl
-
-pub turned-ready : (lay : Lay) (stamp : ℕ) (w l : List ℕ) (m : List Float) (h : Head) (n : ℕ) → Sized lay (length w) (length l) (length m) → Walks lay w → Stamp stamp
-    → Written (lay .stops * 13) l m → Ready (turned lay) stamp (memory w l m (emptiedHead n h))
-turned-ready lay stamp w l m h n ok g s r =
-    record { sized = turned-sized ok; walks = record { small = g .small }; counted = record { fits = omega arith }; round = s; written = r }
-
--- two stops, a trip, a line: the sections as they lie
-pub small : Lay
-small = record { stops = 2; trips = 1; lines = 1; list = 5; other = 71 }
-
-pub small-sized : Sized small 149 208 26
-unfolding small
-small-sized =
-    record {
-      sections = record {
-        stops = omega arith;
-        trips = omega arith;
-        lines = omega arith;
-        words = refl;
-        first = omega arith;
-        fits = omega arith;
-        other-first = omega arith;
-        other-fits = omega arith;
-        apart = inl (omega arith);
-      };
-      rows = refl;
-      metres = refl;
-    }

@@ -1,7 +1,7 @@
 // search_begin: how a query begins: a new state, the egress table, positions, FIFO flags and events laid out in the working numbers, and the origins.
 // Place: the search.
-// Specs (inner): slices filled (Fill); what the rounds read and the state before the first of them (Begin); a section filled, the origins gone through
-// (Laying).
+// Specs (inner): slices filled (Fill); what the rounds read and the state before the first of them (Begin); a section filled, the origins gone
+// through (Laying).
 // Proves: after `begin` memory holds the model's `begin` of the tables and the query that the lent slices say, and all that the rounds read.
 // proofs/Turns: from one phase to the next.
 // Assumes nothing.
@@ -33,20 +33,23 @@ use query_types::QueryCounts;
 use query_types::Terms;
 
 // Labels, their distances and the working numbers become 0.
-fn zero_all(work: &mut [u32], labels: &mut [u32], distances: &mut [f64])
-    ensures { λ _. ⌜ now (work .exit) ≡ replicate (length (now (work .entry))) 0 ⌝ ∗ ⌜ now (labels .exit) ≡ replicate (length (now (labels .entry))) 0 ⌝ ∗ ⌜ now (distances .exit) ≡ replicate (length (now (distances .entry))) noDistance ⌝ }
+fn zero_all(work: &mut [u32], labels: &mut [u32], label_distances: &mut [f64])
+    ensures { λ _. ⌜ now (work .exit) ≡ replicate (length (now (work .entry))) 0 ⌝
+        ∗ ⌜ now (labels .exit) ≡ replicate (length (now (labels .entry))) 0 ⌝
+        ∗ ⌜ now («label_distances» .exit) ≡ replicate (length (now («label_distances» .entry))) noDistance ⌝ }
 {
     words::clear_words(work);
     words::clear_words(labels);
-    label::zero_distances(distances);
+    label::zero_distances(label_distances);
 }
 
 // A new query's state.
-fn reset(lay: Lay, work: &mut [u32], labels: &mut [u32], distances: &mut [f64]) -> Head
-    requires { ⌜ Sized lay (length (now work)) (length (now labels)) (length (now distances)) ⌝ }
-    ensures { λ x. ⌜ Fresh lay (memory (now (work .exit)) (now (labels .exit)) (now (distances .exit)) x) ⌝ ∗ ⌜ now (distances .exit) ≡ replicate (length (now (distances .entry))) noDistance ⌝ }
+fn reset(lay: Lay, work: &mut [u32], labels: &mut [u32], label_distances: &mut [f64]) -> Head
+    requires { ⌜ Sized lay (length (now work)) (length (now labels)) (length (now «label_distances»)) ⌝ }
+    ensures { λ x. ⌜ Fresh lay (memory (now (work .exit)) (now (labels .exit)) (now («label_distances» .exit)) x) ⌝
+        ∗ ⌜ now («label_distances» .exit) ≡ replicate (length (now («label_distances» .entry))) noDistance ⌝ }
 {
-    zero_all(work, labels, distances);
+    zero_all(work, labels, label_distances);
     let reach = lay.stops * 2;
     words::fill(work, 0, lay.stops, 4294967295);
     words::fill(work, reach, reach + lay.trips, 4294967295);
@@ -59,35 +62,39 @@ fn reset(lay: Lay, work: &mut [u32], labels: &mut [u32], distances: &mut [f64]) 
 }
 
 // One egress stop of the query, its row at `at`, into the egress table.
-fn put_egress(lay: Lay, q: &[u32], at: usize, work: &mut [u32])
-    requires { ⌜ WorkSized lay (length (now work)) ⌝ ∗ ⌜ at + 1 < length (now q) ⌝ ∗ ⌜ getD (now q) at 0 < lay .stops ⌝ ∗ ⌜ getD (now q) (at + 1) 0 ≤ 1048575 ⌝ }
-    ensures { λ _. ⌜ now (work .exit) ≡ set (now (work .entry)) (restAt lay + getD (now (q .entry)) at 0) (getD (now (q .entry)) (at + 1) 0 + 1) ⌝ }
+fn put_egress(lay: Lay, query: &[u32], at: usize, work: &mut [u32])
+    requires { ⌜ WorkSized lay (length (now work)) ⌝
+        ∗ ⌜ at + 1 < length (now query) ⌝
+        ∗ ⌜ getD (now query) at 0 < lay .stops ⌝
+        ∗ ⌜ getD (now query) (at + 1) 0 ≤ 1048575 ⌝ }
+    ensures { λ _. ⌜ now (work .exit) ≡ set (now (work .entry)) (restAt lay + getD (now (query .entry)) at 0)
+        (getD (now (query .entry)) (at + 1) 0 + 1) ⌝ }
 {
-    let i = lay.stops * 4 + lay.trips + 128 + words::field(q, at);
-    let d = q[at + 1];
+    let i = lay.stops * 4 + lay.trips + 128 + words::field(query, at);
+    let d = query[at + 1];
     work[i] = d + 1;
 }
 
 // All of them, into an empty egress table, the last row first.
-fn put_egresses(lay: Lay, q: &[u32], first: usize, n: usize, work: &mut [u32])
-    requires { ⌜ WorkSized lay (length (now work)) ⌝ ∗ ⌜ EgressRows lay (now q) first n ⌝ ∗ ⌜ Egressed [] lay (now work) (now work) ⌝ }
-    ensures { λ _. ⌜ Egressed (egressOf (now (q .entry)) first n) lay (now (work .entry)) (now (work .exit)) ⌝ }
+fn put_egresses(lay: Lay, query: &[u32], first: usize, n: usize, work: &mut [u32])
+    requires { ⌜ WorkSized lay (length (now work)) ⌝ ∗ ⌜ EgressRows lay (now query) first n ⌝ ∗ ⌜ Egressed [] lay (now work) (now work) ⌝ }
+    ensures { λ _. ⌜ Egressed (egressOf (now (query .entry)) first n) lay (now (work .entry)) (now (work .exit)) ⌝ }
 {
     let mut k = n;
     while 0 < k {
         k -= 1;
-        put_egress(lay, q, first + 2 * k, work);
+        put_egress(lay, query, first + 2 * k, work);
     }
 }
 
 // The egress table: 0 for no egress stop, else its walk + 1.
-fn fill_egress(lay: Lay, q: &[u32], first: usize, n: usize, work: &mut [u32])
-    requires { ⌜ WorkSized lay (length (now work)) ⌝ ∗ ⌜ EgressRows lay (now q) first n ⌝ }
-    ensures { λ _. ⌜ Egressed (egressOf (now (q .entry)) first n) lay (now (work .entry)) (now (work .exit)) ⌝ }
+fn fill_egress(lay: Lay, query: &[u32], first: usize, n: usize, work: &mut [u32])
+    requires { ⌜ WorkSized lay (length (now work)) ⌝ ∗ ⌜ EgressRows lay (now query) first n ⌝ }
+    ensures { λ _. ⌜ Egressed (egressOf (now (query .entry)) first n) lay (now (work .entry)) (now (work .exit)) ⌝ }
 {
     let rest = lay.stops * 4 + lay.trips + 128;
     words::clear_part(work, rest, rest + lay.stops);
-    put_egresses(lay, q, first, n, work);
+    put_egresses(lay, query, first, n, work);
 }
 
 // The cap of the delay margin, and how many trips of a line are tried for a transfer.
@@ -123,19 +130,26 @@ fn turn(lay: Lay) -> Lay
 }
 
 // Where the tables stand, and what they are asked.
-pub fn net_of(n: QueryCounts, t: &[u32], built: &[u32], distances: &[f64], q: &[u32]) -> Net
-    requires { ⌜ Askable n (now t) (now built) (now distances) (now q) ⌝ }
-    ensures { λ r. ⌜ ((x : Lent) (l : Lengths) → Admitted x l → Lends x n (now (t .entry)) (now (built .entry)) (now (distances .entry)) (now (q .entry)) → r ≡ netOf x) ⌝ }
+pub fn net_of(
+    n: QueryCounts,
+    tables: &[u32],
+    built: &[u32],
+    distances: &[f64],
+    query: &[u32],
+) -> Net
+    requires { ⌜ Askable n (now tables) (now built) (now distances) (now query) ⌝ }
+    ensures { λ r. ⌜ ((x : Lent) (l : Lengths) → Admitted x l → Lends x n (now (tables .entry)) (now (built .entry)) (now (distances .entry))
+        (now (query .entry)) → r ≡ netOf x) ⌝ }
 {
     let c = n.timetable;
-    let rows = query_input::delay_rows(q, n);
-    let stop_rows = query_input::stop_rows(q, n);
+    let rows = query_input::delay_rows(query, n);
+    let stop_rows = query_input::stop_rows(query, n);
     let margin = delay_lookup::rt_margin(rows, stop_rows, MARGIN_CAP);
-    let egress = query_input::egress_rows(q, n);
-    let target = arc_flags::target_cells(t, c, n.cells as u32, egress);
+    let egress = query_input::egress_rows(query, n);
+    let target = arc_flags::target_cells(tables, c, n.cells as u32, egress);
     let terms = Terms {
-        modes: q[4],
-        wheelchair: q[5] == 1,
+        modes: query[4],
+        wheelchair: query[5] == 1,
         margin,
         line_scan: LINE_SCAN,
     };
@@ -153,7 +167,9 @@ pub fn net_of(n: QueryCounts, t: &[u32], built: &[u32], distances: &[f64], q: &[
 // Each trip's position in its line.
 fn put_positions(n: QueryCounts, built: &[u32], lay: Lay, work: &mut [u32])
     requires { ⌜ LinesIn n (now built) ⌝ ∗ ⌜ lay ≡ layOf n ⌝ ∗ ⌜ WorkSized lay (length (now work)) ⌝ }
-    ensures { λ _. ⌜ Put (positionsAt lay) (lay .trips) (positionIn (lineTripsIn (lineRuns (now (built .entry)) n) (lineEntries (now (built .entry)) n)) (n .lines)) (now (work .entry)) (now (work .exit)) ⌝ }
+    ensures { λ _. ⌜ Put (positionsAt lay) (lay .trips)
+        (positionIn (lineTripsIn (lineRuns (now (built .entry)) n) (lineEntries (now (built .entry)) n)) (n .lines)) (now (work .entry))
+        (now (work .exit)) ⌝ }
 {
     let a = lay.stops * 5 + lay.trips + 128;
     let b = a + lay.trips;
@@ -163,21 +179,24 @@ fn put_positions(n: QueryCounts, built: &[u32], lay: Lay, work: &mut [u32])
 }
 
 // Each line's FIFO flag.
-fn put_fifo(n: QueryCounts, t: &[u32], built: &[u32], lay: Lay, work: &mut [u32])
-    requires { ⌜ LinesIn n (now built) ⌝ ∗ ⌜ Sane (now t) (n .timetable) ⌝ ∗ ⌜ lay ≡ layOf n ⌝ ∗ ⌜ WorkSized lay (length (now work)) ⌝ }
-    ensures { λ _. ⌜ Put (fifoAt lay) (lay .lines) (fifoOf (timetable (now (t .entry)) (n .timetable)) (lineRuns (now (built .entry)) n) (lineEntries (now (built .entry)) n)) (now (work .entry)) (now (work .exit)) ⌝ }
+fn put_fifo(n: QueryCounts, tables: &[u32], built: &[u32], lay: Lay, work: &mut [u32])
+    requires { ⌜ LinesIn n (now built) ⌝ ∗ ⌜ Sane (now tables) (n .timetable) ⌝ ∗ ⌜ lay ≡ layOf n ⌝ ∗ ⌜ WorkSized lay (length (now work)) ⌝ }
+    ensures { λ _. ⌜ Put (fifoAt lay) (lay .lines)
+        (fifoOf (timetable (now (tables .entry)) (n .timetable)) (lineRuns (now (built .entry)) n) (lineEntries (now (built .entry)) n))
+        (now (work .entry)) (now (work .exit)) ⌝ }
 {
     let a = lay.stops * 5 + lay.trips * 2 + 128;
     let b = a + lay.lines;
     let runs = query_input::line_runs(built, n);
     let entries = query_input::line_entries(built, n);
-    line_layout::line_fifo(t, n.timetable, n.lines, runs, entries, &mut work[a..b]);
+    line_layout::line_fifo(tables, n.timetable, n.lines, runs, entries, &mut work[a..b]);
 }
 
 // How many stop times the trips before each trip have.
-fn put_events(n: QueryCounts, t: &[u32], lay: Lay, work: &mut [u32])
-    requires { ⌜ Sane (now t) (n .timetable) ⌝ ∗ ⌜ lay ≡ layOf n ⌝ ∗ ⌜ WorkSized lay (length (now work)) ⌝ }
-    ensures { λ _. ⌜ Put (eventsAt lay) (lay .trips) (eventsBefore (timetable (now (t .entry)) (n .timetable))) (now (work .entry)) (now (work .exit)) ⌝ }
+fn put_events(n: QueryCounts, tables: &[u32], lay: Lay, work: &mut [u32])
+    requires { ⌜ Sane (now tables) (n .timetable) ⌝ ∗ ⌜ lay ≡ layOf n ⌝ ∗ ⌜ WorkSized lay (length (now work)) ⌝ }
+    ensures { λ _. ⌜ Put (eventsAt lay) (lay .trips) (eventsBefore (timetable (now (tables .entry)) (n .timetable))) (now (work .entry))
+        (now (work .exit)) ⌝ }
 {
     let c = n.timetable;
     let a = lay.stops * 5 + lay.trips * 2 + lay.lines + 128;
@@ -186,47 +205,53 @@ fn put_events(n: QueryCounts, t: &[u32], lay: Lay, work: &mut [u32])
     let mut i: usize = 0;
     while i < trips {
         work[a + i] = before as u32;
-        before += tables::trip(t, c, i, 1);
+        before += tables::trip(tables, c, i, 1);
         i += 1;
     }
 }
 
 // All that the rounds read of the working numbers.
-fn set_up(n: QueryCounts, t: &[u32], built: &[u32], q: &[u32], lay: Lay, work: &mut [u32])
-    requires { ⌜ Layable n (now t) (now built) (now q) ⌝ ∗ ⌜ lay ≡ layOf n ⌝ ∗ ⌜ WorkSized lay (length (now work)) ⌝ }
-    ensures { λ _. ⌜ LaidOut (lent n (now (t .entry)) (now (built .entry)) [] [] [] (now (q .entry))) lay (now (work .entry)) (now (work .exit)) ⌝ }
+fn set_up(n: QueryCounts, tables: &[u32], built: &[u32], query: &[u32], lay: Lay, work: &mut [u32])
+    requires { ⌜ Layable n (now tables) (now built) (now query) ⌝ ∗ ⌜ lay ≡ layOf n ⌝ ∗ ⌜ WorkSized lay (length (now work)) ⌝ }
+    ensures { λ _. ⌜ LaidOut (lent n (now (tables .entry)) (now (built .entry)) [] [] [] (now (query .entry))) lay (now (work .entry))
+        (now (work .exit)) ⌝ }
 {
-    fill_egress(lay, q, 7 + n.origins * 2, n.egress, work);
+    fill_egress(lay, query, 7 + n.origins * 2, n.egress, work);
     put_positions(n, built, lay, work);
-    put_fifo(n, t, built, lay, work);
-    put_events(n, t, lay, work);
+    put_fifo(n, tables, built, lay, work);
+    put_events(n, tables, lay, work);
 }
 
 // Origin k.
 fn set_out_at(
     n: QueryCounts,
     distances: &[f64],
-    q: &[u32],
+    query: &[u32],
     lay: Lay,
     k: usize,
     work: &mut [u32],
     labels: &mut [u32],
-    metres: &mut [f64],
+    label_distances: &mut [f64],
     h: Head,
 ) -> Head
-    requires { ⌜ Origins n (lay .stops) (now q) (length (now distances)) ⌝ ∗ ⌜ k < n .origins ⌝ ∗ ⌜ Starting lay (memory (now work) (now labels) (now metres) h) ⌝ }
-    ensures { λ x. ⌜ StartStep lay (λ T Q. EgressTable (Q .egress) lay (now (work .entry)) × (Q .start ≡ getD (now (q .entry)) 0 0)) (λ T Q. setOut T Q (originAt (now (q .entry)) (now (distances .entry)) n k)) (memory (now (work .entry)) (now (labels .entry)) (now (metres .entry)) h) (memory (now (work .exit)) (now (labels .exit)) (now (metres .exit)) x) ⌝ }
+    requires { ⌜ Origins n (lay .stops) (now query) (length (now distances)) ⌝
+        ∗ ⌜ k < n .origins ⌝
+        ∗ ⌜ Starting lay (memory (now work) (now labels) (now «label_distances») h) ⌝ }
+    ensures { λ x. ⌜ StartStep lay (λ T Q. EgressTable (Q .egress) lay (now (work .entry)) × (Q .start ≡ getD (now (query .entry)) 0 0))
+        (λ T Q. setOut T Q (originAt (now (query .entry)) (now (distances .entry)) n k))
+        (memory (now (work .entry)) (now (labels .entry)) (now («label_distances» .entry)) h)
+        (memory (now (work .exit)) (now (labels .exit)) (now («label_distances» .exit)) x) ⌝ }
 {
     let at = n.timetable.edges + k;
     search_state::set_out(
         lay,
-        q[0],
-        q[7 + k * 2],
-        q[7 + 1 + k * 2],
+        query[0],
+        query[7 + k * 2],
+        query[7 + 1 + k * 2],
         distances[at],
         work,
         labels,
-        metres,
+        label_distances,
         h,
     )
 }
@@ -235,21 +260,35 @@ fn set_out_at(
 fn access(
     n: QueryCounts,
     distances: &[f64],
-    q: &[u32],
+    query: &[u32],
     lay: Lay,
     work: &mut [u32],
     labels: &mut [u32],
-    metres: &mut [f64],
+    label_distances: &mut [f64],
     h: Head,
 ) -> Head
-    requires { ⌜ Origins n (lay .stops) (now q) (length (now distances)) ⌝ ∗ ⌜ h .count ≡ 0 ⌝ ∗ ⌜ Starting lay (memory (now work) (now labels) (now metres) h) ⌝ }
-    ensures { λ x. ⌜ Accessed n (now (q .entry)) (now (distances .entry)) lay (memory (now (work .entry)) (now (labels .entry)) (now (metres .entry)) h) (memory (now (work .exit)) (now (labels .exit)) (now (metres .exit)) x) ⌝ }
+    requires { ⌜ Origins n (lay .stops) (now query) (length (now distances)) ⌝
+        ∗ ⌜ h .count ≡ 0 ⌝
+        ∗ ⌜ Starting lay (memory (now work) (now labels) (now «label_distances») h) ⌝ }
+    ensures { λ x. ⌜ Accessed n (now (query .entry)) (now (distances .entry)) lay
+        (memory (now (work .entry)) (now (labels .entry)) (now («label_distances» .entry)) h)
+        (memory (now (work .exit)) (now (labels .exit)) (now («label_distances» .exit)) x) ⌝ }
 {
     let end = n.origins;
     let mut x = h;
     let mut k: usize = 0;
     while k < end {
-        x = set_out_at(n, distances, q, lay, k, work, labels, metres, x);
+        x = set_out_at(
+            n,
+            distances,
+            query,
+            lay,
+            k,
+            work,
+            labels,
+            label_distances,
+            x,
+        );
         k += 1;
     }
     x
@@ -258,19 +297,32 @@ fn access(
 // The state before the first round.
 pub fn begin(
     n: QueryCounts,
-    t: &[u32],
+    tables: &[u32],
     built: &[u32],
     distances: &[f64],
-    q: &[u32],
+    query: &[u32],
     lay: Lay,
     work: &mut [u32],
     labels: &mut [u32],
-    metres: &mut [f64],
+    label_distances: &mut [f64],
 ) -> Head
-    requires { ⌜ Askable n (now t) (now built) (now distances) (now q) ⌝ ∗ ⌜ lay ≡ layOf n ⌝ ∗ ⌜ Sized lay (length (now work)) (length (now labels)) (length (now metres)) ⌝ }
-    ensures { λ h. ⌜ ((x : Lent) (l : Lengths) → Admitted x l → Lends x n (now (t .entry)) (now (built .entry)) (now (distances .entry)) (now (q .entry)) → (flagged : Bool) → Begun x (contextOf x (netOf x) lay flagged) (memory (now (work .exit)) (now (labels .exit)) (now (metres .exit)) h)) ⌝ }
+    requires { ⌜ Askable n (now tables) (now built) (now distances) (now query) ⌝
+        ∗ ⌜ lay ≡ layOf n ⌝
+        ∗ ⌜ Sized lay (length (now work)) (length (now labels)) (length (now «label_distances»)) ⌝ }
+    ensures { λ h. ⌜ ((x : Lent) (l : Lengths) → Admitted x l → Lends x n (now (tables .entry)) (now (built .entry)) (now (distances .entry))
+        (now (query .entry)) → (flagged : Bool) → Begun x (contextOf x (netOf x) lay flagged)
+        (memory (now (work .exit)) (now (labels .exit)) (now («label_distances» .exit)) h)) ⌝ }
 {
-    let h = reset(lay, work, labels, metres);
-    set_up(n, t, built, q, lay, work);
-    access(n, distances, q, turn(lay), work, labels, metres, h)
+    let h = reset(lay, work, labels, label_distances);
+    set_up(n, tables, built, query, lay, work);
+    access(
+        n,
+        distances,
+        query,
+        turn(lay),
+        work,
+        labels,
+        label_distances,
+        h,
+    )
 }

@@ -156,21 +156,6 @@ queue-then {lay} {stamp} {agree} {agree′} both {f} {g} {a} {b} {c} {q} {r} {s}
       room = z .room;
     }
 
--- where one did not fit, what follows queues no fewer
-pub queue-over : {lay : Lay} {stamp : ℕ} {agree : Tables → Query → Type 0} {f : Tables → Query → Arrivals → Arrivals} {a b : Memory} {q r : List ℕ}
-    (g : Tables → Query → Arrivals → Arrivals) → QueueStep lay stamp agree f a b q r → b .head .full ≡ true
-    → ((T : Tables) (Q : Query) (x : Arrivals) → length (x .segQueue) ≤ length (g T Q x .segQueue)) → QueueStep lay stamp agree (λ T Q x. g T Q (f T Q x)) a b q r
-queue-over {lay} {stamp} {agree} {f} {a} {b} {q} {r} g p n h =
-    record {
-      view = λ u. absurd (clash n u);
-      over = λ u T Q y. omega (arith, p .over u T Q y, h T Q (f T Q (arrivalsOf lay a q)));
-      same = p .same;
-      ready = p .ready;
-      grown = p .grown;
-      size = p .size;
-      room = p .room;
-    }
-
 -- seg_reach of a trip lowered, or not
 record Lowered (lay : Lay) (p : Bool) (t o count : ℕ) (w w′ : List ℕ) : Type 0 where
   pub earliest : earliestOf lay w′ ≡ earliestOf lay w

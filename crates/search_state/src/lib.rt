@@ -1,9 +1,10 @@
-// scratch: a query's state in memory (the Rust's TbrScratch): an arrival, a queued segment, an origin.
-// Specs: where the sections of the working numbers begin (Places), parts of a list (Part), the state seen as the model's (View), what a
-// call does to it (Step).
+// search_state: a query's state in memory (the Rust's TbrScratch): an arrival, a queued segment, an origin.
+// Place: the search.
+// Specs (inner): sections of the working numbers and how long each slice is (Places), parts of a list (Part), the state seen as the model's (View),
+// what a call does to it (Step).
 // Proves: best_after, improve, relax, enqueue and set_out are the model's functions on the state seen so, for all tables and queries
 // that agree with what they read, and all else in memory is as it came; every label record stays its label's row, no word left over
-// (Written). proofs/Steps, Queue: how calls compose (step-as, step-then, queue-step, queue-then, queue-over; alight and transfer are
+// (Written). proofs/Steps, Queue: how calls compose (step-as, step-then, queue-step, queue-then; alight and transfer are
 // callers); proofs/Labels: the label slices are the words and distances of the model's labels (labels-are).
 // Assumes nothing.
 ghost use mathlib.Core.Path.{_≡_};
@@ -73,17 +74,19 @@ fn improve(
     how: Label,
     work: &mut [u32],
     labels: &mut [u32],
-    distances: &mut [f64],
+    label_distances: &mut [f64],
     h: Head,
 ) -> Head
-    requires { ⌜ Ready lay stamp (memory (now work) (now labels) (now distances) h) ⌝ ∗ ⌜ s < lay .stops ⌝ ∗ ⌜ v < 134217728 ⌝ }
-    ensures { λ x. ⌜ Step lay stamp (λ T Q. EgressTable (Q .egress) lay (now (work .entry))) (λ T Q. improved T Q stamp s v how) (memory (now (work .entry)) (now (labels .entry)) (now (distances .entry)) h) (memory (now (work .exit)) (now (labels .exit)) (now (distances .exit)) x) ⌝ }
+    requires { ⌜ Ready lay stamp (memory (now work) (now labels) (now «label_distances») h) ⌝ ∗ ⌜ s < lay .stops ⌝ ∗ ⌜ v < 134217728 ⌝ }
+    ensures { λ x. ⌜ Step lay stamp (λ T Q. EgressTable (Q .egress) lay (now (work .entry))) (λ T Q. improved T Q stamp s v how)
+        (memory (now (work .entry)) (now (labels .entry)) (now («label_distances» .entry)) h)
+        (memory (now (work .exit)) (now (labels .exit)) (now («label_distances» .exit)) x) ⌝ }
 {
     let at = lay.stops * 4 + lay.trips + 128 + s;
     let best = best_after(work[at], v, h.best);
     let row = 13 * s + (stamp - 1) as usize;
     let count = mark(lay, stamp, s, v, work, h.count);
-    label::store_label(how, labels, distances, row);
+    label::store_label(how, labels, label_distances, row);
     Head {
         best,
         count,
@@ -101,22 +104,25 @@ pub fn relax(
     how: Label,
     work: &mut [u32],
     labels: &mut [u32],
-    distances: &mut [f64],
+    label_distances: &mut [f64],
     h: Head,
 ) -> Head
-    requires { ⌜ Ready lay stamp (memory (now work) (now labels) (now distances) h) ⌝ ∗ ⌜ s < lay .stops ⌝ ∗ ⌜ v < 134217728 ⌝ }
-    ensures { λ x. ⌜ Step lay stamp (λ T Q. EgressTable (Q .egress) lay (now (work .entry))) (λ T Q. relaxed T Q stamp s v how) (memory (now (work .entry)) (now (labels .entry)) (now (distances .entry)) h) (memory (now (work .exit)) (now (labels .exit)) (now (distances .exit)) x) ⌝ }
+    requires { ⌜ Ready lay stamp (memory (now work) (now labels) (now «label_distances») h) ⌝ ∗ ⌜ s < lay .stops ⌝ ∗ ⌜ v < 134217728 ⌝ }
+    ensures { λ x. ⌜ Step lay stamp (λ T Q. EgressTable (Q .egress) lay (now (work .entry))) (λ T Q. relaxed T Q stamp s v how)
+        (memory (now (work .entry)) (now (labels .entry)) (now («label_distances» .entry)) h)
+        (memory (now (work .exit)) (now (labels .exit)) (now («label_distances» .exit)) x) ⌝ }
 {
     if work[s] <= v {
         return h;
     }
-    improve(lay, stamp, s, v, how, work, labels, distances, h)
+    improve(lay, stamp, s, v, how, work, labels, label_distances, h)
 }
 
 // A segment into row `k` of a queue.
 fn put_segment(seg: Seg, queue: &mut [u32], k: usize)
     requires { ⌜ 4 * k + 4 ≤ length (now queue) ⌝ }
-    ensures { λ _. ⌜ now (queue .exit) ≡ putSegment (record { trip = seg .trip; offset = seg .offset; stop = seg .stop; shift = seg .shift }) (now (queue .entry)) k ⌝ }
+    ensures { λ _. ⌜ now (queue .exit) ≡ putSegment (record { trip = seg .trip; offset = seg .offset; stop = seg .stop; shift = seg .shift })
+        (now (queue .entry)) k ⌝ }
 {
     let at = 4 * k;
     queue[at] = seg.trip;
@@ -139,7 +145,9 @@ fn lower(plain: bool, at: usize, offset: u32, work: &mut [u32])
 // A segment is queued; `plain`: its trip has no windows.
 fn enqueue(lay: Lay, plain: bool, seg: Seg, work: &mut [u32], queue: &mut [u32], h: Head) -> Head
     requires { ⌜ WorkSized lay (length (now work)) ⌝ ∗ ⌜ seg .trip < lay .trips ⌝ ∗ ⌜ h .queued ≤ length (now queue) / 4 ⌝ }
-    ensures { λ x. ⌜ ((stamp : ℕ) (l : List ℕ) (m : List Float) → Ready lay stamp (memory (now (work .entry)) l m h) → QueueStep lay stamp (λ T Q. noWindows T (seg .trip) ≡ plain) (λ T Q. enqueued T Q (seg .trip) (seg .offset) (seg .stop) (seg .shift)) (memory (now (work .entry)) l m h) (memory (now (work .exit)) l m x) (now (queue .entry)) (now (queue .exit))) ⌝ }
+    ensures { λ x. ⌜ ((stamp : ℕ) (l : List ℕ) (m : List Float) → Ready lay stamp (memory (now (work .entry)) l m h)
+        → QueueStep lay stamp (λ T Q. noWindows T (seg .trip) ≡ plain) (λ T Q. enqueued T Q (seg .trip) (seg .offset) (seg .stop) (seg .shift))
+        (memory (now (work .entry)) l m h) (memory (now (work .exit)) l m x) (now (queue .entry)) (now (queue .exit))) ⌝ }
 {
     let at = lay.stops * 2 + seg.trip as usize;
     let offset = seg.offset;
@@ -179,11 +187,16 @@ pub fn set_out(
     distance: f64,
     work: &mut [u32],
     labels: &mut [u32],
-    distances: &mut [f64],
+    label_distances: &mut [f64],
     h: Head,
 ) -> Head
-    requires { ⌜ Starting lay (memory (now work) (now labels) (now distances) h) ⌝ ∗ ⌜ stop < lay .stops ⌝ ∗ ⌜ start + duration < 134217728 ⌝ }
-    ensures { λ x. ⌜ StartStep lay (λ T Q. EgressTable (Q .egress) lay (now (work .entry)) × (Q .start ≡ start)) (λ T Q. setOut T Q (record { stop = stop; duration = duration; distance = distance })) (memory (now (work .entry)) (now (labels .entry)) (now (distances .entry)) h) (memory (now (work .exit)) (now (labels .exit)) (now (distances .exit)) x) ⌝ }
+    requires { ⌜ Starting lay (memory (now work) (now labels) (now «label_distances») h) ⌝
+        ∗ ⌜ stop < lay .stops ⌝
+        ∗ ⌜ start + duration < 134217728 ⌝ }
+    ensures { λ x. ⌜ StartStep lay (λ T Q. EgressTable (Q .egress) lay (now (work .entry)) × (Q .start ≡ start))
+        (λ T Q. setOut T Q (record { stop = stop; duration = duration; distance = distance }))
+        (memory (now (work .entry)) (now (labels .entry)) (now («label_distances» .entry)) h)
+        (memory (now (work .exit)) (now (labels .exit)) (now («label_distances» .exit)) x) ⌝ }
 {
     let v = start + duration;
     let s = stop as usize;
@@ -205,7 +218,7 @@ pub fn set_out(
         walk_duration: duration,
         walk_distance: distance,
     };
-    label::store_label(how, labels, distances, label::record_of(stop, 0));
+    label::store_label(how, labels, label_distances, label::record_of(stop, 0));
     Head {
         best,
         count: count + 1,
@@ -216,7 +229,7 @@ pub fn set_out(
 
 // Alighting at `v` at the trip's stop time at offset `p`: one turn of the first loop of scan_trip_forward.
 pub fn alight(
-    t: &[u32],
+    tables: &[u32],
     c: Counts,
     lay: Lay,
     ride: Ride,
@@ -224,14 +237,21 @@ pub fn alight(
     v: u32,
     work: &mut [u32],
     labels: &mut [u32],
-    distances: &mut [f64],
+    label_distances: &mut [f64],
     h: Head,
 ) -> Head
-    requires { ⌜ AlightAt (now t) c lay ride p ⌝ ∗ ⌜ Ready lay (ride .stamp) (memory (now work) (now labels) (now distances) h) ⌝ ∗ ⌜ v < 134217728 ⌝ }
-    ensures { λ x. ⌜ Step lay (ride .stamp) (λ T Q. EgressTable (Q .egress) lay (now (work .entry)) × (T .timetable ≡ timetable (now (t .entry)) c)) (λ T Q. relaxed T Q (ride .stamp) (stopAt T (ride .trip) p) v (Label.Transit v (ride .trip) (ride .stop) (ride .offset) p (ride .stamp - 2) (ride .shift))) (memory (now (work .entry)) (now (labels .entry)) (now (distances .entry)) h) (memory (now (work .exit)) (now (labels .exit)) (now (distances .exit)) x) ⌝ }
+    requires { ⌜ AlightAt (now tables) c lay ride p ⌝
+        ∗ ⌜ Ready lay (ride .stamp) (memory (now work) (now labels) (now «label_distances») h) ⌝
+        ∗ ⌜ v < 134217728 ⌝ }
+    ensures { λ x. ⌜ Step lay (ride .stamp) (λ T Q. EgressTable (Q .egress) lay (now (work .entry))
+        × (T .timetable ≡ timetable (now (tables .entry)) c))
+        (λ T Q. relaxed T Q (ride .stamp) (stopAt T (ride .trip) p) v
+        (Label.Transit v (ride .trip) (ride .stop) (ride .offset) p (ride .stamp - 2) (ride .shift)))
+        (memory (now (work .entry)) (now (labels .entry)) (now («label_distances» .entry)) h)
+        (memory (now (work .exit)) (now (labels .exit)) (now («label_distances» .exit)) x) ⌝ }
 {
-    let first = tables::trip(t, c, ride.trip as usize, 0);
-    let s = tables::time(t, c, first + p, 0);
+    let first = tables::trip(tables, c, ride.trip as usize, 0);
+    let s = tables::time(tables, c, first + p, 0);
     let how = Label::Transit {
         arrival_s: v,
         trip_idx: ride.trip,
@@ -241,7 +261,7 @@ pub fn alight(
         prev_round: ride.stamp - 2,
         time_shift_s: ride.shift,
     };
-    relax(lay, ride.stamp, s, v, how, work, labels, distances, h)
+    relax(lay, ride.stamp, s, v, how, work, labels, label_distances, h)
 }
 
 // A transfer taken: the stop where its trip is boarded at `v` is reached on foot from stop `from`, and its segment is queued.
@@ -255,12 +275,19 @@ pub fn transfer(
     time: u32,
     work: &mut [u32],
     labels: &mut [u32],
-    distances: &mut [f64],
+    label_distances: &mut [f64],
     queue: &mut [u32],
     h: Head,
 ) -> Head
-    requires { ⌜ Ready lay stamp (memory (now work) (now labels) (now distances) h) ⌝ ∗ ⌜ (seg .trip < lay .trips) × (seg .stop < lay .stops) ⌝ ∗ ⌜ v < 134217728 ⌝ ∗ ⌜ (h .full ≡ false) × (h .queued ≤ length (now queue) / 4) ⌝ }
-    ensures { λ x. ⌜ QueueStep lay stamp (λ T Q. EgressTable (Q .egress) lay (now (work .entry)) × (noWindows T (seg .trip) ≡ plain)) (λ T Q a. enqueued T Q (seg .trip) (seg .offset) (seg .stop) (seg .shift) (relaxed T Q stamp (seg .stop) v (Label.Walk v from (seg .stop) time noDistance (stamp - 1)) a)) (memory (now (work .entry)) (now (labels .entry)) (now (distances .entry)) h) (memory (now (work .exit)) (now (labels .exit)) (now (distances .exit)) x) (now (queue .entry)) (now (queue .exit)) ⌝ }
+    requires { ⌜ Ready lay stamp (memory (now work) (now labels) (now «label_distances») h) ⌝
+        ∗ ⌜ (seg .trip < lay .trips) × (seg .stop < lay .stops) ⌝
+        ∗ ⌜ v < 134217728 ⌝
+        ∗ ⌜ (h .full ≡ false) × (h .queued ≤ length (now queue) / 4) ⌝ }
+    ensures { λ x. ⌜ QueueStep lay stamp (λ T Q. EgressTable (Q .egress) lay (now (work .entry)) × (noWindows T (seg .trip) ≡ plain))
+        (λ T Q a. enqueued T Q (seg .trip) (seg .offset) (seg .stop) (seg .shift)
+        (relaxed T Q stamp (seg .stop) v (Label.Walk v from (seg .stop) time noDistance (stamp - 1)) a))
+        (memory (now (work .entry)) (now (labels .entry)) (now («label_distances» .entry)) h)
+        (memory (now (work .exit)) (now (labels .exit)) (now («label_distances» .exit)) x) (now (queue .entry)) (now (queue .exit)) ⌝ }
 {
     let how = Label::Walk {
         arrival_s: v,
@@ -271,6 +298,6 @@ pub fn transfer(
         prev_round: stamp - 1,
     };
     let s = seg.stop as usize;
-    let x = relax(lay, stamp, s, v, how, work, labels, distances, h);
+    let x = relax(lay, stamp, s, v, how, work, labels, label_distances, h);
     enqueue(lay, plain, seg, work, queue, x)
 }

@@ -1,5 +1,6 @@
 // signed: signed seconds, carried as the 32 bits of an i32 in a u32 (the prover's arithmetic reads unsigned numbers).
-// Specs: what the bits mean is the language's own reading of an i32 (`toZ w32`); a time moved by signed seconds stops at 0.
+// Place: the foundation.
+// Specs (a claim): what the bits mean is the language's own reading of an i32 (`toZ w32`); a time moved by signed seconds stops at 0.
 // Proves: size, moved time and difference are those of the integers that the bits mean.
 // Assumes nothing.
 ghost use mathlib.Core.Path.{_≡_};

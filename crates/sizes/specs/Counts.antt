@@ -4,11 +4,11 @@ use Rattle.tables.specs.declared.Counts.{Counts}
 use Rattle.query_types.specs.declared.QueryCounts.{QueryCounts}
 use Rattle.sizes.specs.declared.QuerySizes.{QuerySizes}
 
-abbrev pub countsOf : ℕ → ℕ → ℕ → ℕ → ℕ → Counts
+abbrev pub countsOf : (stops trips times windows edges : ℕ) → Counts
 countsOf stops trips times windows edges = record { stops = stops; trips = trips; times = times; windows = windows; edges = edges }
 
 -- the counts of a query: the timetable's, then the others one by one
-abbrev pub gathered : Counts → ℕ → ℕ → ℕ → ℕ → ℕ → ℕ → ℕ → ℕ → ℕ → ℕ → QueryCounts
+abbrev pub gathered : (timetable : Counts) (cells patterns lines entries departures transfers delays stopRows origins egress : ℕ) → QueryCounts
 gathered timetable cells patterns lines entries departures transfers delays stopRows origins egress =
     record {
       timetable = timetable;

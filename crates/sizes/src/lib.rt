@@ -1,5 +1,6 @@
 // sizes: the counts of a timetable and of a query as a caller of the exports hands them in, one u32 each.
-// Specs: the counts made of those numbers (Counts).
+// Place: beside `exports`.
+// Specs (a claim): the counts made of those numbers (Counts).
 // Proves: every function equal to its definition.
 // Assumes nothing.
 ghost use mathlib.Core.Path.{_≡_};

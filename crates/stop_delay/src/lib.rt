@@ -1,7 +1,8 @@
-// realtime: what delays do to one stop time (document 01, item 4): `rt_effective_dep_s` and `rt_effective_arr_s` of raptor.rs,
-// `RtTripAdjust` of journey.rs. Which delays a stop time has is in crate delays.
-// Flags: 1 departure given, 2 arrival given, 4 skipped. Delays are the bits of an i32; what they mean is said in crate signed.
-// Specs: Times (flags, effective times), Door (question 5, what each call answers).
+// stop_delay: what delays do to one stop time (document 01, item 4): `rt_effective_dep_s` and `rt_effective_arr_s` of raptor.rs,
+// `RtTripAdjust` of journey.rs. Which delays a stop time has is in crate `delay_lookup`.
+// Flags: 1 departure given, 2 arrival given, 4 skipped. Delays are the bits of an i32; what they mean is said in crate `signed`.
+// Place: a leaf. Its calls: `leaf_calls`.
+// Specs (claims): Times (flags, effective times), Door (the size of a delay that question 5 admits).
 // Proves: every function equal to its definition; that without a delay row times stand; that effective times are at most
 // 2,097,150 where question 5 is answered yes.
 // Assumes nothing.

@@ -74,6 +74,3 @@ stopOf t c i off = timeOf t (firstOf t c i + off) 0
 
 abbrev pub arrivalOf : List ℕ → Counts → ℕ → ℕ → ℕ
 arrivalOf t c i off = timeOf t (firstOf t c i + off) 1
-
-abbrev pub departureOf : List ℕ → Counts → ℕ → ℕ → ℕ
-departureOf t c i off = timeOf t (firstOf t c i + off) 2

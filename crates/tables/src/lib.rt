@@ -1,6 +1,7 @@
 // tables: the caller's timetable in one lent slice of numbers, its counts by value, getters, and the questions that every
 // call asks of it (document 01, questions 1 to 6).
-// Specs: where each number stands (Tables), the timetable free of memory (Timetable), each question as a test of the lists,
+// Place: tables.
+// Specs (claims): where each number stands (Tables), the timetable free of memory (Timetable), each question as a test of the lists,
 // row by row (Door), what a yes gives (Sane).
 // Proves: each test answers exactly its definition; a timetable that passes has the facts that inner functions need.
 // Assumes nothing.
@@ -8,7 +9,8 @@ ghost use mathlib.Core.Path.{_≡_};
 ghost use mathlib.Core.Bool.{_&&_};
 ghost use Prim.Native.Nat.{_+_, _*_, _<_};
 ghost use Rattle.tables.specs.Tables.{timeOf, tripOf, edgeOf, windowOf, stopTimeAt, tripAt, windowAt, edgeAt};
-ghost use Rattle.tables.specs.Door.{countsOk, slicesOk, tripRuns, stopTimeNumbers, edgeNumbers, stopTimeRanges, tripRanges, windowRanges, edgeRanges, edgeRises, rowCountOf, rowOk, everyRow, runsOk, numbersOk, rangesOk, orderOk};
+ghost use Rattle.tables.specs.Door.{countsOk, slicesOk, tripRuns, stopTimeNumbers, edgeNumbers, stopTimeRanges, tripRanges, windowRanges};
+ghost use Rattle.tables.specs.Door.{edgeRanges, edgeRises, rowCountOf, rowOk, everyRow, runsOk, numbersOk, rangesOk, orderOk};
 ghost use Rattle.tables.specs.Sane.{CountsOk, SlicesOk};
 use door::both;
 
@@ -69,89 +71,93 @@ pub enum Check {
 }
 
 // Field k of stop time i: stop, arrival, departure, sequence, pickup, drop-off.
-pub fn time(t: &[u32], c: Counts, i: usize, k: usize) -> usize
-    requires { ⌜ CountsOk c ⌝ ∗ ⌜ SlicesOk (now t) c ⌝ ∗ ⌜ i < c .times ⌝ ∗ ⌜ k < 6 ⌝ }
-    ensures { λ r. ⌜ r ≡ timeOf (now (t .entry)) i k ⌝ ∗ ⌜ r < 4294967296 ⌝ }
+pub fn time(tables: &[u32], c: Counts, i: usize, k: usize) -> usize
+    requires { ⌜ CountsOk c ⌝ ∗ ⌜ SlicesOk (now tables) c ⌝ ∗ ⌜ i < c .times ⌝ ∗ ⌜ k < 6 ⌝ }
+    ensures { λ r. ⌜ r ≡ timeOf (now (tables .entry)) i k ⌝ ∗ ⌜ r < 4294967296 ⌝ }
 {
-    words::field(t, i * 6 + k)
+    words::field(tables, i * 6 + k)
 }
 
 // Field k of trip i: first stop time, count, mode, wheelchair, first window, window count, active, excluded.
-pub fn trip(t: &[u32], c: Counts, i: usize, k: usize) -> usize
-    requires { ⌜ CountsOk c ⌝ ∗ ⌜ SlicesOk (now t) c ⌝ ∗ ⌜ i < c .trips ⌝ ∗ ⌜ k < 8 ⌝ }
-    ensures { λ r. ⌜ r ≡ tripOf (now (t .entry)) c i k ⌝ ∗ ⌜ r < 4294967296 ⌝ }
+pub fn trip(tables: &[u32], c: Counts, i: usize, k: usize) -> usize
+    requires { ⌜ CountsOk c ⌝ ∗ ⌜ SlicesOk (now tables) c ⌝ ∗ ⌜ i < c .trips ⌝ ∗ ⌜ k < 8 ⌝ }
+    ensures { λ r. ⌜ r ≡ tripOf (now (tables .entry)) c i k ⌝ ∗ ⌜ r < 4294967296 ⌝ }
 {
-    words::field(t, c.times * 6 + i * 8 + k)
+    words::field(tables, c.times * 6 + i * 8 + k)
 }
 
 // Field k of window i: start, end, headway.
-fn window(t: &[u32], c: Counts, i: usize, k: usize) -> usize
-    requires { ⌜ CountsOk c ⌝ ∗ ⌜ SlicesOk (now t) c ⌝ ∗ ⌜ i < c .windows ⌝ ∗ ⌜ k < 3 ⌝ }
-    ensures { λ r. ⌜ r ≡ windowOf (now (t .entry)) c i k ⌝ ∗ ⌜ r < 4294967296 ⌝ }
+fn window(tables: &[u32], c: Counts, i: usize, k: usize) -> usize
+    requires { ⌜ CountsOk c ⌝ ∗ ⌜ SlicesOk (now tables) c ⌝ ∗ ⌜ i < c .windows ⌝ ∗ ⌜ k < 3 ⌝ }
+    ensures { λ r. ⌜ r ≡ windowOf (now (tables .entry)) c i k ⌝ ∗ ⌜ r < 4294967296 ⌝ }
 {
-    words::field(t, c.times * 6 + c.trips * 8 + i * 3 + k)
+    words::field(tables, c.times * 6 + c.trips * 8 + i * 3 + k)
 }
 
 // Field k of walk edge i: from, to, duration, mode, pattern.
-pub fn edge(t: &[u32], c: Counts, i: usize, k: usize) -> usize
-    requires { ⌜ CountsOk c ⌝ ∗ ⌜ SlicesOk (now t) c ⌝ ∗ ⌜ i < c .edges ⌝ ∗ ⌜ k < 5 ⌝ }
-    ensures { λ r. ⌜ r ≡ edgeOf (now (t .entry)) c i k ⌝ ∗ ⌜ r < 4294967296 ⌝ }
+pub fn edge(tables: &[u32], c: Counts, i: usize, k: usize) -> usize
+    requires { ⌜ CountsOk c ⌝ ∗ ⌜ SlicesOk (now tables) c ⌝ ∗ ⌜ i < c .edges ⌝ ∗ ⌜ k < 5 ⌝ }
+    ensures { λ r. ⌜ r ≡ edgeOf (now (tables .entry)) c i k ⌝ ∗ ⌜ r < 4294967296 ⌝ }
 {
-    words::field(t, c.times * 6 + c.trips * 8 + c.windows * 3 + i * 5 + k)
+    words::field(
+        tables,
+        c.times * 6 + c.trips * 8 + c.windows * 3 + i * 5 + k,
+    )
 }
 
 // Rows by value.
-pub fn stop_time_row(t: &[u32], c: Counts, i: usize) -> StopTimeRow
-    requires { ⌜ CountsOk c ⌝ ∗ ⌜ SlicesOk (now t) c ⌝ ∗ ⌜ i < c .times ⌝ }
-    ensures { λ r. ⌜ r ≡ stopTimeAt (now (t .entry)) i ⌝ }
+pub fn stop_time_row(tables: &[u32], c: Counts, i: usize) -> StopTimeRow
+    requires { ⌜ CountsOk c ⌝ ∗ ⌜ SlicesOk (now tables) c ⌝ ∗ ⌜ i < c .times ⌝ }
+    ensures { λ r. ⌜ r ≡ stopTimeAt (now (tables .entry)) i ⌝ }
 {
     StopTimeRow {
-        stop: time(t, c, i, 0),
-        arrival: time(t, c, i, 1),
-        departure: time(t, c, i, 2),
-        sequence: time(t, c, i, 3),
-        pickup: time(t, c, i, 4),
-        drop_off: time(t, c, i, 5),
+        stop: time(tables, c, i, 0),
+        arrival: time(tables, c, i, 1),
+        departure: time(tables, c, i, 2),
+        sequence: time(tables, c, i, 3),
+        pickup: time(tables, c, i, 4),
+        drop_off: time(tables, c, i, 5),
     }
 }
 
-fn trip_row(t: &[u32], c: Counts, i: usize) -> TripRow
-    requires { ⌜ CountsOk c ⌝ ∗ ⌜ SlicesOk (now t) c ⌝ ∗ ⌜ i < c .trips ⌝ }
-    ensures { λ r. ⌜ r ≡ tripAt (now (t .entry)) c i ⌝ ∗ ⌜ (r .first < 4294967296) × (r .count < 4294967296) × (r .window < 4294967296) × (r .windows < 4294967296) ⌝ }
+fn trip_row(tables: &[u32], c: Counts, i: usize) -> TripRow
+    requires { ⌜ CountsOk c ⌝ ∗ ⌜ SlicesOk (now tables) c ⌝ ∗ ⌜ i < c .trips ⌝ }
+    ensures { λ r. ⌜ r ≡ tripAt (now (tables .entry)) c i ⌝
+        ∗ ⌜ (r .first < 4294967296) × (r .count < 4294967296) × (r .window < 4294967296) × (r .windows < 4294967296) ⌝ }
 {
     TripRow {
-        first: trip(t, c, i, 0),
-        count: trip(t, c, i, 1),
-        mode: trip(t, c, i, 2),
-        wheelchair: trip(t, c, i, 3),
-        window: trip(t, c, i, 4),
-        windows: trip(t, c, i, 5),
-        active: trip(t, c, i, 6),
-        excluded: trip(t, c, i, 7),
+        first: trip(tables, c, i, 0),
+        count: trip(tables, c, i, 1),
+        mode: trip(tables, c, i, 2),
+        wheelchair: trip(tables, c, i, 3),
+        window: trip(tables, c, i, 4),
+        windows: trip(tables, c, i, 5),
+        active: trip(tables, c, i, 6),
+        excluded: trip(tables, c, i, 7),
     }
 }
 
-fn window_row(t: &[u32], c: Counts, i: usize) -> WindowRow
-    requires { ⌜ CountsOk c ⌝ ∗ ⌜ SlicesOk (now t) c ⌝ ∗ ⌜ i < c .windows ⌝ }
-    ensures { λ r. ⌜ r ≡ windowAt (now (t .entry)) c i ⌝ }
+fn window_row(tables: &[u32], c: Counts, i: usize) -> WindowRow
+    requires { ⌜ CountsOk c ⌝ ∗ ⌜ SlicesOk (now tables) c ⌝ ∗ ⌜ i < c .windows ⌝ }
+    ensures { λ r. ⌜ r ≡ windowAt (now (tables .entry)) c i ⌝ }
 {
     WindowRow {
-        start: window(t, c, i, 0),
-        end: window(t, c, i, 1),
-        headway: window(t, c, i, 2),
+        start: window(tables, c, i, 0),
+        end: window(tables, c, i, 1),
+        headway: window(tables, c, i, 2),
     }
 }
 
-pub fn edge_row(t: &[u32], c: Counts, i: usize) -> EdgeRow
-    requires { ⌜ CountsOk c ⌝ ∗ ⌜ SlicesOk (now t) c ⌝ ∗ ⌜ i < c .edges ⌝ }
-    ensures { λ r. ⌜ r ≡ edgeAt (now (t .entry)) c i ⌝ }
+pub fn edge_row(tables: &[u32], c: Counts, i: usize) -> EdgeRow
+    requires { ⌜ CountsOk c ⌝ ∗ ⌜ SlicesOk (now tables) c ⌝ ∗ ⌜ i < c .edges ⌝ }
+    ensures { λ r. ⌜ r ≡ edgeAt (now (tables .entry)) c i ⌝ }
 {
     EdgeRow {
-        from: edge(t, c, i, 0),
-        to: edge(t, c, i, 1),
-        duration: edge(t, c, i, 2),
-        pathway: edge(t, c, i, 3),
-        pattern: edge(t, c, i, 4),
+        from: edge(tables, c, i, 0),
+        to: edge(tables, c, i, 1),
+        duration: edge(tables, c, i, 2),
+        pathway: edge(tables, c, i, 3),
+        pattern: edge(tables, c, i, 4),
     }
 }
 
@@ -165,11 +171,11 @@ pub fn counts_ok(c: Counts) -> bool
 }
 
 // Question 2.
-pub fn slices_ok(t: &[u32], c: Counts) -> bool
+pub fn slices_ok(tables: &[u32], c: Counts) -> bool
     requires { ⌜ CountsOk c ⌝ }
-    ensures { λ r. ⌜ r ≡ slicesOk (now (t .entry)) c ⌝ }
+    ensures { λ r. ⌜ r ≡ slicesOk (now (tables .entry)) c ⌝ }
 {
-    t.len() == c.times * 6 + c.trips * 8 + c.windows * 3 + c.edges * 5 + c.stops
+    tables.len() == c.times * 6 + c.trips * 8 + c.windows * 3 + c.edges * 5 + c.stops
 }
 
 // Question 3 of one trip.
@@ -230,14 +236,14 @@ fn edge_ranges(r: EdgeRow) -> bool
 }
 
 // Question 6 of a walk edge: it does not leave a lower stop than the one before it.
-fn edge_rises(t: &[u32], c: Counts, i: usize) -> bool
-    requires { ⌜ CountsOk c ⌝ ∗ ⌜ SlicesOk (now t) c ⌝ ∗ ⌜ i < c .edges ⌝ }
-    ensures { λ b. ⌜ b ≡ edgeRises (now (t .entry)) c i ⌝ }
+fn edge_rises(tables: &[u32], c: Counts, i: usize) -> bool
+    requires { ⌜ CountsOk c ⌝ ∗ ⌜ SlicesOk (now tables) c ⌝ ∗ ⌜ i < c .edges ⌝ }
+    ensures { λ b. ⌜ b ≡ edgeRises (now (tables .entry)) c i ⌝ }
 {
     if i == 0 {
         return true;
     }
-    edge(t, c, i - 1, 0) <= edge(t, c, i, 0)
+    edge(tables, c, i - 1, 0) <= edge(tables, c, i, 0)
 }
 
 // How many rows a check looks at.
@@ -257,31 +263,31 @@ fn rows_of(k: Check, c: Counts) -> usize
 }
 
 // A check of one row.
-fn row_ok(t: &[u32], c: Counts, k: Check, i: usize) -> bool
-    requires { ⌜ CountsOk c ⌝ ∗ ⌜ SlicesOk (now t) c ⌝ ∗ ⌜ i < rowCountOf k c ⌝ }
-    ensures { λ b. ⌜ b ≡ rowOk (now (t .entry)) c k i ⌝ }
+fn row_ok(tables: &[u32], c: Counts, k: Check, i: usize) -> bool
+    requires { ⌜ CountsOk c ⌝ ∗ ⌜ SlicesOk (now tables) c ⌝ ∗ ⌜ i < rowCountOf k c ⌝ }
+    ensures { λ b. ⌜ b ≡ rowOk (now (tables .entry)) c k i ⌝ }
 {
     match k {
-        Check::TripRuns => trip_runs(trip_row(t, c, i), c),
-        Check::StopTimeNumbers => stop_time_numbers(stop_time_row(t, c, i), c),
-        Check::EdgeNumbers => edge_numbers(edge_row(t, c, i), c),
-        Check::StopTimeRanges => stop_time_ranges(stop_time_row(t, c, i)),
-        Check::TripRanges => trip_ranges(trip_row(t, c, i)),
-        Check::WindowRanges => window_ranges(window_row(t, c, i)),
-        Check::EdgeRanges => edge_ranges(edge_row(t, c, i)),
-        Check::EdgeOrder => edge_rises(t, c, i),
+        Check::TripRuns => trip_runs(trip_row(tables, c, i), c),
+        Check::StopTimeNumbers => stop_time_numbers(stop_time_row(tables, c, i), c),
+        Check::EdgeNumbers => edge_numbers(edge_row(tables, c, i), c),
+        Check::StopTimeRanges => stop_time_ranges(stop_time_row(tables, c, i)),
+        Check::TripRanges => trip_ranges(trip_row(tables, c, i)),
+        Check::WindowRanges => window_ranges(window_row(tables, c, i)),
+        Check::EdgeRanges => edge_ranges(edge_row(tables, c, i)),
+        Check::EdgeOrder => edge_rises(tables, c, i),
     }
 }
 
 // A check of every row.
-fn every_row(t: &[u32], c: Counts, k: Check) -> bool
-    requires { ⌜ CountsOk c ⌝ ∗ ⌜ SlicesOk (now t) c ⌝ }
-    ensures { λ b. ⌜ b ≡ everyRow (now (t .entry)) c k ⌝ }
+fn every_row(tables: &[u32], c: Counts, k: Check) -> bool
+    requires { ⌜ CountsOk c ⌝ ∗ ⌜ SlicesOk (now tables) c ⌝ }
+    ensures { λ b. ⌜ b ≡ everyRow (now (tables .entry)) c k ⌝ }
 {
     let n = rows_of(k, c);
     let mut i: usize = 0;
     while i < n {
-        if !row_ok(t, c, k, i) {
+        if !row_ok(tables, c, k, i) {
             return false;
         }
         i += 1;
@@ -290,38 +296,38 @@ fn every_row(t: &[u32], c: Counts, k: Check) -> bool
 }
 
 // Questions 3, 4, 5 and 6 of the whole timetable.
-pub fn runs_ok(t: &[u32], c: Counts) -> bool
-    requires { ⌜ CountsOk c ⌝ ∗ ⌜ SlicesOk (now t) c ⌝ }
-    ensures { λ r. ⌜ r ≡ runsOk (now (t .entry)) c ⌝ }
+pub fn runs_ok(tables: &[u32], c: Counts) -> bool
+    requires { ⌜ CountsOk c ⌝ ∗ ⌜ SlicesOk (now tables) c ⌝ }
+    ensures { λ r. ⌜ r ≡ runsOk (now (tables .entry)) c ⌝ }
 {
-    every_row(t, c, Check::TripRuns)
+    every_row(tables, c, Check::TripRuns)
 }
 
-pub fn numbers_ok(t: &[u32], c: Counts) -> bool
-    requires { ⌜ CountsOk c ⌝ ∗ ⌜ SlicesOk (now t) c ⌝ }
-    ensures { λ r. ⌜ r ≡ numbersOk (now (t .entry)) c ⌝ }
+pub fn numbers_ok(tables: &[u32], c: Counts) -> bool
+    requires { ⌜ CountsOk c ⌝ ∗ ⌜ SlicesOk (now tables) c ⌝ }
+    ensures { λ r. ⌜ r ≡ numbersOk (now (tables .entry)) c ⌝ }
 {
-    let a = every_row(t, c, Check::StopTimeNumbers);
-    let b = every_row(t, c, Check::EdgeNumbers);
+    let a = every_row(tables, c, Check::StopTimeNumbers);
+    let b = every_row(tables, c, Check::EdgeNumbers);
     both(a, b)
 }
 
-pub fn ranges_ok(t: &[u32], c: Counts) -> bool
-    requires { ⌜ CountsOk c ⌝ ∗ ⌜ SlicesOk (now t) c ⌝ }
-    ensures { λ r. ⌜ r ≡ rangesOk (now (t .entry)) c ⌝ }
+pub fn ranges_ok(tables: &[u32], c: Counts) -> bool
+    requires { ⌜ CountsOk c ⌝ ∗ ⌜ SlicesOk (now tables) c ⌝ }
+    ensures { λ r. ⌜ r ≡ rangesOk (now (tables .entry)) c ⌝ }
 {
-    let a = every_row(t, c, Check::StopTimeRanges);
-    let b = every_row(t, c, Check::TripRanges);
-    let d = every_row(t, c, Check::WindowRanges);
-    let e = every_row(t, c, Check::EdgeRanges);
+    let a = every_row(tables, c, Check::StopTimeRanges);
+    let b = every_row(tables, c, Check::TripRanges);
+    let d = every_row(tables, c, Check::WindowRanges);
+    let e = every_row(tables, c, Check::EdgeRanges);
     both(both(a, b), both(d, e))
 }
 
 // Questions 4 and 5 of every stop time, each read once and no branch between them: kept are the greatest stop plus one, and all bits of the
 // times and of the codes.
-fn stop_times_ok(t: &[u32], c: Counts) -> bool
-    requires { ⌜ CountsOk c ⌝ ∗ ⌜ SlicesOk (now t) c ⌝ }
-    ensures { λ r. ⌜ r ≡ everyRow (now (t .entry)) c Check.StopTimeNumbers && everyRow (now (t .entry)) c Check.StopTimeRanges ⌝ }
+fn stop_times_ok(tables: &[u32], c: Counts) -> bool
+    requires { ⌜ CountsOk c ⌝ ∗ ⌜ SlicesOk (now tables) c ⌝ }
+    ensures { λ r. ⌜ r ≡ everyRow (now (tables .entry)) c Check.StopTimeNumbers && everyRow (now (tables .entry)) c Check.StopTimeRanges ⌝ }
 {
     let n = c.times;
     let mut stops: usize = 0;
@@ -330,30 +336,30 @@ fn stop_times_ok(t: &[u32], c: Counts) -> bool
     let mut i: usize = 0;
     while i < n {
         let at = i * 6;
-        stops = words::larger(stops, words::field(t, at) + 1);
-        times = times | (words::word(t, at + 1) | words::word(t, at + 2));
-        codes = codes | (words::word(t, at + 4) | words::word(t, at + 5));
+        stops = words::larger(stops, words::field(tables, at) + 1);
+        times = times | (words::word(tables, at + 1) | words::word(tables, at + 2));
+        codes = codes | (words::word(tables, at + 4) | words::word(tables, at + 5));
         i += 1;
     }
     both(stops <= c.stops, both(times <= 1048575, codes <= 3))
 }
 
 // Questions 4 and 5 at once, each stop time read once.
-pub fn rows_ok(t: &[u32], c: Counts) -> bool
-    requires { ⌜ CountsOk c ⌝ ∗ ⌜ SlicesOk (now t) c ⌝ }
-    ensures { λ r. ⌜ r ≡ numbersOk (now (t .entry)) c && rangesOk (now (t .entry)) c ⌝ }
+pub fn rows_ok(tables: &[u32], c: Counts) -> bool
+    requires { ⌜ CountsOk c ⌝ ∗ ⌜ SlicesOk (now tables) c ⌝ }
+    ensures { λ r. ⌜ r ≡ numbersOk (now (tables .entry)) c && rangesOk (now (tables .entry)) c ⌝ }
 {
-    let x = stop_times_ok(t, c);
-    let a = every_row(t, c, Check::EdgeNumbers);
-    let b = every_row(t, c, Check::TripRanges);
-    let d = every_row(t, c, Check::WindowRanges);
-    let e = every_row(t, c, Check::EdgeRanges);
+    let x = stop_times_ok(tables, c);
+    let a = every_row(tables, c, Check::EdgeNumbers);
+    let b = every_row(tables, c, Check::TripRanges);
+    let d = every_row(tables, c, Check::WindowRanges);
+    let e = every_row(tables, c, Check::EdgeRanges);
     both(both(x, both(a, b)), both(d, e))
 }
 
-pub fn order_ok(t: &[u32], c: Counts) -> bool
-    requires { ⌜ CountsOk c ⌝ ∗ ⌜ SlicesOk (now t) c ⌝ }
-    ensures { λ r. ⌜ r ≡ orderOk (now (t .entry)) c ⌝ }
+pub fn order_ok(tables: &[u32], c: Counts) -> bool
+    requires { ⌜ CountsOk c ⌝ ∗ ⌜ SlicesOk (now tables) c ⌝ }
+    ensures { λ r. ⌜ r ≡ orderOk (now (tables .entry)) c ⌝ }
 {
-    every_row(t, c, Check::EdgeOrder)
+    every_row(tables, c, Check::EdgeOrder)
 }

@@ -40,7 +40,7 @@ abbrev pub choose : Bool → Bool → Bool → Tried → Tried
 choose known late barred found = cond known (cond late Stop (cond barred Next found)) Next
 
 -- ONE TRIP of a line, as `resolveIn` tries it: on to the next, no further, or taken
-unfoldable pub tried : Tables → Query → Bool → ℕ → ℕ → ℕ → ℕ → Tried
+unfoldable pub tried : Tables → Query → (isFifo : Bool) (o after best t : ℕ) → Tried
 tried T Q isFifo o after best t =
     choose (ltb t (trips T) && ltb o (stopCount T t))
     ((isFifo && leb (best + marginOf T Q) (departure T t o)) && noWindows T t)

@@ -39,7 +39,7 @@ pub enum Resolved {
 
 // On a FIFO line: does the trip depart so late that no delay brings it before the best total?
 fn too_late(
-    t: &[u32],
+    tables: &[u32],
     c: Counts,
     w: Terms,
     is_fifo: bool,
@@ -47,12 +47,16 @@ fn too_late(
     off: usize,
     best: u32,
 ) -> bool
-    requires { ⌜ Sane (now t) c ⌝ ∗ ⌜ Event (now t) c trip off ⌝ }
-    ensures { λ r. ⌜ ((T : Tables) (Q : Query) → T .timetable ≡ timetable (now (t .entry)) c → Asks Q w → r ≡ ((«is_fifo» && leb (best + marginOf T Q) (departure T trip off)) && noWindows T trip)) ⌝ }
+    requires { ⌜ Sane (now tables) c ⌝ ∗ ⌜ Event (now tables) c trip off ⌝ }
+    ensures { λ r. ⌜ ((T : Tables) (Q : Query) → T .timetable ≡ timetable (now (tables .entry)) c → Asks Q w → r
+        ≡ ((«is_fifo» && leb (best + marginOf T Q) (departure T trip off)) && noWindows T trip)) ⌝ }
 {
-    let dep = trip_boarding::event_word(t, c, trip, off, 2) as u64;
+    let dep = trip_boarding::event_word(tables, c, trip, off, 2) as u64;
     let late = best as u64 + w.margin as u64 <= dep;
-    door::both(door::both(is_fifo, late), tables::trip(t, c, trip, 5) == 0)
+    door::both(
+        door::both(is_fifo, late),
+        tables::trip(tables, c, trip, 5) == 0,
+    )
 }
 
 // A boarding against the best total.
@@ -73,9 +77,9 @@ fn weigh(is_fifo: bool, best: u32, b: FreqBoard) -> Tried
 
 // One trip of a line. One past the table is passed over.
 fn try_trip(
-    t: &[u32],
+    tables: &[u32],
     c: Counts,
-    rows: &[u32],
+    delay_rows: &[u32],
     stop_rows: &[u32],
     w: Terms,
     is_fifo: bool,
@@ -84,31 +88,32 @@ fn try_trip(
     after: u32,
     best: u32,
 ) -> Tried
-    requires { ⌜ Ground (now t) c (now rows) (now «stop_rows») ⌝ ∗ ⌜ after < 134217728 ⌝ }
-    ensures { λ r. ⌜ ((T : Tables) (Q : Query) → Agree T Q (now (t .entry)) c (now (rows .entry)) (now («stop_rows» .entry)) → Asks Q w → r ≡ tried T Q «is_fifo» off after best trip) ⌝ }
+    requires { ⌜ Ground (now tables) c (now «delay_rows») (now «stop_rows») ⌝ ∗ ⌜ after < 134217728 ⌝ }
+    ensures { λ r. ⌜ ((T : Tables) (Q : Query) → Agree T Q (now (tables .entry)) c (now («delay_rows» .entry)) (now («stop_rows» .entry)) → Asks Q w
+        → r ≡ tried T Q «is_fifo» off after best trip) ⌝ }
 {
     if c.trips <= trip {
         return Tried::Next;
     }
-    if tables::trip(t, c, trip, 1) <= off {
+    if tables::trip(tables, c, trip, 1) <= off {
         return Tried::Next;
     }
-    if too_late(t, c, w, is_fifo, trip, off, best) {
+    if too_late(tables, c, w, is_fifo, trip, off, best) {
         return Tried::Stop;
     }
-    let adj = trip_boarding::delay_of(rows, trip as u32);
-    if trip_boarding::barred(t, c, rows, stop_rows, w, adj, trip, off) {
+    let adj = trip_boarding::delay_of(delay_rows, trip as u32);
+    if trip_boarding::barred(tables, c, delay_rows, stop_rows, w, adj, trip, off) {
         return Tried::Next;
     }
-    let b = trip_boarding::board_at(t, c, rows, stop_rows, adj, trip, off, after);
+    let b = trip_boarding::board_at(tables, c, delay_rows, stop_rows, adj, trip, off, after);
     weigh(is_fifo, best, b)
 }
 
 // The trips at k places of `built` from `from` on, one after the other.
 fn resolve_in(
-    t: &[u32],
+    tables: &[u32],
     c: Counts,
-    rows: &[u32],
+    delay_rows: &[u32],
     stop_rows: &[u32],
     built: &[u32],
     w: Terms,
@@ -119,13 +124,26 @@ fn resolve_in(
     after: u32,
     best: u32,
 ) -> Resolved
-    requires { ⌜ Ground (now t) c (now rows) (now «stop_rows») ⌝ ∗ ⌜ after < 134217728 ⌝ ∗ ⌜ from + k ≤ length (now built) ⌝ }
-    ensures { λ r. ⌜ ((T : Tables) (Q : Query) (trip : ℕ → ℕ) (p : ℕ) → Agree T Q (now (t .entry)) c (now (rows .entry)) (now («stop_rows» .entry)) → Asks Q w → TripsAt trip p (now (built .entry)) from k → resolvedOf r ≡ resolveIn T Q «is_fifo» off after best trip k p) ⌝ }
+    requires { ⌜ Ground (now tables) c (now «delay_rows») (now «stop_rows») ⌝ ∗ ⌜ after < 134217728 ⌝ ∗ ⌜ from + k ≤ length (now built) ⌝ }
+    ensures { λ r. ⌜ ((T : Tables) (Q : Query) (trip : ℕ → ℕ) (p : ℕ)
+        → Agree T Q (now (tables .entry)) c (now («delay_rows» .entry)) (now («stop_rows» .entry)) → Asks Q w
+        → TripsAt trip p (now (built .entry)) from k → resolvedOf r ≡ resolveIn T Q «is_fifo» off after best trip k p) ⌝ }
 {
     let mut j: usize = 0;
     while j < k {
         let trip = words::field(built, from + j);
-        let step = try_trip(t, c, rows, stop_rows, w, is_fifo, trip, off, after, best);
+        let step = try_trip(
+            tables,
+            c,
+            delay_rows,
+            stop_rows,
+            w,
+            is_fifo,
+            trip,
+            off,
+            after,
+            best,
+        );
         match step {
             Tried::Next => {
                 j += 1;
@@ -145,7 +163,9 @@ fn resolve_in(
 // The line of a trip; a trip past the table has none.
 fn line_at(c: Counts, built: &[u32], trip: usize) -> usize
     requires { ⌜ c .trips ≤ length (now built) ⌝ }
-    ensures { λ r. ⌜ (r < 4294967296) × (r < 4294967295 → trip < c .trips) ⌝ ∗ ⌜ ((T : Tables) (n : Lined) (work : List ℕ) → T .timetable .trips ≡ c .trips → LinesOf T c n (now (built .entry)) work → r ≡ lineAt T trip) ⌝ }
+    ensures { λ r. ⌜ (r < 4294967296) × (r < 4294967295 → trip < c .trips) ⌝
+        ∗ ⌜ ((T : Tables) (n : Lined) (work : List ℕ) → T .timetable .trips ≡ c .trips → LinesOf T c n (now (built .entry)) work → r
+        ≡ lineAt T trip) ⌝ }
 {
     if c.trips <= trip {
         return 4294967295;
@@ -166,9 +186,9 @@ fn stands(built: &[u32], first: usize, count: usize, p: usize, target: usize) ->
 
 // The target alone.
 fn resolve_alone(
-    t: &[u32],
+    tables: &[u32],
     c: Counts,
-    rows: &[u32],
+    delay_rows: &[u32],
     stop_rows: &[u32],
     w: Terms,
     is_fifo: bool,
@@ -177,14 +197,26 @@ fn resolve_alone(
     after: u32,
     best: u32,
 ) -> Resolved
-    requires { ⌜ Ground (now t) c (now rows) (now «stop_rows») ⌝ ∗ ⌜ after < 134217728 ⌝ }
-    ensures { λ r. ⌜ ((T : Tables) (Q : Query) → Agree T Q (now (t .entry)) c (now (rows .entry)) (now («stop_rows» .entry)) → Asks Q w → resolvedOf r ≡ resolveIn T Q «is_fifo» off after best (λ p. target) (min 1 (Q .settings .lineScan)) 0) ⌝ }
+    requires { ⌜ Ground (now tables) c (now «delay_rows») (now «stop_rows») ⌝ ∗ ⌜ after < 134217728 ⌝ }
+    ensures { λ r. ⌜ ((T : Tables) (Q : Query) → Agree T Q (now (tables .entry)) c (now («delay_rows» .entry)) (now («stop_rows» .entry)) → Asks Q w
+        → resolvedOf r ≡ resolveIn T Q «is_fifo» off after best (λ p. target) (min 1 (Q .settings .lineScan)) 0) ⌝ }
 {
     if w.line_scan == 0 {
         return Resolved::Unresolved;
     }
     let trip = target as usize;
-    let step = try_trip(t, c, rows, stop_rows, w, is_fifo, trip, off, after, best);
+    let step = try_trip(
+        tables,
+        c,
+        delay_rows,
+        stop_rows,
+        w,
+        is_fifo,
+        trip,
+        off,
+        after,
+        best,
+    );
     match step {
         Tried::Next => {
             return Resolved::Unresolved;
@@ -201,9 +233,9 @@ fn resolve_alone(
 // A transfer to a trip of this line: at most line_scan trips of the line from the target's position on, or the target alone
 // where it does not stand there.
 fn resolve_line(
-    t: &[u32],
+    tables: &[u32],
     c: Counts,
-    rows: &[u32],
+    delay_rows: &[u32],
     stop_rows: &[u32],
     built: &[u32],
     work: &[u32],
@@ -215,21 +247,37 @@ fn resolve_line(
     after: u32,
     best: u32,
 ) -> Resolved
-    requires { ⌜ Ground (now t) c (now rows) (now «stop_rows») ⌝ ∗ ⌜ after < 134217728 ⌝ ∗ ⌜ LinesHeld c n (now built) (now work) ⌝ ∗ ⌜ (line < n .lines) × (target < c .trips) ⌝ }
-    ensures { λ r. ⌜ ((T : Tables) (Q : Query) (e : Transfer) → Agree T Q (now (t .entry)) c (now (rows .entry)) (now («stop_rows» .entry)) → Asks Q w → LinesOf T c n (now (built .entry)) (now (work .entry)) → Names e target off → line ≡ lineAt T target → resolvedOf r ≡ resolve T Q e after best) ⌝ }
+    requires { ⌜ Ground (now tables) c (now «delay_rows») (now «stop_rows») ⌝
+        ∗ ⌜ after < 134217728 ⌝
+        ∗ ⌜ LinesHeld c n (now built) (now work) ⌝
+        ∗ ⌜ (line < n .lines) × (target < c .trips) ⌝ }
+    ensures { λ r. ⌜ ((T : Tables) (Q : Query) (e : Transfer) → Agree T Q (now (tables .entry)) c (now («delay_rows» .entry))
+        (now («stop_rows» .entry)) → Asks Q w → LinesOf T c n (now (built .entry)) (now (work .entry)) → Names e target off → line
+        ≡ lineAt T target → resolvedOf r ≡ resolve T Q e after best) ⌝ }
 {
     let is_fifo = words::field(work, n.fifo + line) == 1;
     let first = n.entries + words::field(built, n.runs + line * 2);
     let count = words::field(built, n.runs + line * 2 + 1);
     let p = words::field(work, n.positions + target as usize);
     if !stands(built, first, count, p, target as usize) {
-        return resolve_alone(t, c, rows, stop_rows, w, is_fifo, target, off, after, best);
+        return resolve_alone(
+            tables,
+            c,
+            delay_rows,
+            stop_rows,
+            w,
+            is_fifo,
+            target,
+            off,
+            after,
+            best,
+        );
     }
     let k = words::smaller(count - p, w.line_scan as usize);
     resolve_in(
-        t,
+        tables,
         c,
-        rows,
+        delay_rows,
         stop_rows,
         built,
         w,
@@ -244,9 +292,9 @@ fn resolve_line(
 
 // What a transfer to a trip at an offset leads to, not before `after` and before the best total.
 pub fn resolve(
-    t: &[u32],
+    tables: &[u32],
     c: Counts,
-    rows: &[u32],
+    delay_rows: &[u32],
     stop_rows: &[u32],
     built: &[u32],
     work: &[u32],
@@ -257,17 +305,30 @@ pub fn resolve(
     after: u32,
     best: u32,
 ) -> Resolved
-    requires { ⌜ Ground (now t) c (now rows) (now «stop_rows») ⌝ ∗ ⌜ after < 134217728 ⌝ ∗ ⌜ LinesHeld c n (now built) (now work) ⌝ }
-    ensures { λ r. ⌜ ((T : Tables) (Q : Query) (e : Transfer) → Agree T Q (now (t .entry)) c (now (rows .entry)) (now («stop_rows» .entry)) → Asks Q w → LinesOf T c n (now (built .entry)) (now (work .entry)) → Names e target off → resolvedOf r ≡ resolve T Q e after best) ⌝ }
+    requires { ⌜ Ground (now tables) c (now «delay_rows») (now «stop_rows») ⌝ ∗ ⌜ after < 134217728 ⌝ ∗ ⌜ LinesHeld c n (now built) (now work) ⌝ }
+    ensures { λ r. ⌜ ((T : Tables) (Q : Query) (e : Transfer) → Agree T Q (now (tables .entry)) c (now («delay_rows» .entry))
+        (now («stop_rows» .entry)) → Asks Q w → LinesOf T c n (now (built .entry)) (now (work .entry)) → Names e target off → resolvedOf r
+        ≡ resolve T Q e after best) ⌝ }
 {
     let line = line_at(c, built, target as usize);
     if n.lines <= line {
-        return resolve_alone(t, c, rows, stop_rows, w, false, target, off, after, best);
+        return resolve_alone(
+            tables,
+            c,
+            delay_rows,
+            stop_rows,
+            w,
+            false,
+            target,
+            off,
+            after,
+            best,
+        );
     }
     resolve_line(
-        t,
+        tables,
         c,
-        rows,
+        delay_rows,
         stop_rows,
         built,
         work,

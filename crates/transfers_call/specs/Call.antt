@@ -52,7 +52,7 @@ abbrev pub transferAreas : List ℕ → List ℕ → TransferAreas
 transferAreas a b = record { area = a; transferRuns = b }
 
 -- 2: is every lent slice exactly as long as the counts say? (The area may have any length.)
-unfoldable pub transferSizesOk : List ℕ → Counts → ℕ → ℕ → ℕ → ℕ → ℕ → Bool
+unfoldable pub transferSizesOk : (t : List ℕ) (c : Counts) (d lines runs rows transferRuns : ℕ) → Bool
 transferSizesOk t c d lines runs rows transferRuns =
     (eqb lines (c .trips) && eqb runs (c .stops * 2)) && (eqb rows (d * 2) && eqb transferRuns (eventsBefore (timetable t c) (c .trips) * 2))
 

@@ -1,6 +1,7 @@
-// transfers: the transfers of every stop event (document 01, item 8; the Rust's compute_trip_transfers).
-// Specs: the call, its questions in order and what it answers and writes (Call); the same of the numbers that the code sorts (Settled,
-// inner). The transfers of an event, over any timetable, and as the area holds them: `line_transfers` specs/Transfers.
+// transfers_call: the call that writes the transfers of every stop event (document 01, item 8; the Rust's compute_trip_transfers).
+// Place: a call crate; only `exports`, the promise and programs use it.
+// Specs: the call, its questions in order and what it answers and writes (Call, a claim); the same of the numbers that the code sorts (Settled,
+// inner). The transfers of an event, over any timetable, and as the area holds them: `event_transfers` specs/Transfers.
 // Proves: the call's outcome is the defined one on every input. In proofs/Laws: what each transfer is, and that an event's
 // run, read out of the area, is its list of transfers.
 // Assumes nothing.
@@ -14,7 +15,8 @@ ghost use Rattle.tables.specs.Sane.{CountsOk, SlicesOk, Sane};
 ghost use Rattle.departures.specs.Listed.{RunsListed, RowKnown, RowsKnown};
 ghost use Rattle.event_transfers.specs.Packed.{packLine, packedLineAt, prepared, SortedRuns};
 ghost use Rattle.transfers_call.specs.Settled.{settledKeys};
-ghost use Rattle.transfers_call.specs.Call.{transferLent, inputOf, transferAreas, linesOk, transferSizesOk, transfersVerdict, roomOk, transfersSettled, transfersOutcome, transfersOutcomeOf, TransfersAdmitted, LinesBelow};
+ghost use Rattle.transfers_call.specs.Call.{transferLent, inputOf, transferAreas, linesOk, transferSizesOk, transfersVerdict, roomOk};
+ghost use Rattle.transfers_call.specs.Call.{transfersSettled, transfersOutcome, transfersOutcomeOf, TransfersAdmitted, LinesBelow};
 use departures::DepartureRow;
 use tables::Counts;
 
@@ -35,45 +37,57 @@ fn room_ok(n: usize, area: usize) -> bool
 // The transfers, or 7, from the sorted departures. Where there is room for one to each line that has a departure left, they
 // are written at once; else they are first counted.
 fn settle(
-    t: &[u32],
+    tables: &[u32],
     c: Counts,
     runs: &[u32],
     d: usize,
     work: &[u64],
     ends: &[u64],
     area: &mut [u32],
-    evs: &mut [u32],
+    transfer_runs: &mut [u32],
     time: usize,
 ) -> Built
-    requires { ⌜ Sane (now t) c ⌝ ∗ ⌜ RunsListed c (now runs) d ⌝ ∗ ⌜ SortedRuns c (now runs) (now work) (now ends) d ⌝ ∗ ⌜ time ≤ 3600 ⌝ }
-    ensures { λ r. ⌜ transfersOutcomeOf r (transferAreas (now (area .exit)) (now (evs .exit))) ≡ settledKeys (prepared (now (t .entry)) c (now (runs .entry)) (now (work .entry)) time) (transferAreas (now (area .entry)) (now (evs .entry))) ⌝ }
+    requires { ⌜ Sane (now tables) c ⌝ ∗ ⌜ RunsListed c (now runs) d ⌝ ∗ ⌜ SortedRuns c (now runs) (now work) (now ends) d ⌝ ∗ ⌜ time ≤ 3600 ⌝ }
+    ensures { λ r. ⌜ transfersOutcomeOf r (transferAreas (now (area .exit)) (now («transfer_runs» .exit)))
+        ≡ settledKeys (prepared (now (tables .entry)) c (now (runs .entry)) (now (work .entry)) time)
+        (transferAreas (now (area .entry)) (now («transfer_runs» .entry))) ⌝ }
 {
-    let most = event_transfers::most_all(t, c, runs, d, work, ends, time);
+    let most = event_transfers::most_all(tables, c, runs, d, work, ends, time);
     if room_ok(most, area.len()) {
-        let m = event_transfers::all_events(t, c, runs, d, work, ends, area, evs, time);
+        let m = event_transfers::all_events(
+            tables,
+            c,
+            runs,
+            d,
+            work,
+            ends,
+            area,
+            transfer_runs,
+            time,
+        );
         return Built::Rows(m as u32);
     }
-    let n = event_transfers::total(t, c, runs, d, work, ends, time);
+    let n = event_transfers::total(tables, c, runs, d, work, ends, time);
     if !room_ok(n, area.len()) {
         return Built::Refused(7);
     }
-    event_transfers::all_events(t, c, runs, d, work, ends, area, evs, time);
+    event_transfers::all_events(tables, c, runs, d, work, ends, area, transfer_runs, time);
     Built::Rows(n as u32)
 }
 
 // A row as one number: its line and its departure above, its trip and offset below.
-fn pack_line(t: &[u32], c: Counts, lines: &[u32], r: DepartureRow) -> u64
-    requires { ⌜ Sane (now t) c ⌝ ∗ ⌜ RowKnown (now t) c r ⌝ ∗ ⌜ length (now lines) ≡ c .trips ⌝ ∗ ⌜ getD (now lines) (r .trip) 0 < 4096 ⌝ }
-    ensures { λ x. ⌜ x ≡ packLine (now (t .entry)) c (now (lines .entry)) r ⌝ }
+fn pack_line(tables: &[u32], c: Counts, lines: &[u32], r: DepartureRow) -> u64
+    requires { ⌜ Sane (now tables) c ⌝ ∗ ⌜ RowKnown (now tables) c r ⌝ ∗ ⌜ length (now lines) ≡ c .trips ⌝ ∗ ⌜ getD (now lines) (r .trip) 0 < 4096 ⌝ }
+    ensures { λ x. ⌜ x ≡ packLine (now (tables .entry)) c (now (lines .entry)) r ⌝ }
 {
     let line = words::field(lines, r.trip);
-    let at = tables::trip(t, c, r.trip, 0) + r.offset;
-    let departure = tables::time(t, c, at, 2);
+    let at = tables::trip(tables, c, r.trip, 0) + r.offset;
+    let departure = tables::time(tables, c, at, 2);
     ((line * 1048576 + departure) * 4294967296 + r.trip * 65536 + r.offset) as u64
 }
 
 fn pack_lines(
-    t: &[u32],
+    tables: &[u32],
     c: Counts,
     lines: &[u32],
     rows: &[u32],
@@ -81,19 +95,22 @@ fn pack_lines(
     n: usize,
     work: &mut [u64],
 )
-    requires { ⌜ Sane (now t) c ⌝ ∗ ⌜ RowsKnown (now t) c (now rows) d ⌝ ∗ ⌜ LinesBelow (now lines) (c .trips) n ⌝ ∗ ⌜ length (now work) ≡ d ⌝ }
-    ensures { λ _. ⌜ now (work .exit) ≡ tab (packedLineAt (now (t .entry)) c (now (lines .entry)) (now (rows .entry))) d ⌝ }
+    requires { ⌜ Sane (now tables) c ⌝
+        ∗ ⌜ RowsKnown (now tables) c (now rows) d ⌝
+        ∗ ⌜ LinesBelow (now lines) (c .trips) n ⌝
+        ∗ ⌜ length (now work) ≡ d ⌝ }
+    ensures { λ _. ⌜ now (work .exit) ≡ tab (packedLineAt (now (tables .entry)) c (now (lines .entry)) (now (rows .entry))) d ⌝ }
 {
     let mut k: usize = 0;
     while k < work.len() {
-        work[k] = pack_line(t, c, lines, departures::departure_row(rows, k));
+        work[k] = pack_line(tables, c, lines, departures::departure_row(rows, k));
         k += 1;
     }
 }
 
 // Question 2: is each slice as long as the counts say?
 fn sizes_ok(
-    t: &[u32],
+    tables: &[u32],
     c: Counts,
     d: usize,
     lines: usize,
@@ -101,10 +118,10 @@ fn sizes_ok(
     rows: usize,
     evs: usize,
 ) -> bool
-    requires { ⌜ CountsOk c ⌝ ∗ ⌜ SlicesOk (now t) c ⌝ ∗ ⌜ d ≤ 65536 ⌝ }
-    ensures { λ r. ⌜ r ≡ transferSizesOk (now (t .entry)) c d lines runs rows evs ⌝ }
+    requires { ⌜ CountsOk c ⌝ ∗ ⌜ SlicesOk (now tables) c ⌝ ∗ ⌜ d ≤ 65536 ⌝ }
+    ensures { λ r. ⌜ r ≡ transferSizesOk (now (tables .entry)) c d lines runs rows evs ⌝ }
 {
-    let events = event_transfers::event_count(t, c);
+    let events = event_transfers::event_count(tables, c);
     door::both(
         door::both(lines == c.trips, runs == c.stops * 2),
         door::both(rows == d * 2, evs == events * 2),
@@ -113,7 +130,7 @@ fn sizes_ok(
 
 // First the timetable's own slice, whose counts the others are measured by.
 fn lent_ok(
-    t: &[u32],
+    tables: &[u32],
     c: Counts,
     d: usize,
     lines: usize,
@@ -122,12 +139,12 @@ fn lent_ok(
     evs: usize,
 ) -> bool
     requires { ⌜ CountsOk c ⌝ ∗ ⌜ d ≤ 65536 ⌝ }
-    ensures { λ r. ⌜ r ≡ (slicesOk (now (t .entry)) c && transferSizesOk (now (t .entry)) c d lines runs rows evs) ⌝ }
+    ensures { λ r. ⌜ r ≡ (slicesOk (now (tables .entry)) c && transferSizesOk (now (tables .entry)) c d lines runs rows evs) ⌝ }
 {
-    if !tables::slices_ok(t, c) {
+    if !tables::slices_ok(tables, c) {
         return false;
     }
-    sizes_ok(t, c, d, lines, runs, rows, evs)
+    sizes_ok(tables, c, d, lines, runs, rows, evs)
 }
 
 // Question 4: is each trip's line below the count?
@@ -146,7 +163,7 @@ fn lines_ok(lines: &[u32], line_count: usize) -> bool
 
 // The questions 1 to 6: the number of the first that is answered no, or 0.
 fn questions(
-    t: &[u32],
+    tables: &[u32],
     c: Counts,
     line_count: usize,
     lines: &[u32],
@@ -156,7 +173,8 @@ fn questions(
     time: usize,
     evs: usize,
 ) -> u32
-    ensures { λ r. ⌜ r ≡ transfersVerdict (transferLent (now (t .entry)) c «line_count» (now (lines .entry)) d (now (runs .entry)) (now (rows .entry)) time) evs ⌝ }
+    ensures { λ r. ⌜ r ≡ transfersVerdict (transferLent (now (tables .entry)) c «line_count» (now (lines .entry)) d (now (runs .entry))
+        (now (rows .entry)) time) evs ⌝ }
 {
     if !door::both(
         tables::counts_ok(c),
@@ -164,25 +182,28 @@ fn questions(
     ) {
         return 1;
     }
-    if !lent_ok(t, c, d, lines.len(), runs.len(), rows.len(), evs) {
+    if !lent_ok(tables, c, d, lines.len(), runs.len(), rows.len(), evs) {
         return 2;
     }
-    if !door::both(tables::runs_ok(t, c), departures::stop_runs_ok(runs, c, d)) {
+    if !door::both(
+        tables::runs_ok(tables, c),
+        departures::stop_runs_ok(runs, c, d),
+    ) {
         return 3;
     }
     if !door::both(
-        tables::numbers_ok(t, c),
+        tables::numbers_ok(tables, c),
         door::both(
             lines_ok(lines, line_count),
-            departures::listed_ok(t, c, runs, rows, d),
+            departures::listed_ok(tables, c, runs, rows, d),
         ),
     ) {
         return 4;
     }
-    if !door::both(tables::ranges_ok(t, c), time <= 3600) {
+    if !door::both(tables::ranges_ok(tables, c), time <= 3600) {
         return 5;
     }
-    if !tables::order_ok(t, c) {
+    if !tables::order_ok(tables, c) {
         return 6;
     }
     0
@@ -190,7 +211,7 @@ fn questions(
 
 // What an admitted call writes. The sort works in `work` and `other`, of d numbers each.
 fn build_in(
-    t: &[u32],
+    tables: &[u32],
     c: Counts,
     line_count: usize,
     lines: &[u32],
@@ -199,22 +220,27 @@ fn build_in(
     rows: &[u32],
     time: usize,
     area: &mut [u32],
-    evs: &mut [u32],
+    transfer_runs: &mut [u32],
     work: &mut [u64],
     other: &mut [u64],
 ) -> Built
-    requires { ⌜ TransfersAdmitted (transferLent (now t) c «line_count» (now lines) d (now runs) (now rows) time) (length (now evs)) ⌝ ∗ ⌜ length (now work) ≡ d ⌝ ∗ ⌜ length (now other) ≡ d ⌝ }
-    ensures { λ r. ⌜ transfersOutcomeOf r (transferAreas (now (area .exit)) (now (evs .exit))) ≡ transfersSettled (inputOf (transferLent (now (t .entry)) c «line_count» (now (lines .entry)) d (now (runs .entry)) (now (rows .entry)) time)) (transferAreas (now (area .entry)) (now (evs .entry))) ⌝ }
+    requires { ⌜ TransfersAdmitted (transferLent (now tables) c «line_count» (now lines) d (now runs) (now rows) time)
+        (length (now «transfer_runs»)) ⌝
+        ∗ ⌜ length (now work) ≡ d ⌝
+        ∗ ⌜ length (now other) ≡ d ⌝ }
+    ensures { λ r. ⌜ transfersOutcomeOf r (transferAreas (now (area .exit)) (now («transfer_runs» .exit)))
+        ≡ transfersSettled (inputOf (transferLent (now (tables .entry)) c «line_count» (now (lines .entry)) d (now (runs .entry))
+        (now (rows .entry)) time)) (transferAreas (now (area .entry)) (now («transfer_runs» .entry))) ⌝ }
 {
-    pack_lines(t, c, lines, rows, d, line_count, work);
+    pack_lines(tables, c, lines, rows, d, line_count, work);
     departures::sort_stops(c, runs, d, work, other);
     event_transfers::line_ends(work, other);
-    settle(t, c, runs, d, work, other, area, evs, time)
+    settle(tables, c, runs, d, work, other, area, transfer_runs, time)
 }
 
 // The same in the first d numbers of two longer slices.
 fn build(
-    t: &[u32],
+    tables: &[u32],
     c: Counts,
     line_count: usize,
     lines: &[u32],
@@ -223,15 +249,20 @@ fn build(
     rows: &[u32],
     time: usize,
     area: &mut [u32],
-    evs: &mut [u32],
+    transfer_runs: &mut [u32],
     work: &mut [u64],
     other: &mut [u64],
 ) -> Built
-    requires { ⌜ TransfersAdmitted (transferLent (now t) c «line_count» (now lines) d (now runs) (now rows) time) (length (now evs)) ⌝ ∗ ⌜ d ≤ length (now work) ⌝ ∗ ⌜ d ≤ length (now other) ⌝ }
-    ensures { λ r. ⌜ transfersOutcomeOf r (transferAreas (now (area .exit)) (now (evs .exit))) ≡ transfersSettled (inputOf (transferLent (now (t .entry)) c «line_count» (now (lines .entry)) d (now (runs .entry)) (now (rows .entry)) time)) (transferAreas (now (area .entry)) (now (evs .entry))) ⌝ }
+    requires { ⌜ TransfersAdmitted (transferLent (now tables) c «line_count» (now lines) d (now runs) (now rows) time)
+        (length (now «transfer_runs»)) ⌝
+        ∗ ⌜ d ≤ length (now work) ⌝
+        ∗ ⌜ d ≤ length (now other) ⌝ }
+    ensures { λ r. ⌜ transfersOutcomeOf r (transferAreas (now (area .exit)) (now («transfer_runs» .exit)))
+        ≡ transfersSettled (inputOf (transferLent (now (tables .entry)) c «line_count» (now (lines .entry)) d (now (runs .entry))
+        (now (rows .entry)) time)) (transferAreas (now (area .entry)) (now («transfer_runs» .entry))) ⌝ }
 {
     build_in(
-        t,
+        tables,
         c,
         line_count,
         lines,
@@ -240,7 +271,7 @@ fn build(
         rows,
         time,
         area,
-        evs,
+        transfer_runs,
         &mut work[..d],
         &mut other[..d],
     )
@@ -251,7 +282,7 @@ fn build(
 // offset, time, pattern 0) and keeps its words past the last one; `transfer_runs` takes a pair (first, count) for each stop
 // time of each trip, trip by trip. A refusal leaves both as they came.
 pub fn compute_trip_transfers(
-    t: &[u32],
+    tables: &[u32],
     c: Counts,
     line_count: usize,
     lines: &[u32],
@@ -262,10 +293,12 @@ pub fn compute_trip_transfers(
     area: &mut [u32],
     transfer_runs: &mut [u32],
 ) -> Built
-    ensures { λ r. ⌜ transfersOutcomeOf r (transferAreas (now (area .exit)) (now («transfer_runs» .exit))) ≡ transfersOutcome (transferLent (now (t .entry)) c «line_count» (now (lines .entry)) d (now (runs .entry)) (now (rows .entry)) «transfer_time») (transferAreas (now (area .entry)) (now («transfer_runs» .entry))) ⌝ }
+    ensures { λ r. ⌜ transfersOutcomeOf r (transferAreas (now (area .exit)) (now («transfer_runs» .exit)))
+        ≡ transfersOutcome (transferLent (now (tables .entry)) c «line_count» (now (lines .entry)) d (now (runs .entry)) (now (rows .entry))
+        «transfer_time») (transferAreas (now (area .entry)) (now («transfer_runs» .entry))) ⌝ }
 {
     let v = questions(
-        t,
+        tables,
         c,
         line_count,
         lines,
@@ -281,7 +314,7 @@ pub fn compute_trip_transfers(
     let mut work = [0u64; 65536];
     let mut other = [0u64; 65536];
     build(
-        t,
+        tables,
         c,
         line_count,
         lines,

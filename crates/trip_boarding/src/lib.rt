@@ -1,7 +1,7 @@
-// boarding: which trips a query permits, the delays of a stop time, and boarding a trip; these only read.
-// Delay rows and stop rows are lent as two slices of their own; lines' tables in `built` and positions and FIFO flags in `work`
-// by where they begin (`Lined`).
-// Specs: what is read, and which tables and queries agree with it (Reads); one trip of a line tried (Resolving; crate `resolving`).
+// trip_boarding: which trips a query permits, the delays of a stop time, and boarding a trip; these only read.
+// Delay rows and stop rows are two slices of their own.
+// Place: the search.
+// Specs (inner): what is read, and which tables and queries agree with it (Reads); the boarding of a frequency trip (Frequency).
 // Proves: each function equal to the model's definition of the same name, for all tables and queries that agree.
 // Assumes nothing.
 ghost use mathlib.Core.Path.{_≡_};
@@ -38,148 +38,166 @@ fn mode_wanted(modes: u32, mode: u32) -> bool
 }
 
 // Active, not excluded, and fit for a wheelchair where one is asked for.
-fn usable(t: &[u32], c: Counts, w: Terms, i: usize) -> bool
-    requires { ⌜ Sane (now t) c ⌝ ∗ ⌜ i < c .trips ⌝ }
-    ensures { λ r. ⌜ ((T : Tables) (Q : Query) → T .timetable ≡ timetable (now (t .entry)) c → Asks Q w → r ≡ usable T Q i) ⌝ }
+fn usable(tables: &[u32], c: Counts, w: Terms, i: usize) -> bool
+    requires { ⌜ Sane (now tables) c ⌝ ∗ ⌜ i < c .trips ⌝ }
+    ensures { λ r. ⌜ ((T : Tables) (Q : Query) → T .timetable ≡ timetable (now (tables .entry)) c → Asks Q w → r ≡ usable T Q i) ⌝ }
 {
-    let active = door::both(tables::trip(t, c, i, 6) == 1, tables::trip(t, c, i, 7) == 0);
-    let barred = door::both(w.wheelchair, tables::trip(t, c, i, 3) == 2);
+    let active = door::both(
+        tables::trip(tables, c, i, 6) == 1,
+        tables::trip(tables, c, i, 7) == 0,
+    );
+    let barred = door::both(w.wheelchair, tables::trip(tables, c, i, 3) == 2);
     door::both(active, !barred)
 }
 
 // Usable, and of a wanted mode.
-pub fn permitted(t: &[u32], c: Counts, w: Terms, i: usize) -> bool
-    requires { ⌜ Sane (now t) c ⌝ ∗ ⌜ i < c .trips ⌝ }
-    ensures { λ r. ⌜ ((T : Tables) (Q : Query) → T .timetable ≡ timetable (now (t .entry)) c → Asks Q w → r ≡ permitted T Q i) ⌝ }
+pub fn permitted(tables: &[u32], c: Counts, w: Terms, i: usize) -> bool
+    requires { ⌜ Sane (now tables) c ⌝ ∗ ⌜ i < c .trips ⌝ }
+    ensures { λ r. ⌜ ((T : Tables) (Q : Query) → T .timetable ≡ timetable (now (tables .entry)) c → Asks Q w → r ≡ permitted T Q i) ⌝ }
 {
-    let mode = tables::trip(t, c, i, 2) as u32;
-    door::both(usable(t, c, w, i), mode_wanted(w.modes, mode))
+    let mode = tables::trip(tables, c, i, 2) as u32;
+    door::both(usable(tables, c, w, i), mode_wanted(w.modes, mode))
 }
 
 // Delays
 
 // The delay row of a trip.
-pub fn delay_of(rows: &[u32], trip: u32) -> Found
-    requires { ⌜ DelayRows (delayRowCount (now rows)) (delayRowAt (now rows)) ⌝ }
-    ensures { λ r. ⌜ Known (now (rows .entry)) r ⌝ ∗ ⌜ ((Q : Query) (stops : List ℕ) → Q .delays ≡ delayTables (now (rows .entry)) stops → hitOf r ≡ delayOf Q trip) ⌝ }
+pub fn delay_of(delay_rows: &[u32], trip: u32) -> Found
+    requires { ⌜ DelayRows (delayRowCount (now «delay_rows»)) (delayRowAt (now «delay_rows»)) ⌝ }
+    ensures { λ r. ⌜ Known (now («delay_rows» .entry)) r ⌝
+        ∗ ⌜ ((Q : Query) (stops : List ℕ) → Q .delays ≡ delayTables (now («delay_rows» .entry)) stops → hitOf r ≡ delayOf Q trip) ⌝ }
 {
-    delay_lookup::delay_row(rows, trip)
+    delay_lookup::delay_row(delay_rows, trip)
 }
 
 // Field k of a trip's stop time.
-pub fn event_word(t: &[u32], c: Counts, trip: usize, off: usize, k: usize) -> u32
-    requires { ⌜ Sane (now t) c ⌝ ∗ ⌜ Event (now t) c trip off ⌝ ∗ ⌜ k < 6 ⌝ }
-    ensures { λ r. ⌜ r ≡ timeOf (now (t .entry)) (firstOf (now (t .entry)) c trip + off) k ⌝ }
+pub fn event_word(tables: &[u32], c: Counts, trip: usize, off: usize, k: usize) -> u32
+    requires { ⌜ Sane (now tables) c ⌝ ∗ ⌜ Event (now tables) c trip off ⌝ ∗ ⌜ k < 6 ⌝ }
+    ensures { λ r. ⌜ r ≡ timeOf (now (tables .entry)) (firstOf (now (tables .entry)) c trip + off) k ⌝ }
 {
-    tables::time(t, c, tables::trip(t, c, trip, 0) + off, k) as u32
+    tables::time(tables, c, tables::trip(tables, c, trip, 0) + off, k) as u32
 }
 
 // What the delay rows say of a trip's stop time, where the trip's delay row is this.
 fn delay_at(
-    t: &[u32],
+    tables: &[u32],
     c: Counts,
-    rows: &[u32],
+    delay_rows: &[u32],
     stop_rows: &[u32],
     adj: Found,
     trip: usize,
     off: usize,
 ) -> StopDelay
-    requires { ⌜ Ground (now t) c (now rows) (now «stop_rows») ⌝ ∗ ⌜ Known (now rows) adj ⌝ ∗ ⌜ Event (now t) c trip off ⌝ }
-    ensures { λ r. ⌜ Bounded r ⌝ ∗ ⌜ ((T : Tables) (Q : Query) → Agree T Q (now (t .entry)) c (now (rows .entry)) (now («stop_rows» .entry)) → r ≡ delayAt T Q (hitOf adj) trip off) ⌝ }
+    requires { ⌜ Ground (now tables) c (now «delay_rows») (now «stop_rows») ⌝ ∗ ⌜ Known (now «delay_rows») adj ⌝ ∗ ⌜ Event (now tables) c trip off ⌝ }
+    ensures { λ r. ⌜ Bounded r ⌝
+        ∗ ⌜ ((T : Tables) (Q : Query) → Agree T Q (now (tables .entry)) c (now («delay_rows» .entry)) (now («stop_rows» .entry)) → r
+        ≡ delayAt T Q (hitOf adj) trip off) ⌝ }
 {
-    let sequence = event_word(t, c, trip, off, 3);
+    let sequence = event_word(tables, c, trip, off, 3);
     match adj {
-        Found::At(i) => delay_lookup::stop_delay(rows, stop_rows, i, sequence),
+        Found::At(i) => delay_lookup::stop_delay(delay_rows, stop_rows, i, sequence),
         Found::Nothing => stop_delay::no_delay(),
     }
 }
 
 // Is the stop skipped?
 pub fn skipped(
-    t: &[u32],
+    tables: &[u32],
     c: Counts,
-    rows: &[u32],
+    delay_rows: &[u32],
     stop_rows: &[u32],
     adj: Found,
     trip: usize,
     off: usize,
 ) -> bool
-    requires { ⌜ Ground (now t) c (now rows) (now «stop_rows») ⌝ ∗ ⌜ Known (now rows) adj ⌝ ∗ ⌜ Event (now t) c trip off ⌝ }
-    ensures { λ r. ⌜ ((T : Tables) (Q : Query) → Agree T Q (now (t .entry)) c (now (rows .entry)) (now («stop_rows» .entry)) → r ≡ skipped T Q (hitOf adj) trip off) ⌝ }
+    requires { ⌜ Ground (now tables) c (now «delay_rows») (now «stop_rows») ⌝ ∗ ⌜ Known (now «delay_rows») adj ⌝ ∗ ⌜ Event (now tables) c trip off ⌝ }
+    ensures { λ r. ⌜ ((T : Tables) (Q : Query) → Agree T Q (now (tables .entry)) c (now («delay_rows» .entry)) (now («stop_rows» .entry)) → r
+        ≡ skipped T Q (hitOf adj) trip off) ⌝ }
 {
-    stop_delay::is_skipped(delay_at(t, c, rows, stop_rows, adj, trip, off))
+    stop_delay::is_skipped(delay_at(tables, c, delay_rows, stop_rows, adj, trip, off))
 }
 
 // The effective departure of a stop time.
 fn departure_now(
-    t: &[u32],
+    tables: &[u32],
     c: Counts,
-    rows: &[u32],
+    delay_rows: &[u32],
     stop_rows: &[u32],
     adj: Found,
     trip: usize,
     off: usize,
 ) -> u32
-    requires { ⌜ Ground (now t) c (now rows) (now «stop_rows») ⌝ ∗ ⌜ Known (now rows) adj ⌝ ∗ ⌜ Event (now t) c trip off ⌝ }
-    ensures { λ r. ⌜ r ≤ 2097150 ⌝ ∗ ⌜ ((T : Tables) (Q : Query) → Agree T Q (now (t .entry)) c (now (rows .entry)) (now («stop_rows» .entry)) → r ≡ departureNow T Q (hitOf adj) trip off) ⌝ }
+    requires { ⌜ Ground (now tables) c (now «delay_rows») (now «stop_rows») ⌝ ∗ ⌜ Known (now «delay_rows») adj ⌝ ∗ ⌜ Event (now tables) c trip off ⌝ }
+    ensures { λ r. ⌜ r ≤ 2097150 ⌝
+        ∗ ⌜ ((T : Tables) (Q : Query) → Agree T Q (now (tables .entry)) c (now («delay_rows» .entry)) (now («stop_rows» .entry)) → r
+        ≡ departureNow T Q (hitOf adj) trip off) ⌝ }
 {
-    let d = delay_at(t, c, rows, stop_rows, adj, trip, off);
-    stop_delay::rt_effective_dep_s(event_word(t, c, trip, off, 2), d)
+    let d = delay_at(tables, c, delay_rows, stop_rows, adj, trip, off);
+    stop_delay::rt_effective_dep_s(event_word(tables, c, trip, off, 2), d)
 }
 
 // The effective arrival of a stop time on a ride with this shift.
 pub fn arrival_now(
-    t: &[u32],
+    tables: &[u32],
     c: Counts,
-    rows: &[u32],
+    delay_rows: &[u32],
     stop_rows: &[u32],
     adj: Found,
     shift: u32,
     trip: usize,
     off: usize,
 ) -> u32
-    requires { ⌜ Ground (now t) c (now rows) (now «stop_rows») ⌝ ∗ ⌜ Known (now rows) adj ⌝ ∗ ⌜ Event (now t) c trip off ⌝ ∗ ⌜ sizeOf shift ≤ timeLimit ⌝ }
-    ensures { λ r. ⌜ r ≤ 2097150 ⌝ ∗ ⌜ ((T : Tables) (Q : Query) → Agree T Q (now (t .entry)) c (now (rows .entry)) (now («stop_rows» .entry)) → r ≡ arrivalNow T Q (hitOf adj) shift trip off) ⌝ }
+    requires { ⌜ Ground (now tables) c (now «delay_rows») (now «stop_rows») ⌝
+        ∗ ⌜ Known (now «delay_rows») adj ⌝
+        ∗ ⌜ Event (now tables) c trip off ⌝
+        ∗ ⌜ sizeOf shift ≤ timeLimit ⌝ }
+    ensures { λ r. ⌜ r ≤ 2097150 ⌝
+        ∗ ⌜ ((T : Tables) (Q : Query) → Agree T Q (now (tables .entry)) c (now («delay_rows» .entry)) (now («stop_rows» .entry)) → r
+        ≡ arrivalNow T Q (hitOf adj) shift trip off) ⌝ }
 {
-    let d = delay_at(t, c, rows, stop_rows, adj, trip, off);
-    stop_delay::rt_effective_arr_s(event_word(t, c, trip, off, 1), shift, d)
+    let d = delay_at(tables, c, delay_rows, stop_rows, adj, trip, off);
+    stop_delay::rt_effective_arr_s(event_word(tables, c, trip, off, 1), shift, d)
 }
 
 // Boarding
 
 // The earliest run of a frequency trip that leaves a stop time, whose effective departure is dep, not before `after`.
-fn freq_board_at(t: &[u32], c: Counts, trip: usize, dep: u32, after: u32) -> FreqBoard
-    requires { ⌜ Sane (now t) c ⌝ ∗ ⌜ trip < c .trips ⌝ ∗ ⌜ dep ≤ 2097150 ⌝ ∗ ⌜ after < 134217728 ⌝ }
-    ensures { λ r. ⌜ r ≡ freqBoardAt (timetable (now (t .entry)) c) trip dep after ⌝ }
+fn freq_board_at(tables: &[u32], c: Counts, trip: usize, dep: u32, after: u32) -> FreqBoard
+    requires { ⌜ Sane (now tables) c ⌝ ∗ ⌜ trip < c .trips ⌝ ∗ ⌜ dep ≤ 2097150 ⌝ ∗ ⌜ after < 134217728 ⌝ }
+    ensures { λ r. ⌜ r ≡ freqBoardAt (timetable (now (tables .entry)) c) trip dep after ⌝ }
 {
-    let base = event_word(t, c, trip, 0, 2);
-    let from = c.times * 6 + c.trips * 8 + tables::trip(t, c, trip, 4) * 3;
-    let end = from + tables::trip(t, c, trip, 5) * 3;
-    frequency::earliest_freq_board(&t[from..end], base, dep, after)
+    let base = event_word(tables, c, trip, 0, 2);
+    let from = c.times * 6 + c.trips * 8 + tables::trip(tables, c, trip, 4) * 3;
+    let end = from + tables::trip(tables, c, trip, 5) * 3;
+    frequency::earliest_freq_board(&tables[from..end], base, dep, after)
 }
 
 // Boarding a trip at an offset, not before `after`.
 pub fn board_at(
-    t: &[u32],
+    tables: &[u32],
     c: Counts,
-    rows: &[u32],
+    delay_rows: &[u32],
     stop_rows: &[u32],
     adj: Found,
     trip: usize,
     off: usize,
     after: u32,
 ) -> FreqBoard
-    requires { ⌜ Ground (now t) c (now rows) (now «stop_rows») ⌝ ∗ ⌜ Known (now rows) adj ⌝ ∗ ⌜ Event (now t) c trip off ⌝ ∗ ⌜ after < 134217728 ⌝ }
-    ensures { λ r. ⌜ ((T : Tables) (Q : Query) → Agree T Q (now (t .entry)) c (now (rows .entry)) (now («stop_rows» .entry)) → r ≡ boardAt T Q (hitOf adj) trip off after) ⌝ }
+    requires { ⌜ Ground (now tables) c (now «delay_rows») (now «stop_rows») ⌝
+        ∗ ⌜ Known (now «delay_rows») adj ⌝
+        ∗ ⌜ Event (now tables) c trip off ⌝
+        ∗ ⌜ after < 134217728 ⌝ }
+    ensures { λ r. ⌜ ((T : Tables) (Q : Query) → Agree T Q (now (tables .entry)) c (now («delay_rows» .entry)) (now («stop_rows» .entry)) → r
+        ≡ boardAt T Q (hitOf adj) trip off after) ⌝ }
 {
-    let dep = departure_now(t, c, rows, stop_rows, adj, trip, off);
-    if tables::trip(t, c, trip, 5) != 0 {
-        return freq_board_at(t, c, trip, dep, after);
+    let dep = departure_now(tables, c, delay_rows, stop_rows, adj, trip, off);
+    if tables::trip(tables, c, trip, 5) != 0 {
+        return freq_board_at(tables, c, trip, dep, after);
     }
     if dep < after {
         return FreqBoard::Nothing;
     }
-    let planned = event_word(t, c, trip, off, 2);
+    let planned = event_word(tables, c, trip, off, 2);
     FreqBoard::Board(BoardedRun {
         departure: dep,
         time_shift_s: signed::difference(dep, planned),
@@ -190,18 +208,25 @@ pub fn board_at(
 
 // Is the trip not usable, without pickup at the offset, or skipping it? Modes are not asked.
 pub fn barred(
-    t: &[u32],
+    tables: &[u32],
     c: Counts,
-    rows: &[u32],
+    delay_rows: &[u32],
     stop_rows: &[u32],
     w: Terms,
     adj: Found,
     trip: usize,
     off: usize,
 ) -> bool
-    requires { ⌜ Ground (now t) c (now rows) (now «stop_rows») ⌝ ∗ ⌜ Known (now rows) adj ⌝ ∗ ⌜ Event (now t) c trip off ⌝ }
-    ensures { λ r. ⌜ ((T : Tables) (Q : Query) → Agree T Q (now (t .entry)) c (now (rows .entry)) (now («stop_rows» .entry)) → Asks Q w → r ≡ ((not (usable T Q trip) || noPickup T trip off) || skipped T Q (hitOf adj) trip off)) ⌝ }
+    requires { ⌜ Ground (now tables) c (now «delay_rows») (now «stop_rows») ⌝ ∗ ⌜ Known (now «delay_rows») adj ⌝ ∗ ⌜ Event (now tables) c trip off ⌝ }
+    ensures { λ r. ⌜ ((T : Tables) (Q : Query) → Agree T Q (now (tables .entry)) c (now («delay_rows» .entry)) (now («stop_rows» .entry)) → Asks Q w
+        → r ≡ ((not (usable T Q trip) || noPickup T trip off) || skipped T Q (hitOf adj) trip off)) ⌝ }
 {
-    let unfit = door::either(!usable(t, c, w, trip), event_word(t, c, trip, off, 4) == 1);
-    door::either(unfit, skipped(t, c, rows, stop_rows, adj, trip, off))
+    let unfit = door::either(
+        !usable(tables, c, w, trip),
+        event_word(tables, c, trip, off, 4) == 1,
+    );
+    door::either(
+        unfit,
+        skipped(tables, c, delay_rows, stop_rows, adj, trip, off),
+    )
 }

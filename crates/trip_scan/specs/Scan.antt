@@ -108,7 +108,7 @@ pub record CountsAgree (t : List ℕ) (c : Counts) (lay : Lay) : Type 0 where
   pub trips : c .trips ≡ lay .trips
 
 -- a boarding taken after a transfer from stop `from`: its stop is reached on foot, its segment queued
-abbrev pub boarded : Tables → Query → ℕ → ℕ → ℕ → ℕ → ℕ → BoardedRun → Arrivals → Arrivals
+abbrev pub boarded : Tables → Query → (stamp from off time trip : ℕ) (b : BoardedRun) (a : Arrivals) → Arrivals
 boarded T Q stamp from off time trip b a =
     enqueue T Q trip off (stopAt T trip off) (b .«time_shift_s»)
     (relax T Q stamp (stopAt T trip off) (b .departure) (Walk (b .departure) from (stopAt T trip off) time noDistance (stamp - 1)) a)

@@ -1,9 +1,9 @@
 // trip_scan: a trip scanned from a boarding on (scan_trip_forward): alighting at its later stops and, with arc flags in use, the transfers there.
 // Place: the search.
 // Specs (inner): what a scan reads, and which tables and queries agree with it (Scan).
-// Proves: `alightings`, `transferring` and `scan_trip_forward` are the model's functions of these names on the state seen as the model's, for all tables
-// and queries that agree; all else in memory is as it came. Where a segment does not fit in the queue, the model queues more than the queue has rows for.
-// proofs/Turning: both loops turn by turn; Along, Queuing: loops of steps; Keeping: what is read stays as it is.
+// Proves: `alightings`, `transferring` and `scan_trip_forward` are the model's functions of these names on the state seen as the model's, for all
+// tables and queries that agree; all else in memory is as it came. Where a segment does not fit in the queue, the model queues more than the queue
+// has rows for. proofs/Turning: both loops turn by turn; Along, Queuing: loops of steps; Keeping: what is read stays as it is.
 // Assumes nothing.
 ghost use mathlib.Core.Path.{_≡_};
 ghost use Prim.Native.Nat.{_-_, _≤_};
@@ -31,69 +31,77 @@ use target_resolving::Resolved;
 
 // Is drop-off 1 at a trip's stop time?
 fn no_drop_off(
-    t: &[u32],
+    tables: &[u32],
     c: Counts,
-    rows: &[u32],
+    delay_rows: &[u32],
     stop_rows: &[u32],
     trip: usize,
     off: usize,
 ) -> bool
-    requires { ⌜ Ground (now t) c (now rows) (now «stop_rows») ⌝ ∗ ⌜ Event (now t) c trip off ⌝ }
-    ensures { λ r. ⌜ ((T : Tables) (Q : Query) → Agree T Q (now (t .entry)) c (now (rows .entry)) (now («stop_rows» .entry)) → r ≡ noDropOff T trip off) ⌝ }
+    requires { ⌜ Ground (now tables) c (now «delay_rows») (now «stop_rows») ⌝ ∗ ⌜ Event (now tables) c trip off ⌝ }
+    ensures { λ r. ⌜ ((T : Tables) (Q : Query) → Agree T Q (now (tables .entry)) c (now («delay_rows» .entry)) (now («stop_rows» .entry)) → r
+        ≡ noDropOff T trip off) ⌝ }
 {
-    let first = tables::trip(t, c, trip, 0);
-    tables::time(t, c, first + off, 5) == 1
+    let first = tables::trip(tables, c, trip, 0);
+    tables::time(tables, c, first + off, 5) == 1
 }
 
 // Can nobody alight at a trip's stop time: is drop-off 1 or, where skipped stops are tested, the stop skipped?
 fn shut(
-    t: &[u32],
+    tables: &[u32],
     c: Counts,
-    rows: &[u32],
+    delay_rows: &[u32],
     stop_rows: &[u32],
     adj: Found,
     tested: bool,
     trip: usize,
     off: usize,
 ) -> bool
-    requires { ⌜ Ground (now t) c (now rows) (now «stop_rows») ⌝ ∗ ⌜ Known (now rows) adj ⌝ ∗ ⌜ Event (now t) c trip off ⌝ }
-    ensures { λ r. ⌜ ((T : Tables) (Q : Query) → Agree T Q (now (t .entry)) c (now (rows .entry)) (now («stop_rows» .entry)) → r ≡ cond tested (noDropOff T trip off || skips T Q (hitOf adj) trip off) (noDropOff T trip off)) ⌝ }
+    requires { ⌜ Ground (now tables) c (now «delay_rows») (now «stop_rows») ⌝ ∗ ⌜ Known (now «delay_rows») adj ⌝ ∗ ⌜ Event (now tables) c trip off ⌝ }
+    ensures { λ r. ⌜ ((T : Tables) (Q : Query) → Agree T Q (now (tables .entry)) c (now («delay_rows» .entry)) (now («stop_rows» .entry)) → r
+        ≡ cond tested (noDropOff T trip off || skips T Q (hitOf adj) trip off) (noDropOff T trip off)) ⌝ }
 {
-    let barred = no_drop_off(t, c, rows, stop_rows, trip, off);
+    let barred = no_drop_off(tables, c, delay_rows, stop_rows, trip, off);
     if !tested {
         return barred;
     }
     door::either(
         barred,
-        trip_boarding::skipped(t, c, rows, stop_rows, adj, trip, off),
+        trip_boarding::skipped(tables, c, delay_rows, stop_rows, adj, trip, off),
     )
 }
 
 // Alighting at the trip's stop times from offset `p` on, until one is not before the best total.
 fn alightings(
-    t: &[u32],
-    rows: &[u32],
+    tables: &[u32],
+    delay_rows: &[u32],
     stop_rows: &[u32],
     s: Scan,
     p: usize,
     work: &mut [u32],
     labels: &mut [u32],
-    distances: &mut [f64],
+    label_distances: &mut [f64],
     h: Head,
 ) -> Head
-    requires { ⌜ Riding (now t) (s .context .counts .timetable) (now rows) (now «stop_rows») (s .adj) (s .context .lay) (s .ride) ⌝ ∗ ⌜ Ready (s .context .lay) (s .ride .stamp) (memory (now work) (now labels) (now distances) h) ⌝ }
-    ensures { λ x. ⌜ Step (s .context .lay) (s .ride .stamp) (Reads (now (t .entry)) (s .context .counts .timetable) (now (rows .entry)) (now («stop_rows» .entry)) (s .context .lay) (now (work .entry))) (λ T Q. alighted T Q (s .ride .stamp) (hitOf (s .adj)) (s .ride .shift) (s .ride .trip) (s .ride .stop) (s .ride .offset) (stopCount T (s .ride .trip) - p) p) (memory (now (work .entry)) (now (labels .entry)) (now (distances .entry)) h) (memory (now (work .exit)) (now (labels .exit)) (now (distances .exit)) x) ⌝ }
+    requires { ⌜ Riding (now tables) (s .context .counts .timetable) (now «delay_rows») (now «stop_rows») (s .adj) (s .context .lay) (s .ride) ⌝
+        ∗ ⌜ Ready (s .context .lay) (s .ride .stamp) (memory (now work) (now labels) (now «label_distances») h) ⌝ }
+    ensures { λ x. ⌜ Step (s .context .lay) (s .ride .stamp)
+        (Reads (now (tables .entry)) (s .context .counts .timetable) (now («delay_rows» .entry)) (now («stop_rows» .entry)) (s .context .lay)
+        (now (work .entry))) (λ T Q. alighted T Q (s .ride .stamp) (hitOf (s .adj)) (s .ride .shift) (s .ride .trip) (s .ride .stop)
+        (s .ride .offset) (stopCount T (s .ride .trip) - p) p)
+        (memory (now (work .entry)) (now (labels .entry)) (now («label_distances» .entry)) h)
+        (memory (now (work .exit)) (now (labels .exit)) (now («label_distances» .exit)) x) ⌝ }
 {
     let trip = s.ride.trip as usize;
     let adj = s.adj;
-    let n = tables::trip(t, s.context.counts.timetable, trip, 1);
+    let n = tables::trip(tables, s.context.counts.timetable, trip, 1);
     let mut x = h;
     let mut o = p;
     while o < n {
         if shut(
-            t,
+            tables,
             s.context.counts.timetable,
-            rows,
+            delay_rows,
             stop_rows,
             adj,
             true,
@@ -104,9 +112,9 @@ fn alightings(
             continue;
         }
         let v = trip_boarding::arrival_now(
-            t,
+            tables,
             s.context.counts.timetable,
-            rows,
+            delay_rows,
             stop_rows,
             adj,
             s.ride.shift,
@@ -117,7 +125,7 @@ fn alightings(
             return x;
         }
         x = search_state::alight(
-            t,
+            tables,
             s.context.counts.timetable,
             s.context.lay,
             s.ride,
@@ -125,7 +133,7 @@ fn alightings(
             v,
             work,
             labels,
-            distances,
+            label_distances,
             x,
         );
         o += 1;
@@ -135,7 +143,7 @@ fn alightings(
 
 // A boarding taken after a transfer: its stop is reached on foot from stop `from`, its segment queued.
 fn take_boarding(
-    t: &[u32],
+    tables: &[u32],
     s: Scan,
     from: u32,
     off: usize,
@@ -144,17 +152,25 @@ fn take_boarding(
     b: BoardedRun,
     work: &mut [u32],
     labels: &mut [u32],
-    distances: &mut [f64],
+    label_distances: &mut [f64],
     queue: &mut [u32],
     h: Head,
 ) -> Head
-    requires { ⌜ CountsAgree (now t) (s .context .counts .timetable) (s .context .lay) ⌝ ∗ ⌜ BoardedAt (now t) (s .context .counts .timetable) trip off (b .departure) ⌝ ∗ ⌜ Ready (s .context .lay) (s .ride .stamp) (memory (now work) (now labels) (now distances) h) ⌝ ∗ ⌜ Open h (length (now queue)) ⌝ }
-    ensures { λ x. ⌜ QueueStep (s .context .lay) (s .ride .stamp) (λ T Q. EgressTable (Q .egress) (s .context .lay) (now (work .entry)) × (T .timetable ≡ timetable (now (t .entry)) (s .context .counts .timetable))) (λ T Q. boarded T Q (s .ride .stamp) from off time trip b) (memory (now (work .entry)) (now (labels .entry)) (now (distances .entry)) h) (memory (now (work .exit)) (now (labels .exit)) (now (distances .exit)) x) (now (queue .entry)) (now (queue .exit)) ⌝ }
+    requires { ⌜ CountsAgree (now tables) (s .context .counts .timetable) (s .context .lay) ⌝
+        ∗ ⌜ BoardedAt (now tables) (s .context .counts .timetable) trip off (b .departure) ⌝
+        ∗ ⌜ Ready (s .context .lay) (s .ride .stamp) (memory (now work) (now labels) (now «label_distances») h) ⌝
+        ∗ ⌜ Open h (length (now queue)) ⌝ }
+    ensures { λ x. ⌜ QueueStep (s .context .lay) (s .ride .stamp)
+        (λ T Q. EgressTable (Q .egress) (s .context .lay) (now (work .entry))
+        × (T .timetable ≡ timetable (now (tables .entry)) (s .context .counts .timetable)))
+        (λ T Q. boarded T Q (s .ride .stamp) from off time trip b)
+        (memory (now (work .entry)) (now (labels .entry)) (now («label_distances» .entry)) h)
+        (memory (now (work .exit)) (now (labels .exit)) (now («label_distances» .exit)) x) (now (queue .entry)) (now (queue .exit)) ⌝ }
 {
     let i = trip as usize;
-    let first = tables::trip(t, s.context.counts.timetable, i, 0);
-    let stop = tables::time(t, s.context.counts.timetable, first + off, 0);
-    let plain = tables::trip(t, s.context.counts.timetable, i, 5) == 0;
+    let first = tables::trip(tables, s.context.counts.timetable, i, 0);
+    let stop = tables::time(tables, s.context.counts.timetable, first + off, 0);
+    let plain = tables::trip(tables, s.context.counts.timetable, i, 5) == 0;
     let seg = Seg {
         trip,
         offset: off as u32,
@@ -172,7 +188,7 @@ fn take_boarding(
         time,
         work,
         labels,
-        distances,
+        label_distances,
         queue,
         h,
     )
@@ -180,46 +196,56 @@ fn take_boarding(
 
 // Transfer `k` of the area, taken at a stop `from` that is reached at `v`.
 fn take_transfer(
-    t: &[u32],
-    rows: &[u32],
+    tables: &[u32],
+    delay_rows: &[u32],
     stop_rows: &[u32],
     built: &[u32],
-    bytes: &[u8],
-    area: &[u32],
+    patterns: &[u8],
+    transfers: &[u32],
     s: Scan,
     v: u32,
     from: u32,
     k: usize,
     work: &mut [u32],
     labels: &mut [u32],
-    distances: &mut [f64],
+    label_distances: &mut [f64],
     queue: &mut [u32],
     h: Head,
 ) -> Head
-    requires { ⌜ Netted (s .context) (slices (now t) (now rows) (now «stop_rows») (now built) (now bytes) (now area)) (now work) ⌝ ∗ ⌜ RunIn (now area) k 1 ⌝ ∗ ⌜ Ready (s .context .lay) (s .ride .stamp) (memory (now work) (now labels) (now distances) h) ⌝ ∗ ⌜ Open h (length (now queue)) ⌝ ∗ ⌜ v ≤ 2097150 ⌝ }
-    ensures { λ x. ⌜ QueueStep (s .context .lay) (s .ride .stamp) (Nets (s .context) (slices (now (t .entry)) (now (rows .entry)) (now («stop_rows» .entry)) (now (built .entry)) (now (bytes .entry)) (now (area .entry))) (now (work .entry))) (λ T Q. takeTransfers T Q (s .ride .stamp) v from (transferAt (now (area .entry)) k ∷ [])) (memory (now (work .entry)) (now (labels .entry)) (now (distances .entry)) h) (memory (now (work .exit)) (now (labels .exit)) (now (distances .exit)) x) (now (queue .entry)) (now (queue .exit)) ⌝ }
+    requires { ⌜ Netted (s .context) (slices (now tables) (now «delay_rows») (now «stop_rows») (now built) (now patterns) (now transfers))
+        (now work) ⌝
+        ∗ ⌜ RunIn (now transfers) k 1 ⌝
+        ∗ ⌜ Ready (s .context .lay) (s .ride .stamp) (memory (now work) (now labels) (now «label_distances») h) ⌝
+        ∗ ⌜ Open h (length (now queue)) ⌝
+        ∗ ⌜ v ≤ 2097150 ⌝ }
+    ensures { λ x. ⌜ QueueStep (s .context .lay) (s .ride .stamp)
+        (Nets (s .context) (slices (now (tables .entry)) (now («delay_rows» .entry)) (now («stop_rows» .entry)) (now (built .entry))
+        (now (patterns .entry)) (now (transfers .entry))) (now (work .entry)))
+        (λ T Q. takeTransfers T Q (s .ride .stamp) v from (transferAt (now (transfers .entry)) k ∷ []))
+        (memory (now (work .entry)) (now (labels .entry)) (now («label_distances» .entry)) h)
+        (memory (now (work .exit)) (now (labels .exit)) (now («label_distances» .exit)) x) (now (queue .entry)) (now (queue .exit)) ⌝ }
 {
     let at = k * 4;
     if !arc_flags::holds_target(
-        bytes,
+        patterns,
         s.context.net.patterns,
         s.context.net.target,
-        words::field(area, at + 3),
+        words::field(transfers, at + 3),
     ) {
         return h;
     }
-    let time = area[at + 2];
-    let off = words::field(area, at + 1);
+    let time = transfers[at + 2];
+    let off = words::field(transfers, at + 1);
     let found = target_resolving::resolve(
-        t,
+        tables,
         s.context.counts.timetable,
-        rows,
+        delay_rows,
         stop_rows,
         built,
         work,
         s.context.net.lined,
         s.context.net.terms,
-        area[at],
+        transfers[at],
         off,
         v + time,
         h.best,
@@ -228,7 +254,7 @@ fn take_transfer(
         return h;
     };
     take_boarding(
-        t,
+        tables,
         s,
         from,
         off,
@@ -237,7 +263,7 @@ fn take_transfer(
         b,
         work,
         labels,
-        distances,
+        label_distances,
         queue,
         h,
     )
@@ -245,43 +271,53 @@ fn take_transfer(
 
 // The transfers of a run, until a segment does not fit.
 fn take_transfers(
-    t: &[u32],
-    rows: &[u32],
+    tables: &[u32],
+    delay_rows: &[u32],
     stop_rows: &[u32],
     built: &[u32],
-    bytes: &[u8],
-    area: &[u32],
+    patterns: &[u8],
+    transfers: &[u32],
     s: Scan,
     v: u32,
     from: u32,
     run: StopRun,
     work: &mut [u32],
     labels: &mut [u32],
-    distances: &mut [f64],
+    label_distances: &mut [f64],
     queue: &mut [u32],
     h: Head,
 ) -> Head
-    requires { ⌜ Netted (s .context) (slices (now t) (now rows) (now «stop_rows») (now built) (now bytes) (now area)) (now work) ⌝ ∗ ⌜ RunIn (now area) (run .first) (run .length) ⌝ ∗ ⌜ Ready (s .context .lay) (s .ride .stamp) (memory (now work) (now labels) (now distances) h) ⌝ ∗ ⌜ Open h (length (now queue)) ⌝ ∗ ⌜ v ≤ 2097150 ⌝ }
-    ensures { λ x. ⌜ QueueStep (s .context .lay) (s .ride .stamp) (Nets (s .context) (slices (now (t .entry)) (now (rows .entry)) (now («stop_rows» .entry)) (now (built .entry)) (now (bytes .entry)) (now (area .entry))) (now (work .entry))) (λ T Q. takeTransfers T Q (s .ride .stamp) v from (transfersAt (now (area .entry)) run)) (memory (now (work .entry)) (now (labels .entry)) (now (distances .entry)) h) (memory (now (work .exit)) (now (labels .exit)) (now (distances .exit)) x) (now (queue .entry)) (now (queue .exit)) ⌝ }
+    requires { ⌜ Netted (s .context) (slices (now tables) (now «delay_rows») (now «stop_rows») (now built) (now patterns) (now transfers))
+        (now work) ⌝
+        ∗ ⌜ RunIn (now transfers) (run .first) (run .length) ⌝
+        ∗ ⌜ Ready (s .context .lay) (s .ride .stamp) (memory (now work) (now labels) (now «label_distances») h) ⌝
+        ∗ ⌜ Open h (length (now queue)) ⌝
+        ∗ ⌜ v ≤ 2097150 ⌝ }
+    ensures { λ x. ⌜ QueueStep (s .context .lay) (s .ride .stamp)
+        (Nets (s .context) (slices (now (tables .entry)) (now («delay_rows» .entry)) (now («stop_rows» .entry)) (now (built .entry))
+        (now (patterns .entry)) (now (transfers .entry))) (now (work .entry)))
+        (λ T Q. takeTransfers T Q (s .ride .stamp) v from (transfersAt (now (transfers .entry)) run))
+        (memory (now (work .entry)) (now (labels .entry)) (now («label_distances» .entry)) h)
+        (memory (now (work .exit)) (now (labels .exit)) (now («label_distances» .exit)) x) (now (queue .entry)) (now (queue .exit)) ⌝ }
 {
     let mut x = h;
     let mut j: usize = 0;
     while j < run.length {
         let k = run.first + j;
         x = take_transfer(
-            t,
-            rows,
+            tables,
+            delay_rows,
             stop_rows,
             built,
-            bytes,
-            area,
+            patterns,
+            transfers,
             s,
             v,
             from,
             k,
             work,
             labels,
-            distances,
+            label_distances,
             queue,
             x,
         );
@@ -295,45 +331,55 @@ fn take_transfers(
 
 // The transfers of a trip's stop time that is reached at `v`.
 fn take_event(
-    t: &[u32],
-    rows: &[u32],
+    tables: &[u32],
+    delay_rows: &[u32],
     stop_rows: &[u32],
     built: &[u32],
-    bytes: &[u8],
-    area: &[u32],
+    patterns: &[u8],
+    transfers: &[u32],
     s: Scan,
     v: u32,
     off: usize,
     work: &mut [u32],
     labels: &mut [u32],
-    distances: &mut [f64],
+    label_distances: &mut [f64],
     queue: &mut [u32],
     h: Head,
 ) -> Head
-    requires { ⌜ Netted (s .context) (slices (now t) (now rows) (now «stop_rows») (now built) (now bytes) (now area)) (now work) ⌝ ∗ ⌜ Event (now t) (s .context .counts .timetable) (s .ride .trip) off ⌝ ∗ ⌜ Ready (s .context .lay) (s .ride .stamp) (memory (now work) (now labels) (now distances) h) ⌝ ∗ ⌜ Open h (length (now queue)) ⌝ ∗ ⌜ v ≤ 2097150 ⌝ }
-    ensures { λ x. ⌜ QueueStep (s .context .lay) (s .ride .stamp) (Nets (s .context) (slices (now (t .entry)) (now (rows .entry)) (now («stop_rows» .entry)) (now (built .entry)) (now (bytes .entry)) (now (area .entry))) (now (work .entry))) (λ T Q. takeTransfers T Q (s .ride .stamp) v (stopAt T (s .ride .trip) off) (T .transfers (s .ride .trip) off)) (memory (now (work .entry)) (now (labels .entry)) (now (distances .entry)) h) (memory (now (work .exit)) (now (labels .exit)) (now (distances .exit)) x) (now (queue .entry)) (now (queue .exit)) ⌝ }
+    requires { ⌜ Netted (s .context) (slices (now tables) (now «delay_rows») (now «stop_rows») (now built) (now patterns) (now transfers))
+        (now work) ⌝
+        ∗ ⌜ Event (now tables) (s .context .counts .timetable) (s .ride .trip) off ⌝
+        ∗ ⌜ Ready (s .context .lay) (s .ride .stamp) (memory (now work) (now labels) (now «label_distances») h) ⌝
+        ∗ ⌜ Open h (length (now queue)) ⌝
+        ∗ ⌜ v ≤ 2097150 ⌝ }
+    ensures { λ x. ⌜ QueueStep (s .context .lay) (s .ride .stamp)
+        (Nets (s .context) (slices (now (tables .entry)) (now («delay_rows» .entry)) (now («stop_rows» .entry)) (now (built .entry))
+        (now (patterns .entry)) (now (transfers .entry))) (now (work .entry)))
+        (λ T Q. takeTransfers T Q (s .ride .stamp) v (stopAt T (s .ride .trip) off) (T .transfers (s .ride .trip) off))
+        (memory (now (work .entry)) (now (labels .entry)) (now («label_distances» .entry)) h)
+        (memory (now (work .exit)) (now (labels .exit)) (now («label_distances» .exit)) x) (now (queue .entry)) (now (queue .exit)) ⌝ }
 {
     let trip = s.ride.trip as usize;
-    let i = tables::trip(t, s.context.counts.timetable, trip, 0);
-    let from = tables::time(t, s.context.counts.timetable, i + off, 0) as u32;
+    let i = tables::trip(tables, s.context.counts.timetable, trip, 0);
+    let from = tables::time(tables, s.context.counts.timetable, i + off, 0) as u32;
     let at = s.context.net.runs + (words::field(work, s.context.net.events + trip) + off) * 2;
     let first = words::field(built, at);
     let length = words::field(built, at + 1);
     let run = StopRun { first, length };
     take_transfers(
-        t,
-        rows,
+        tables,
+        delay_rows,
         stop_rows,
         built,
-        bytes,
-        area,
+        patterns,
+        transfers,
         s,
         v,
         from,
         run,
         work,
         labels,
-        distances,
+        label_distances,
         queue,
         h,
     )
@@ -341,33 +387,42 @@ fn take_event(
 
 // The transfers at the trip's stop times from offset `p` on, until one is not before the best total. Skipped stops are not tested.
 fn transferring(
-    t: &[u32],
-    rows: &[u32],
+    tables: &[u32],
+    delay_rows: &[u32],
     stop_rows: &[u32],
     built: &[u32],
-    bytes: &[u8],
-    area: &[u32],
+    patterns: &[u8],
+    transfers: &[u32],
     s: Scan,
     p: usize,
     work: &mut [u32],
     labels: &mut [u32],
-    distances: &mut [f64],
+    label_distances: &mut [f64],
     queue: &mut [u32],
     h: Head,
 ) -> Head
-    requires { ⌜ Netted (s .context) (slices (now t) (now rows) (now «stop_rows») (now built) (now bytes) (now area)) (now work) ⌝ ∗ ⌜ Riding (now t) (s .context .counts .timetable) (now rows) (now «stop_rows») (s .adj) (s .context .lay) (s .ride) ⌝ ∗ ⌜ Ready (s .context .lay) (s .ride .stamp) (memory (now work) (now labels) (now distances) h) ⌝ ∗ ⌜ Open h (length (now queue)) ⌝ }
-    ensures { λ x. ⌜ QueueStep (s .context .lay) (s .ride .stamp) (Nets (s .context) (slices (now (t .entry)) (now (rows .entry)) (now («stop_rows» .entry)) (now (built .entry)) (now (bytes .entry)) (now (area .entry))) (now (work .entry))) (λ T Q. transferred T Q (s .ride .stamp) (hitOf (s .adj)) (s .ride .shift) (s .ride .trip) (stopCount T (s .ride .trip) - p) p) (memory (now (work .entry)) (now (labels .entry)) (now (distances .entry)) h) (memory (now (work .exit)) (now (labels .exit)) (now (distances .exit)) x) (now (queue .entry)) (now (queue .exit)) ⌝ }
+    requires { ⌜ Netted (s .context) (slices (now tables) (now «delay_rows») (now «stop_rows») (now built) (now patterns) (now transfers))
+        (now work) ⌝
+        ∗ ⌜ Riding (now tables) (s .context .counts .timetable) (now «delay_rows») (now «stop_rows») (s .adj) (s .context .lay) (s .ride) ⌝
+        ∗ ⌜ Ready (s .context .lay) (s .ride .stamp) (memory (now work) (now labels) (now «label_distances») h) ⌝
+        ∗ ⌜ Open h (length (now queue)) ⌝ }
+    ensures { λ x. ⌜ QueueStep (s .context .lay) (s .ride .stamp)
+        (Nets (s .context) (slices (now (tables .entry)) (now («delay_rows» .entry)) (now («stop_rows» .entry)) (now (built .entry))
+        (now (patterns .entry)) (now (transfers .entry))) (now (work .entry)))
+        (λ T Q. transferred T Q (s .ride .stamp) (hitOf (s .adj)) (s .ride .shift) (s .ride .trip) (stopCount T (s .ride .trip) - p) p)
+        (memory (now (work .entry)) (now (labels .entry)) (now («label_distances» .entry)) h)
+        (memory (now (work .exit)) (now (labels .exit)) (now («label_distances» .exit)) x) (now (queue .entry)) (now (queue .exit)) ⌝ }
 {
     let trip = s.ride.trip as usize;
     let adj = s.adj;
-    let n = tables::trip(t, s.context.counts.timetable, trip, 1);
+    let n = tables::trip(tables, s.context.counts.timetable, trip, 1);
     let mut x = h;
     let mut o = p;
     while o < n {
         if shut(
-            t,
+            tables,
             s.context.counts.timetable,
-            rows,
+            delay_rows,
             stop_rows,
             adj,
             false,
@@ -378,9 +433,9 @@ fn transferring(
             continue;
         }
         let v = trip_boarding::arrival_now(
-            t,
+            tables,
             s.context.counts.timetable,
-            rows,
+            delay_rows,
             stop_rows,
             adj,
             s.ride.shift,
@@ -391,18 +446,18 @@ fn transferring(
             return x;
         }
         x = take_event(
-            t,
-            rows,
+            tables,
+            delay_rows,
             stop_rows,
             built,
-            bytes,
-            area,
+            patterns,
+            transfers,
             s,
             v,
             o,
             work,
             labels,
-            distances,
+            label_distances,
             queue,
             x,
         );
@@ -416,39 +471,58 @@ fn transferring(
 
 // A TRIP SCANNED from a boarding on: alighting at its later stops, then, with arc flags, the transfers there.
 pub fn scan_trip_forward(
-    t: &[u32],
-    rows: &[u32],
+    tables: &[u32],
+    delay_rows: &[u32],
     stop_rows: &[u32],
     built: &[u32],
-    bytes: &[u8],
-    area: &[u32],
+    patterns: &[u8],
+    transfers: &[u32],
     s: Scan,
     work: &mut [u32],
     labels: &mut [u32],
-    distances: &mut [f64],
+    label_distances: &mut [f64],
     queue: &mut [u32],
     h: Head,
 ) -> Head
-    requires { ⌜ Netted (s .context) (slices (now t) (now rows) (now «stop_rows») (now built) (now bytes) (now area)) (now work) ⌝ ∗ ⌜ Riding (now t) (s .context .counts .timetable) (now rows) (now «stop_rows») (s .adj) (s .context .lay) (s .ride) ⌝ ∗ ⌜ Ready (s .context .lay) (s .ride .stamp) (memory (now work) (now labels) (now distances) h) ⌝ ∗ ⌜ Open h (length (now queue)) ⌝ }
-    ensures { λ x. ⌜ QueueStep (s .context .lay) (s .ride .stamp) (Nets (s .context) (slices (now (t .entry)) (now (rows .entry)) (now («stop_rows» .entry)) (now (built .entry)) (now (bytes .entry)) (now (area .entry))) (now (work .entry))) (λ T Q. scanTripForward T Q (s .context .flagged) (s .ride .stamp) (hitOf (s .adj)) (s .ride .shift) (s .ride .trip) (s .ride .stop) (s .ride .offset)) (memory (now (work .entry)) (now (labels .entry)) (now (distances .entry)) h) (memory (now (work .exit)) (now (labels .exit)) (now (distances .exit)) x) (now (queue .entry)) (now (queue .exit)) ⌝ }
+    requires { ⌜ Netted (s .context) (slices (now tables) (now «delay_rows») (now «stop_rows») (now built) (now patterns) (now transfers))
+        (now work) ⌝
+        ∗ ⌜ Riding (now tables) (s .context .counts .timetable) (now «delay_rows») (now «stop_rows») (s .adj) (s .context .lay) (s .ride) ⌝
+        ∗ ⌜ Ready (s .context .lay) (s .ride .stamp) (memory (now work) (now labels) (now «label_distances») h) ⌝
+        ∗ ⌜ Open h (length (now queue)) ⌝ }
+    ensures { λ x. ⌜ QueueStep (s .context .lay) (s .ride .stamp)
+        (Nets (s .context) (slices (now (tables .entry)) (now («delay_rows» .entry)) (now («stop_rows» .entry)) (now (built .entry))
+        (now (patterns .entry)) (now (transfers .entry))) (now (work .entry)))
+        (λ T Q. scanTripForward T Q (s .context .flagged) (s .ride .stamp) (hitOf (s .adj)) (s .ride .shift) (s .ride .trip) (s .ride .stop)
+        (s .ride .offset)) (memory (now (work .entry)) (now (labels .entry)) (now («label_distances» .entry)) h)
+        (memory (now (work .exit)) (now (labels .exit)) (now («label_distances» .exit)) x) (now (queue .entry)) (now (queue .exit)) ⌝ }
 {
     let p = s.ride.offset as usize + 1;
-    let x = alightings(t, rows, stop_rows, s, p, work, labels, distances, h);
-    if !s.context.flagged {
-        return x;
-    }
-    transferring(
-        t,
-        rows,
+    let x = alightings(
+        tables,
+        delay_rows,
         stop_rows,
-        built,
-        bytes,
-        area,
         s,
         p,
         work,
         labels,
-        distances,
+        label_distances,
+        h,
+    );
+    if !s.context.flagged {
+        return x;
+    }
+    transferring(
+        tables,
+        delay_rows,
+        stop_rows,
+        built,
+        patterns,
+        transfers,
+        s,
+        p,
+        work,
+        labels,
+        label_distances,
         queue,
         x,
     )

@@ -1,5 +1,6 @@
-// walks: the walk phase of a round.
-// Specs: what walks read and which tables and queries agree with it (Walking); the two lists of reached stops (Lists).
+// walk_phase: the walk phase of a round.
+// Place: the search.
+// Specs (inner): what walks read and which tables and queries agree with it (Walking); the two lists of reached stops (Lists).
 // Proves: each function is the model's of the same name on a query's state in memory, for all tables and queries that agree with
 // what it reads; all else in memory is as it came; no stop's earliest arrival rises.
 // Assumes nothing.
@@ -30,7 +31,8 @@ use tables::Counts;
 // Do the arc flags skip an edge of pattern p?
 fn skips(ctx: Context, patterns: &[u8], p: usize) -> bool
     requires { ⌜ PatternsOk (now patterns) (ctx .net .patterns) ⌝ }
-    ensures { λ r. ⌜ ((T : Tables) (Q : Query) → Patterned T (now (patterns .entry)) (ctx .net .patterns) → ctx .net .target ≡ targetCells T Q → r ≡ (ctx .flagged && not (holdsTarget T Q p))) ⌝ }
+    ensures { λ r. ⌜ ((T : Tables) (Q : Query) → Patterned T (now (patterns .entry)) (ctx .net .patterns) → ctx .net .target ≡ targetCells T Q → r
+        ≡ (ctx .flagged && not (holdsTarget T Q p))) ⌝ }
 {
     if !ctx.flagged {
         return false;
@@ -40,15 +42,15 @@ fn skips(ctx: Context, patterns: &[u8], p: usize) -> bool
 }
 
 // The first walk edge whose from-stop is not below x, by halving; the number of edges where there is none.
-fn first_edge(t: &[u32], c: Counts, x: usize) -> usize
-    requires { ⌜ Sane (now t) c ⌝ ∗ ⌜ OrderOk (now t) c ⌝ }
-    ensures { λ r. ⌜ Halved (λ i. leb x (edgeOf (now (t .entry)) c i 0)) (c .edges) r r ⌝ }
+fn first_edge(tables: &[u32], c: Counts, x: usize) -> usize
+    requires { ⌜ Sane (now tables) c ⌝ ∗ ⌜ OrderOk (now tables) c ⌝ }
+    ensures { λ r. ⌜ Halved (λ i. leb x (edgeOf (now (tables .entry)) c i 0)) (c .edges) r r ⌝ }
 {
     let mut lo: usize = 0;
     let mut hi = c.edges;
     while lo < hi {
         let mid = lo + (hi - lo) / 2;
-        if tables::edge(t, c, mid, 0) < x {
+        if tables::edge(tables, c, mid, 0) < x {
             lo = mid + 1;
             continue;
         }
@@ -65,19 +67,27 @@ fn walk_edge(
     x: usize,
     v: u32,
     e: usize,
-    t: &[u32],
+    tables: &[u32],
     distances: &[f64],
     patterns: &[u8],
     work: &mut [u32],
     labels: &mut [u32],
-    metres: &mut [f64],
+    label_distances: &mut [f64],
     h: Head,
 ) -> Head
-    requires { ⌜ Ready lay stamp (memory (now work) (now labels) (now metres) h) ⌝ ∗ ⌜ WalkGround lay ctx (now t) (length (now distances)) (length (now patterns)) ⌝ ∗ ⌜ x < lay .stops ⌝ ∗ ⌜ v < 29360128 ⌝ ∗ ⌜ e < ctx .counts .timetable .edges ⌝ }
-    ensures { λ r. ⌜ Step lay stamp (WalksAgree lay ctx (now (t .entry)) (now (distances .entry)) (now (patterns .entry)) (now (work .entry))) (λ T Q. walkFrom T Q (ctx .flagged) stamp x v (e ∷ [])) (memory (now (work .entry)) (now (labels .entry)) (now (metres .entry)) h) (memory (now (work .exit)) (now (labels .exit)) (now (metres .exit)) r) ⌝ ∗ ⌜ Falls lay (now (work .entry)) (now (work .exit)) ⌝ }
+    requires { ⌜ Ready lay stamp (memory (now work) (now labels) (now «label_distances») h) ⌝
+        ∗ ⌜ WalkGround lay ctx (now tables) (length (now distances)) (length (now patterns)) ⌝
+        ∗ ⌜ x < lay .stops ⌝
+        ∗ ⌜ v < 29360128 ⌝
+        ∗ ⌜ e < ctx .counts .timetable .edges ⌝ }
+    ensures { λ r. ⌜ Step lay stamp (WalksAgree lay ctx (now (tables .entry)) (now (distances .entry)) (now (patterns .entry)) (now (work .entry)))
+        (λ T Q. walkFrom T Q (ctx .flagged) stamp x v (e ∷ []))
+        (memory (now (work .entry)) (now (labels .entry)) (now («label_distances» .entry)) h)
+        (memory (now (work .exit)) (now (labels .exit)) (now («label_distances» .exit)) r) ⌝
+        ∗ ⌜ Falls lay (now (work .entry)) (now (work .exit)) ⌝ }
 {
     let c = ctx.counts.timetable;
-    let row = tables::edge_row(t, c, e);
+    let row = tables::edge_row(tables, c, e);
     if skips(ctx, patterns, row.pattern) {
         return h;
     }
@@ -98,7 +108,7 @@ fn walk_edge(
         distance_m: distances[e],
         prev_round: stamp - 1,
     };
-    search_state::relax(lay, stamp, row.to, w, how, work, labels, metres, h)
+    search_state::relax(lay, stamp, row.to, w, how, work, labels, label_distances, h)
 }
 
 // The walk edges of stop x, reached at v.
@@ -108,22 +118,29 @@ fn walk_from(
     stamp: u32,
     x: usize,
     v: u32,
-    t: &[u32],
+    tables: &[u32],
     distances: &[f64],
     patterns: &[u8],
     work: &mut [u32],
     labels: &mut [u32],
-    metres: &mut [f64],
+    label_distances: &mut [f64],
     h: Head,
 ) -> Head
-    requires { ⌜ Ready lay stamp (memory (now work) (now labels) (now metres) h) ⌝ ∗ ⌜ WalkGround lay ctx (now t) (length (now distances)) (length (now patterns)) ⌝ ∗ ⌜ x < lay .stops ⌝ ∗ ⌜ v < 29360128 ⌝ }
-    ensures { λ r. ⌜ Step lay stamp (WalksAgree lay ctx (now (t .entry)) (now (distances .entry)) (now (patterns .entry)) (now (work .entry))) (λ T Q. walkFrom T Q (ctx .flagged) stamp x v (edgesFrom T x)) (memory (now (work .entry)) (now (labels .entry)) (now (metres .entry)) h) (memory (now (work .exit)) (now (labels .exit)) (now (metres .exit)) r) ⌝ ∗ ⌜ Falls lay (now (work .entry)) (now (work .exit)) ⌝ }
+    requires { ⌜ Ready lay stamp (memory (now work) (now labels) (now «label_distances») h) ⌝
+        ∗ ⌜ WalkGround lay ctx (now tables) (length (now distances)) (length (now patterns)) ⌝
+        ∗ ⌜ x < lay .stops ⌝
+        ∗ ⌜ v < 29360128 ⌝ }
+    ensures { λ r. ⌜ Step lay stamp (WalksAgree lay ctx (now (tables .entry)) (now (distances .entry)) (now (patterns .entry)) (now (work .entry)))
+        (λ T Q. walkFrom T Q (ctx .flagged) stamp x v (edgesFrom T x))
+        (memory (now (work .entry)) (now (labels .entry)) (now («label_distances» .entry)) h)
+        (memory (now (work .exit)) (now (labels .exit)) (now («label_distances» .exit)) r) ⌝
+        ∗ ⌜ Falls lay (now (work .entry)) (now (work .exit)) ⌝ }
 {
     let c = ctx.counts.timetable;
-    let mut e = first_edge(t, c, x);
+    let mut e = first_edge(tables, c, x);
     let mut g = h;
     while e < c.edges {
-        if tables::edge(t, c, e, 0) != x {
+        if tables::edge(tables, c, e, 0) != x {
             return g;
         }
         g = walk_edge(
@@ -133,12 +150,12 @@ fn walk_from(
             x,
             v,
             e,
-            t,
+            tables,
             distances,
             patterns,
             work,
             labels,
-            metres,
+            label_distances,
             g,
         );
         e += 1;
@@ -152,16 +169,22 @@ fn walk_all(
     ctx: Context,
     stamp: u32,
     n: usize,
-    t: &[u32],
+    tables: &[u32],
     distances: &[f64],
     patterns: &[u8],
     work: &mut [u32],
     labels: &mut [u32],
-    metres: &mut [f64],
+    label_distances: &mut [f64],
     h: Head,
 ) -> Head
-    requires { ⌜ Ready lay stamp (memory (now work) (now labels) (now metres) h) ⌝ ∗ ⌜ WalkGround lay ctx (now t) (length (now distances)) (length (now patterns)) ⌝ ∗ ⌜ StopsListed lay (now work) n ⌝ }
-    ensures { λ r. ⌜ Step lay stamp (WalksAgree lay ctx (now (t .entry)) (now (distances .entry)) (now (patterns .entry)) (now (work .entry))) (λ T Q. walkAll T Q (ctx .flagged) stamp (part (now (work .entry)) (lay .other) n)) (memory (now (work .entry)) (now (labels .entry)) (now (metres .entry)) h) (memory (now (work .exit)) (now (labels .exit)) (now (metres .exit)) r) ⌝ ∗ ⌜ Falls lay (now (work .entry)) (now (work .exit)) ⌝ }
+    requires { ⌜ Ready lay stamp (memory (now work) (now labels) (now «label_distances») h) ⌝
+        ∗ ⌜ WalkGround lay ctx (now tables) (length (now distances)) (length (now patterns)) ⌝
+        ∗ ⌜ StopsListed lay (now work) n ⌝ }
+    ensures { λ r. ⌜ Step lay stamp (WalksAgree lay ctx (now (tables .entry)) (now (distances .entry)) (now (patterns .entry)) (now (work .entry)))
+        (λ T Q. walkAll T Q (ctx .flagged) stamp (part (now (work .entry)) (lay .other) n))
+        (memory (now (work .entry)) (now (labels .entry)) (now («label_distances» .entry)) h)
+        (memory (now (work .exit)) (now (labels .exit)) (now («label_distances» .exit)) r) ⌝
+        ∗ ⌜ Falls lay (now (work .entry)) (now (work .exit)) ⌝ }
 {
     let mut g = h;
     let mut i: usize = 0;
@@ -175,12 +198,12 @@ fn walk_all(
             stamp,
             x,
             v,
-            t,
+            tables,
             distances,
             patterns,
             work,
             labels,
-            metres,
+            label_distances,
             g,
         );
         i += 1;
@@ -204,8 +227,11 @@ fn append_one(lay: Lay, stamp: u32, s: usize, work: &mut [u32], count: usize) ->
 
 // Those of the first n stops of the other list that bear the stamp are put behind the list.
 fn append_stamped(lay: Lay, stamp: u32, n: usize, work: &mut [u32], count: usize) -> usize
-    requires { ⌜ Sized lay (length (now work)) (lay .stops * 104) (lay .stops * 13) ⌝ ∗ ⌜ StopsListed lay (now work) n ⌝ ∗ ⌜ count + n ≤ lay .stops + 64 ⌝ }
-    ensures { λ r. ⌜ Appended lay (now (work .entry)) (now (work .exit)) count r (bearing lay stamp (now (work .entry)) (part (now (work .entry)) (lay .other) n)) ⌝ }
+    requires { ⌜ Sized lay (length (now work)) (lay .stops * 104) (lay .stops * 13) ⌝
+        ∗ ⌜ StopsListed lay (now work) n ⌝
+        ∗ ⌜ count + n ≤ lay .stops + 64 ⌝ }
+    ensures { λ r. ⌜ Appended lay (now (work .entry)) (now (work .exit)) count r
+        (bearing lay stamp (now (work .entry)) (part (now (work .entry)) (lay .other) n)) ⌝ }
 {
     let mut k = count;
     let mut i: usize = 0;
@@ -223,16 +249,21 @@ fn append_stamped(lay: Lay, stamp: u32, n: usize, work: &mut [u32], count: usize
 pub fn walk_phase(
     ctx: Context,
     stamp: u32,
-    t: &[u32],
+    tables: &[u32],
     distances: &[f64],
     patterns: &[u8],
     work: &mut [u32],
     labels: &mut [u32],
-    metres: &mut [f64],
+    label_distances: &mut [f64],
     h: Head,
 ) -> Head
-    requires { ⌜ Ready (ctx .lay) stamp (memory (now work) (now labels) (now metres) h) ⌝ ∗ ⌜ WalkGround (ctx .lay) ctx (now t) (length (now distances)) (length (now patterns)) ⌝ ∗ ⌜ StopsListed (turned (ctx .lay)) (now work) (h .count) ⌝ }
-    ensures { λ r. ⌜ WalkPhase (ctx .lay) (ctx .flagged) stamp (WalksAgree (ctx .lay) ctx (now (t .entry)) (now (distances .entry)) (now (patterns .entry)) (now (work .entry))) (memory (now (work .entry)) (now (labels .entry)) (now (metres .entry)) h) (memory (now (work .exit)) (now (labels .exit)) (now (metres .exit)) r) ⌝ }
+    requires { ⌜ Ready (ctx .lay) stamp (memory (now work) (now labels) (now «label_distances») h) ⌝
+        ∗ ⌜ WalkGround (ctx .lay) ctx (now tables) (length (now distances)) (length (now patterns)) ⌝
+        ∗ ⌜ StopsListed (turned (ctx .lay)) (now work) (h .count) ⌝ }
+    ensures { λ r. ⌜ WalkPhase (ctx .lay) (ctx .flagged) stamp
+        (WalksAgree (ctx .lay) ctx (now (tables .entry)) (now (distances .entry)) (now (patterns .entry)) (now (work .entry)))
+        (memory (now (work .entry)) (now (labels .entry)) (now («label_distances» .entry)) h)
+        (memory (now (work .exit)) (now (labels .exit)) (now («label_distances» .exit)) r) ⌝ }
 {
     let back = Lay {
         stops: ctx.lay.stops,
@@ -253,12 +284,12 @@ pub fn walk_phase(
         ctx,
         stamp,
         n,
-        t,
+        tables,
         distances,
         patterns,
         work,
         labels,
-        metres,
+        label_distances,
         g,
     );
     if ctx.flagged {

@@ -1,7 +1,8 @@
-// walk: how long a walk takes in a query, and how many rounds a query has (document 01, item 2; `effective_duration_s`
+// walk_time: how long a walk takes in a query, and how many rounds a query has (document 01, item 2; `effective_duration_s`
 // of pack.rs, `tbr_max_rounds` of tbr.rs).
-// Specs: the GTFS pathway modes that a wheelchair query takes at 100 times their duration; the effective duration; the
-// round count; what the exported call answers.
+// Place: a leaf. The call of the duration: `leaf_calls`.
+// Specs (a claim): the GTFS pathway modes that a wheelchair query takes at 100 times their duration; the effective duration; the
+// round count.
 // Proves: both are those of the definitions, for every input; an effective duration lies between the duration and
 // 104,857,500 seconds, a round count between 4 and 12, and it never falls when an argument grows.
 // Assumes nothing.

@@ -9,11 +9,11 @@ use Rattle.arc_flags.proofs.some_window_skips.Statement.{statement}
 use Rattle.arc_flags.proofs.some_window_skips.Tie as tie
 
 abbrev Inv-loop : tie.InvT-loop
-Inv-loop runs area rows patterns count target from₀ from =
-    (from ≤ rows) × ((T : Tables) (Q : Query) → Aimed T Q patterns count target → NoneBelow (rowSkipped T Q area) runs from)
+Inv-loop runs transfers rows patterns count target from₀ from =
+    (from ≤ rows) × ((T : Tables) (Q : Query) → Aimed T Q patterns count target → NoneBelow (rowSkipped T Q transfers) runs from)
 
 abbrev μ-loop : tie.MeasureT-loop
-μ-loop runs area rows patterns count target from₀ from = rows - from
+μ-loop runs transfers rows patterns count target from₀ from = rows - from
 
 loop-holds : tie.Need-loop-holds Inv-loop μ-loop
 loop-holds c = (omega arith, λ T Q a e k l u v. absurd (omega arith))
@@ -28,7 +28,7 @@ window-skips-requires : tie.Need-window-skips-requires Inv-loop μ-loop
 window-skips-requires c κs = let s = c .before .before .before .before .before .before in (s .pre .0, (record { few = omega (arith, s .pre .1 .0 .few, c .smaller .ensures); fit = omega (arith, s .pre .1 .0 .fit, c .smaller .ensures) }, omega (arith, c .smaller .ensures)))
 
 returns : tie.Need-returns Inv-loop μ-loop
-returns c = let s = c .before .before .before .before .before .before .before .before in record { says = λ T Q a. window-yes (rowSkipped T Q (now (s .args .area))) (now (s .args .runs)) _ _ (c .before .window-skips .ensures .says T Q a) (c .if1 .taken) }
+returns c = let s = c .before .before .before .before .before .before .before .before in record { says = λ T Q a. window-yes (rowSkipped T Q (now (s .args .transfers))) (now (s .args .runs)) _ _ (c .before .window-skips .ensures .says T Q a) (c .if1 .taken) }
 
 add-from : tie.Need-add-from Inv-loop μ-loop
 add-from c = omega arith
@@ -37,10 +37,10 @@ loop-less : tie.Need-loop-less Inv-loop μ-loop
 loop-less c = omega arith
 
 loop-again : tie.Need-loop-again Inv-loop μ-loop
-loop-again c = let s = c .before .before .before .before .before .before .before .before in let w = c .before .before .before .before .loop in (omega (arith, c .before .before .smaller .ensures), λ T Q a. window-no (rowSkipped T Q (now (s .args .area))) (now (s .args .runs)) (w .from) _ (w .inv .1 T Q a) (c .before .window-skips .ensures .says T Q a) (c .if1 .left))
+loop-again c = let s = c .before .before .before .before .before .before .before .before in let w = c .before .before .before .before .loop in (omega (arith, c .before .before .smaller .ensures), λ T Q a. window-no (rowSkipped T Q (now (s .args .transfers))) (now (s .args .runs)) (w .from) _ (w .inv .1 T Q a) (c .before .window-skips .ensures .says T Q a) (c .if1 .left))
 
 returns-2 : tie.Need-returns-2 Inv-loop μ-loop
-returns-2 c = let s = c .before .before .before .before .before in let w = c .before .loop in record { says = λ T Q a. windows-left (rowSkipped T Q (now (s .args .area))) (now (s .args .runs)) (w .from) (s .args .rows) (s .pre .1 .1) (w .inv .1 T Q a) (c .loop-test .left) }
+returns-2 c = let s = c .before .before .before .before .before in let w = c .before .loop in record { says = λ T Q a. windows-left (rowSkipped T Q (now (s .args .transfers))) (now (s .args .runs)) (w .from) (s .args .rows) (s .pre .1 .1) (w .inv .1 T Q a) (c .loop-test .left) }
 
 pub some-window-skips-spec : {M : Type 1} → statement M
 some-window-skips-spec =

@@ -13,12 +13,12 @@ use Rattle.arc_flags.proofs.target_cells.Statement.{statement}
 use Rattle.arc_flags.proofs.target_cells.Tie as tie
 
 abbrev Inv-loop : tie.InvT-loop
-Inv-loop t cells egress from n set₀ i₀ set i =
-    (n ≡ length egress / 2) × (i ≤ n) × ((k : ℕ) → k < n → from + getD egress (k * 2) 0 < length t) × (from < 4294967296)
-    × ((T : Tables) (Q : Query) → ((s : ℕ) → T .timetable .cell s ≡ getD t (from + s) 0) → T .cells ≡ cells → Q .egress ≡ egressRows egress → targetCells T Q ≡ ahead T egress n i set)
+Inv-loop tables cells egress from n set₀ i₀ set i =
+    (n ≡ length egress / 2) × (i ≤ n) × ((k : ℕ) → k < n → from + getD egress (k * 2) 0 < length tables) × (from < 4294967296)
+    × ((T : Tables) (Q : Query) → ((s : ℕ) → T .timetable .cell s ≡ getD tables (from + s) 0) → T .cells ≡ cells → Q .egress ≡ egressRows egress → targetCells T Q ≡ ahead T egress n i set)
 
 abbrev μ-loop : tie.MeasureT-loop
-μ-loop t cells egress from n set₀ i₀ set i = n - i
+μ-loop tables cells egress from n set₀ i₀ set i = n - i
 
 mul-from : tie.Need-mul-from Inv-loop μ-loop
 mul-from c = search needs
@@ -72,10 +72,10 @@ loop-less : tie.Need-loop-less Inv-loop μ-loop
 loop-less c = omega arith
 
 loop-again : tie.Need-loop-again Inv-loop μ-loop
-loop-again c = let w = c .before .before .before .before .loop in let s = c .before .before .before .before .before .before .before .before .before .before .before .before in (w .inv .0, omega arith, w .inv .2, w .inv .3, λ T Q ec en eq. w .inv .4 T Q ec en eq ∙ ahead-step T (now (s .args .egress)) _ (w .i) _ _ _ (c .before .before .before .loop-test .taken) (c .before .field2 .ensures .0 ∙ ap (λ (x : ℕ). getD (now (s .args .t)) (stopsAt (s .args .c) + x) 0) (c .before .before .field .ensures .0) ∙ sym (ec _)) (c .set-bit .ensures))
+loop-again c = let w = c .before .before .before .before .loop in let s = c .before .before .before .before .before .before .before .before .before .before .before .before in (w .inv .0, omega arith, w .inv .2, w .inv .3, λ T Q ec en eq. w .inv .4 T Q ec en eq ∙ ahead-step T (now (s .args .egress)) _ (w .i) _ _ _ (c .before .before .before .loop-test .taken) (c .before .field2 .ensures .0 ∙ ap (λ (x : ℕ). getD (now (s .args .tables)) (stopsAt (s .args .c) + x) 0) (c .before .before .field .ensures .0) ∙ sym (ec _)) (c .set-bit .ensures))
 
 returns : tie.Need-returns Inv-loop μ-loop
-returns c = let w = c .before .loop in let s = c .before .before .before .before .before .before .before .before .before in λ T Q e en eq. ahead-end T (now (s .args .egress)) _ (w .i) _ (c .loop-test .left) ∙ sym (w .inv .4 T Q (cell-is T (now (s .args .t)) (s .args .c) e) en eq)
+returns c = let w = c .before .loop in let s = c .before .before .before .before .before .before .before .before .before in λ T Q e en eq. ahead-end T (now (s .args .egress)) _ (w .i) _ (c .loop-test .left) ∙ sym (w .inv .4 T Q (cell-is T (now (s .args .tables)) (s .args .c) e) en eq)
 
 pub target-cells-spec : {M : Type 1} → statement M
 target-cells-spec =

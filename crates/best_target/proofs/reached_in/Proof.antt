@@ -14,10 +14,10 @@ load-label-requires : tie.Need-load-label-requires
 load-label-requires c κs = search needs
 
 reached-by-requires : tie.Need-reached-by-requires
-reached-by-requires c κs = let s = c .before .before .before .before in omega (arith, ap reachedBy (c .load-label .ensures ∙ ap (loaded (now (s .args .labels)) (now (s .args .distances))) (c .before .record-of .ensures)), s .pre .0 .small (s .args .stop) (s .args .row) (s .pre .1 .0) (s .pre .1 .1))
+reached-by-requires c κs = let s = c .before .before .before .before in omega (arith, ap reachedBy (c .load-label .ensures ∙ ap (loaded (now (s .args .labels)) (now (s .args .label-distances))) (c .before .record-of .ensures)), s .pre .0 .small (s .args .stop) (s .args .row) (s .pre .1 .0) (s .pre .1 .1))
 
 returns : tie.Need-returns
-returns c = let s = c .before .before .before .before .before in c .reached-by .ensures ∙ ap reachedBy (c .before .load-label .ensures ∙ ap (loaded (now (s .args .labels)) (now (s .args .distances))) (c .before .before .record-of .ensures))
+returns c = let s = c .before .before .before .before .before in c .reached-by .ensures ∙ ap reachedBy (c .before .load-label .ensures ∙ ap (loaded (now (s .args .labels)) (now (s .args .label-distances))) (c .before .before .record-of .ensures))
 
 pub reached-in-spec : {M : Type 1} → statement M
 reached-in-spec =

@@ -13,11 +13,11 @@ use Rattle.best_target.proofs.row_target.Statement.{statement}
 use Rattle.best_target.proofs.row_target.Tie as tie
 
 abbrev Inv-loop : tie.InvT-loop
-Inv-loop labels distances stops egress row n total₀ stop₀ i₀ total stop i =
-    (n ≡ length egress / 2) × ((T : Tables) (Q : Query) (a : Arrivals) → Labelled a stops labels distances → rowTarget T Q a row (egressRows egress) (never, never) ≡ rowAhead T Q a row egress n i (total, stop))
+Inv-loop labels label-distances stops egress row n total₀ stop₀ i₀ total stop i =
+    (n ≡ length egress / 2) × ((T : Tables) (Q : Query) (a : Arrivals) → Labelled a stops labels label-distances → rowTarget T Q a row (egressRows egress) (never, never) ≡ rowAhead T Q a row egress n i (total, stop))
 
 abbrev μ-loop : tie.MeasureT-loop
-μ-loop labels distances stops egress row n total₀ stop₀ i₀ total stop i = n - i
+μ-loop labels label-distances stops egress row n total₀ stop₀ i₀ total stop i = n - i
 
 loop-holds : tie.Need-loop-holds Inv-loop μ-loop
 loop-holds c = let s = c .before .before .before in (refl, λ T Q a g. row-first T Q a (s .args .row) (now (s .args .egress)) _ (never, never) refl)
@@ -50,7 +50,7 @@ loop-less : tie.Need-loop-less Inv-loop μ-loop
 loop-less c = omega arith
 
 loop-again : tie.Need-loop-again Inv-loop μ-loop
-loop-again c = let s = c .before .before .before .before .before .before .before .before .before in let w = c .before .before .before .before .before .loop in (w .inv .0, λ T Q a g. w .inv .1 T Q a g ∙ row-step T Q a (s .args .row) (now (s .args .egress)) _ (w .i) _ (w .total, w .stop) _ (c .before .before .before .before .loop-test .taken) (c .before .reached-in .ensures ∙ ap (λ (x : ℕ). reachedBy (loaded (now (s .args .labels)) (now (s .args .distances)) (recordOf x (s .args .row)))) (c .before .before .before .word .ensures) ∙ ap reachedBy (sym (g .at _ (s .args .row) (s .pre .1 .0 .stop (c .before .before .before .before .before .loop .i) (omega (arith, c .before .before .before .before .before .loop .inv .0))) (s .pre .1 .1)))) (c .with-reach .ensures ∙ ap₂ (λ (x y : ℕ). withReach (w .total, w .stop) (c .before .reached-in .result) x y) (c .before .before .before .word .ensures) (c .before .before .word2 .ensures)))
+loop-again c = let s = c .before .before .before .before .before .before .before .before .before in let w = c .before .before .before .before .before .loop in (w .inv .0, λ T Q a g. w .inv .1 T Q a g ∙ row-step T Q a (s .args .row) (now (s .args .egress)) _ (w .i) _ (w .total, w .stop) _ (c .before .before .before .before .loop-test .taken) (c .before .reached-in .ensures ∙ ap (λ (x : ℕ). reachedBy (loaded (now (s .args .labels)) (now (s .args .label-distances)) (recordOf x (s .args .row)))) (c .before .before .before .word .ensures) ∙ ap reachedBy (sym (g .at _ (s .args .row) (s .pre .1 .0 .stop (c .before .before .before .before .before .loop .i) (omega (arith, c .before .before .before .before .before .loop .inv .0))) (s .pre .1 .1)))) (c .with-reach .ensures ∙ ap₂ (λ (x y : ℕ). withReach (w .total, w .stop) (c .before .reached-in .result) x y) (c .before .before .before .word .ensures) (c .before .before .word2 .ensures)))
 
 returns : tie.Need-returns Inv-loop μ-loop
 returns c = let s = c .before .before .before .before .before in let w = c .before .loop in λ T Q a g. row-end T Q a (s .args .row) (now (s .args .egress)) _ (w .i) (w .total, w .stop) (c .loop-test .left) ∙ sym (w .inv .1 T Q a g)

@@ -13,10 +13,10 @@ use Rattle.query_types.specs.Slices.{slices}
 use Rattle.departure_scan.proofs.first_not_before.Tie as tie
 
 abbrev Inv-loop : tie.InvT-loop
-Inv-loop t c list m lo₀ hi₀ lo hi = Halved (λ i. leb m (rowDeparture (timetable t c) (rowAt list i))) (length list / 2) lo hi
+Inv-loop tables c list m lo₀ hi₀ lo hi = Halved (λ i. leb m (rowDeparture (timetable tables c) (rowAt list i))) (length list / 2) lo hi
 
 abbrev μ-loop : tie.MeasureT-loop
-μ-loop t c list m lo₀ hi₀ lo hi = hi - lo
+μ-loop tables c list m lo₀ hi₀ lo hi = hi - lo
 
 loop-holds : tie.Need-loop-holds Inv-loop μ-loop
 loop-holds c = halved-start _ _

@@ -20,11 +20,11 @@ use Rattle.query_types.specs.Slices.{slices}
 use Rattle.departure_scan.proofs.scan_departures.Tie as tie
 
 abbrev Inv-loop : tie.InvT-loop
-Inv-loop t rows stop-rows built bytes area p at list work₀ labels₀ distances₀ queue₀ m g₀ i₀ work labels distances queue g i =
-    (m ≡ length list / 2) × Riding (p .context .lay) (p .stamp) (Rides (p .context) (slices t rows stop-rows built bytes area) work₀) (λ T Q. scanDepartures T Q (p .context .flagged) (at .«has_freq») (p .stamp - 2) (p .stamp) (at .stop) (at .after) (rowsOf list (length list / 2))) (λ T Q. scanFrom T Q (p .context .flagged) (at .«has_freq») (p .stamp - 2) (p .stamp) (at .stop) (at .after) list (length list / 2) i) (memory work₀ labels₀ distances₀ g₀) (memory work labels distances g) queue₀ queue
+Inv-loop tables delay-rows stop-rows built patterns transfers p at list work₀ labels₀ label-distances₀ queue₀ m g₀ i₀ work labels label-distances queue g i =
+    (m ≡ length list / 2) × Riding (p .context .lay) (p .stamp) (Rides (p .context) (slices tables delay-rows stop-rows built patterns transfers) work₀) (λ T Q. scanDepartures T Q (p .context .flagged) (at .«has_freq») (p .stamp - 2) (p .stamp) (at .stop) (at .after) (rowsOf list (length list / 2))) (λ T Q. scanFrom T Q (p .context .flagged) (at .«has_freq») (p .stamp - 2) (p .stamp) (at .stop) (at .after) list (length list / 2) i) (memory work₀ labels₀ label-distances₀ g₀) (memory work labels label-distances g) queue₀ queue
 
 abbrev μ-loop : tie.MeasureT-loop
-μ-loop t rows stop-rows built bytes area p at list work₀ labels₀ distances₀ queue₀ m g₀ i₀ work labels distances queue g i =
+μ-loop tables delay-rows stop-rows built patterns transfers p at list work₀ labels₀ label-distances₀ queue₀ m g₀ i₀ work labels label-distances queue g i =
     m - i
 
 loop-holds : tie.Need-loop-holds Inv-loop μ-loop
@@ -34,7 +34,7 @@ departure-row-requires : tie.Need-departure-row-requires Inv-loop μ-loop
 departure-row-requires c κs = omega (arith, c .loop-test .taken, c .before .loop .inv .0)
 
 too-late-requires : tie.Need-too-late-requires Inv-loop μ-loop
-too-late-requires c κs = let a = c .before .before .before .before .before .before .before .before .before .before .before .before .before .before in let x = a .args in let G = a .pre .0 in let p = c .before .before .loop .inv .1 in let K = a .pre .1 .0 in let e = K .known (c .before .before .loop .i) (omega (arith, c .before .loop-test .taken, c .before .before .loop .inv .0)) in (G .laid .netted .ground .sane, subst (λ (z : DepartureRow). Event (now (x .t)) (x .p .context .counts .timetable) (z .trip) (z .offset)) (sym (c .departure-row .ensures)) (record { trip = e .trip; offset = e .offset }))
+too-late-requires c κs = let a = c .before .before .before .before .before .before .before .before .before .before .before .before .before .before in let x = a .args in let G = a .pre .0 in let p = c .before .before .loop .inv .1 in let K = a .pre .1 .0 in let e = K .known (c .before .before .loop .i) (omega (arith, c .before .loop-test .taken, c .before .before .loop .inv .0)) in (G .laid .netted .ground .sane, subst (λ (z : DepartureRow). Event (now (x .tables)) (x .p .context .counts .timetable) (z .trip) (z .offset)) (sym (c .departure-row .ensures)) (record { trip = e .trip; offset = e .offset }))
 
 same-length : tie.Need-same-length Inv-loop μ-loop
 same-length c = let a = c .before .before .before .before .before .before .before .before .before .before .before .before .before .before .before .before in let x = a .args in let G = a .pre .0 in let p = c .before .before .before .before .loop .inv .1 in p .kept .size
@@ -52,7 +52,7 @@ returns : tie.Need-returns Inv-loop μ-loop
 returns c = let a = c .before .before .before .before .before .before .before .before .before .before .before .before .before .before .before .before in let x = a .args in let G = a .pre .0 in let p = c .before .before .before .before .loop .inv .1 in ride-end _ p (λ T Q y s v. from-late T Q (x .p .context .flagged) (x .at .«has_freq») (x .p .stamp - 2) (x .p .stamp) (x .at .stop) (x .at .after) (now (x .list)) (length (now (x .list)) / 2) (c .before .before .before .before .loop .i) s (omega (arith, c .before .before .before .loop-test .taken, c .before .before .before .before .loop .inv .0)) (c .before .before .departure-row .result) (c .before .before .departure-row .ensures) (late-seen v (x .at .«has_freq») _ _ (c .before .too-late .result) true (c .before .too-late .ensures T Q (y .nets .agree .timetable) (y .nets .asks)) (c .if1 .taken)))
 
 take-departure-requires : tie.Need-take-departure-requires Inv-loop μ-loop
-take-departure-requires c κs = let a = c .before .before .before .before .before .before .before .before .before .before .before .before .before .before .before .before .before .before .before .before in let x = a .args in let G = a .pre .0 in let p = c .before .before .before .before .before .before .before .before .loop .inv .1 in let K = a .pre .1 .0 in let e = K .known (c .before .before .before .before .before .before .before .before .loop .i) (omega (arith, c .before .before .before .before .before .before .before .loop-test .taken, c .before .before .before .before .before .before .before .before .loop .inv .0)) in (going-on G p, (subst (λ (z : DepartureRow). Event (now (x .t)) (x .p .context .counts .timetable) (z .trip) (z .offset)) (sym (c .before .before .before .before .before .before .departure-row .ensures)) (record { trip = e .trip; offset = e .offset }), a .pre .1 .1))
+take-departure-requires c κs = let a = c .before .before .before .before .before .before .before .before .before .before .before .before .before .before .before .before .before .before .before .before in let x = a .args in let G = a .pre .0 in let p = c .before .before .before .before .before .before .before .before .loop .inv .1 in let K = a .pre .1 .0 in let e = K .known (c .before .before .before .before .before .before .before .before .loop .i) (omega (arith, c .before .before .before .before .before .before .before .loop-test .taken, c .before .before .before .before .before .before .before .before .loop .inv .0)) in (going-on G p, (subst (λ (z : DepartureRow). Event (now (x .tables)) (x .p .context .counts .timetable) (z .trip) (z .offset)) (sym (c .before .before .before .before .before .before .departure-row .ensures)) (record { trip = e .trip; offset = e .offset }), a .pre .1 .1))
 
 same-length-5 : tie.Need-same-length-5 Inv-loop μ-loop
 same-length-5 c = let a = c .before .before .before .before .before .before .before .before .before .before .before .before .before .before .before .before .before .before .before .before .before .before .before .before .before .before .before .before .before .before in let x = a .args in let G = a .pre .0 in let p = c .before .before .before .before .before .before .before .before .before .before .before .before .before .before .before .before .before .before .loop .inv .1 in let z = c .before .before .before .before .before .before .before .before .before .take-departure .ensures in z .step .kept .size ∙ p .kept .size

@@ -25,7 +25,7 @@ both-requires : tie.Need-both-requires
 both-requires c κs = search needs
 
 returns : tie.Need-returns
-returns c = let a = c .before .before .before .before .before .before .before in let x = a .args in λ T Q e q. late-is T Q (now (x .t)) (x .p .context .counts .timetable) (x .p .context .net .terms) (x .has-freq) (x .d .trip) (x .d .offset) (x .best) _ _ e q (c .before .before .before .before .before .trip .ensures .0) (c .before .before .before .time .ensures .0) (c .both .ensures)
+returns c = let a = c .before .before .before .before .before .before .before in let x = a .args in λ T Q e q. late-is T Q (now (x .tables)) (x .p .context .counts .timetable) (x .p .context .net .terms) (x .has-freq) (x .d .trip) (x .d .offset) (x .best) _ _ e q (c .before .before .before .before .before .trip .ensures .0) (c .before .before .before .time .ensures .0) (c .both .ensures)
 
 pub too-late-spec : {M : Type 1} → statement M
 too-late-spec =

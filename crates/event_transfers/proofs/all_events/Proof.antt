@@ -12,10 +12,10 @@ use Rattle.event_transfers.proofs.all_events.Statement.{statement}
 use Rattle.event_transfers.proofs.all_events.Tie as tie
 
 abbrev Inv-loop : tie.InvT-loop
-Inv-loop t c runs d work ends area₀ evs₀ time trips n₀ e₀ ti₀ area evs n e ti = (trips ≡ c .trips) × (e ≤ ti * 65536) × (n ≤ 65537) × (length area ≡ length area₀) × (length evs ≡ length evs₀) × (layEvents time 0 (allKeys (prepared t c runs work time)) (areaWalk 0 area₀ evs₀) ≡ layEvents time e (flatten (tabFrom (tripKeys (prepared t c runs work time)) ti (trips - ti))) (areaWalk n area evs))
+Inv-loop tables c runs d work ends area₀ transfer-runs₀ time trips n₀ e₀ ti₀ area transfer-runs n e ti = (trips ≡ c .trips) × (e ≤ ti * 65536) × (n ≤ 65537) × (length area ≡ length area₀) × (length transfer-runs ≡ length transfer-runs₀) × (layEvents time 0 (allKeys (prepared tables c runs work time)) (areaWalk 0 area₀ transfer-runs₀) ≡ layEvents time e (flatten (tabFrom (tripKeys (prepared tables c runs work time)) ti (trips - ti))) (areaWalk n area transfer-runs))
 
 abbrev μ-loop : tie.MeasureT-loop
-μ-loop t c runs d work ends area₀ evs₀ time trips n₀ e₀ ti₀ area evs n e ti = trips - ti
+μ-loop tables c runs d work ends area₀ transfer-runs₀ time trips n₀ e₀ ti₀ area transfer-runs n e ti = trips - ti
 
 loop-holds : tie.Need-loop-holds Inv-loop μ-loop
 loop-holds c = (refl, omega arith, omega arith, refl, refl, trips-start _ _ _ _)
@@ -36,7 +36,7 @@ loop-less : tie.Need-loop-less Inv-loop μ-loop
 loop-less c = omega arith
 
 loop-again : tie.Need-loop-again Inv-loop μ-loop
-loop-again c = (c .before .before .before .before .before .before .before .before .before .loop .inv .0, omega (arith, c .trip .ensures .0, c .before .before .before .before .before .before .before .before .before .before .before .before .before .before .before .before .pre .0 .counts .times, c .before .before .before .before .before .before .before .before .before .before .before .before .before .before .before .before .pre .0 .runs .run (c .before .before .before .before .before .before .before .before .before .loop .ti) (omega arith)), c .before .before .before .before .before .trip-events .ensures .1, omega arith, omega arith, trips-again (c .before .before .before .before .before .before .before .before .before .before .before .before .before .before .before .before .args .time) (c .before .before .before .before .before .before .before .before .before .loop .e) (c .before .before .before .before .before .before .before .before .before .loop .ti) (c .before .before .before .before .before .before .before .before .before .before .before .before .before .before .before .before .args .c .trips) (c .trip .result) (tripKeys (prepared (now (c .before .before .before .before .before .before .before .before .before .before .before .before .before .before .before .before .args .t)) (c .before .before .before .before .before .before .before .before .before .before .before .before .before .before .before .before .args .c) (now (c .before .before .before .before .before .before .before .before .before .before .before .before .before .before .before .before .args .runs)) (now (c .before .before .before .before .before .before .before .before .before .before .before .before .before .before .before .before .args .work)) (c .before .before .before .before .before .before .before .before .before .before .before .before .before .before .before .before .args .time))) (areaWalk (c .before .before .before .before .before .before .before .before .before .loop .n) (c .before .before .before .before .before .before .before .before .before .loop .area) (c .before .before .before .before .before .before .before .before .before .loop .evs)) (c .before .before .before .before .before .before .before .before .before .loop .inv .5) (c .before .before .before .before .before .trip-events .ensures .0) (trip-length _ _ _ (c .trip .ensures .0)) (omega arith))
+loop-again c = (c .before .before .before .before .before .before .before .before .before .loop .inv .0, omega (arith, c .trip .ensures .0, c .before .before .before .before .before .before .before .before .before .before .before .before .before .before .before .before .pre .0 .counts .times, c .before .before .before .before .before .before .before .before .before .before .before .before .before .before .before .before .pre .0 .runs .run (c .before .before .before .before .before .before .before .before .before .loop .ti) (omega arith)), c .before .before .before .before .before .trip-events .ensures .1, omega arith, omega arith, trips-again (c .before .before .before .before .before .before .before .before .before .before .before .before .before .before .before .before .args .time) (c .before .before .before .before .before .before .before .before .before .loop .e) (c .before .before .before .before .before .before .before .before .before .loop .ti) (c .before .before .before .before .before .before .before .before .before .before .before .before .before .before .before .before .args .c .trips) (c .trip .result) (tripKeys (prepared (now (c .before .before .before .before .before .before .before .before .before .before .before .before .before .before .before .before .args .tables)) (c .before .before .before .before .before .before .before .before .before .before .before .before .before .before .before .before .args .c) (now (c .before .before .before .before .before .before .before .before .before .before .before .before .before .before .before .before .args .runs)) (now (c .before .before .before .before .before .before .before .before .before .before .before .before .before .before .before .before .args .work)) (c .before .before .before .before .before .before .before .before .before .before .before .before .before .before .before .before .args .time))) (areaWalk (c .before .before .before .before .before .before .before .before .before .loop .n) (c .before .before .before .before .before .before .before .before .before .loop .area) (c .before .before .before .before .before .before .before .before .before .loop .transfer-runs)) (c .before .before .before .before .before .before .before .before .before .loop .inv .5) (c .before .before .before .before .before .trip-events .ensures .0) (trip-length _ _ _ (c .trip .ensures .0)) (omega arith))
 
 same-length : tie.Need-same-length Inv-loop μ-loop
 same-length c = omega arith
@@ -45,7 +45,7 @@ same-length-2 : tie.Need-same-length-2 Inv-loop μ-loop
 same-length-2 c = omega arith
 
 returns : tie.Need-returns Inv-loop μ-loop
-returns c = (trips-left (c .before .before .before .before .before .before .before .before .args .time) (c .before .loop .e) (c .before .loop .ti) (c .before .before .before .before .before .before .before .before .args .c .trips) (tripKeys (prepared (now (c .before .before .before .before .before .before .before .before .args .t)) (c .before .before .before .before .before .before .before .before .args .c) (now (c .before .before .before .before .before .before .before .before .args .runs)) (now (c .before .before .before .before .before .before .before .before .args .work)) (c .before .before .before .before .before .before .before .before .args .time))) (c .before .loop .inv .5) (omega arith), c .before .loop .inv .2)
+returns c = (trips-left (c .before .before .before .before .before .before .before .before .args .time) (c .before .loop .e) (c .before .loop .ti) (c .before .before .before .before .before .before .before .before .args .c .trips) (tripKeys (prepared (now (c .before .before .before .before .before .before .before .before .args .tables)) (c .before .before .before .before .before .before .before .before .args .c) (now (c .before .before .before .before .before .before .before .before .args .runs)) (now (c .before .before .before .before .before .before .before .before .args .work)) (c .before .before .before .before .before .before .before .before .args .time))) (c .before .loop .inv .5) (omega arith), c .before .loop .inv .2)
 
 pub all-events-spec : {M : Type 1} → statement M
 all-events-spec =

@@ -10,10 +10,10 @@ use Rattle.event_transfers.proofs.event_count.Statement.{statement}
 use Rattle.event_transfers.proofs.event_count.Tie as tie
 
 abbrev Inv-loop : tie.InvT-loop
-Inv-loop t c n e₀ i₀ e i = (n ≡ c .trips) × (i ≤ n) × (e ≡ eventsBefore (timetable t c) i) × (e ≤ i * 4294967296)
+Inv-loop tables c n e₀ i₀ e i = (n ≡ c .trips) × (i ≤ n) × (e ≡ eventsBefore (timetable tables c) i) × (e ≤ i * 4294967296)
 
 abbrev μ-loop : tie.MeasureT-loop
-μ-loop t c n e₀ i₀ e i = n - i
+μ-loop tables c n e₀ i₀ e i = n - i
 
 loop-holds : tie.Need-loop-holds Inv-loop μ-loop
 unfolding eventsBefore
@@ -32,10 +32,10 @@ loop-less : tie.Need-loop-less Inv-loop μ-loop
 loop-less c = omega arith
 
 loop-again : tie.Need-loop-again Inv-loop μ-loop
-loop-again c = (omega arith, omega arith, omega (arith, c .before .before .loop .inv .2, c .trip .ensures .0, events-step (timetable (now (c .before .before .before .before .args .t)) (c .before .before .before .before .args .c)) (c .before .before .loop .i)), omega arith)
+loop-again c = (omega arith, omega arith, omega (arith, c .before .before .loop .inv .2, c .trip .ensures .0, events-step (timetable (now (c .before .before .before .before .args .tables)) (c .before .before .before .before .args .c)) (c .before .before .loop .i)), omega arith)
 
 returns : tie.Need-returns Inv-loop μ-loop
-returns c = (c .before .loop .inv .2 ∙ ap (eventsBefore (timetable (now (c .before .before .before .args .t)) (c .before .before .before .args .c))) (all-of-them _ _ _ (c .before .loop .inv .0) (c .before .loop .inv .1) (omega arith)), omega (arith, c .before .before .before .pre .0 .trips))
+returns c = (c .before .loop .inv .2 ∙ ap (eventsBefore (timetable (now (c .before .before .before .args .tables)) (c .before .before .before .args .c))) (all-of-them _ _ _ (c .before .loop .inv .0) (c .before .loop .inv .1) (omega arith)), omega (arith, c .before .before .before .pre .0 .trips))
 
 pub event-count-spec : {M : Type 1} → statement M
 event-count-spec =

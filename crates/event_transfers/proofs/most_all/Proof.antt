@@ -11,10 +11,10 @@ use Rattle.event_transfers.proofs.most_all.Statement.{statement}
 use Rattle.event_transfers.proofs.most_all.Tie as tie
 
 abbrev Inv-loop : tie.InvT-loop
-Inv-loop t c runs d work ends time trips n₀ ti₀ n ti = (trips ≡ c .trips) × Most 0 (length (flatten (allKeys (prepared t c runs work time)))) n (length (flatten (tabFrom (λ k. flatten (tripKeys (prepared t c runs work time) k)) ti (trips - ti))))
+Inv-loop tables c runs d work ends time trips n₀ ti₀ n ti = (trips ≡ c .trips) × Most 0 (length (flatten (allKeys (prepared tables c runs work time)))) n (length (flatten (tabFrom (λ k. flatten (tripKeys (prepared tables c runs work time) k)) ti (trips - ti))))
 
 abbrev μ-loop : tie.MeasureT-loop
-μ-loop t c runs d work ends time trips n₀ ti₀ n ti = trips - ti
+μ-loop tables c runs d work ends time trips n₀ ti₀ n ti = trips - ti
 
 loop-holds : tie.Need-loop-holds Inv-loop μ-loop
 loop-holds c = (refl, most-all-start _ _ refl)
@@ -29,10 +29,10 @@ loop-less : tie.Need-loop-less Inv-loop μ-loop
 loop-less c = omega arith
 
 loop-again : tie.Need-loop-again Inv-loop μ-loop
-loop-again c = (c .before .before .loop .inv .0, most-again (λ k. flatten (tripKeys (prepared (now (c .before .before .before .before .before .before .before .args .t)) (c .before .before .before .before .before .before .before .args .c) (now (c .before .before .before .before .before .before .before .args .runs)) (now (c .before .before .before .before .before .before .before .args .work)) (c .before .before .before .before .before .before .before .args .time)) k)) 0 _ (c .before .before .loop .ti) (c .before .before .before .before .before .before .before .args .c .trips) (c .before .before .loop .n) (c .most-trip .result) (c .before .before .loop .inv .1) (c .most-trip .ensures) (omega arith))
+loop-again c = (c .before .before .loop .inv .0, most-again (λ k. flatten (tripKeys (prepared (now (c .before .before .before .before .before .before .before .args .tables)) (c .before .before .before .before .before .before .before .args .c) (now (c .before .before .before .before .before .before .before .args .runs)) (now (c .before .before .before .before .before .before .before .args .work)) (c .before .before .before .before .before .before .before .args .time)) k)) 0 _ (c .before .before .loop .ti) (c .before .before .before .before .before .before .before .args .c .trips) (c .before .before .loop .n) (c .most-trip .result) (c .before .before .loop .inv .1) (c .most-trip .ensures) (omega arith))
 
 returns : tie.Need-returns Inv-loop μ-loop
-returns c = most-left (λ k. flatten (tripKeys (prepared (now (c .before .before .before .before .before .before .args .t)) (c .before .before .before .before .before .before .args .c) (now (c .before .before .before .before .before .before .args .runs)) (now (c .before .before .before .before .before .before .args .work)) (c .before .before .before .before .before .before .args .time)) k)) 0 _ (c .before .loop .ti) (c .before .before .before .before .before .before .args .c .trips) (c .before .loop .n) (c .before .loop .inv .1) (omega arith)
+returns c = most-left (λ k. flatten (tripKeys (prepared (now (c .before .before .before .before .before .before .args .tables)) (c .before .before .before .before .before .before .args .c) (now (c .before .before .before .before .before .before .args .runs)) (now (c .before .before .before .before .before .before .args .work)) (c .before .before .before .before .before .before .args .time)) k)) 0 _ (c .before .loop .ti) (c .before .before .before .before .before .before .args .c .trips) (c .before .loop .n) (c .before .loop .inv .1) (omega arith)
 
 pub most-all-spec : {M : Type 1} → statement M
 most-all-spec =

@@ -13,10 +13,10 @@ use Rattle.event_transfers.proofs.most_trip.Statement.{statement}
 use Rattle.event_transfers.proofs.most_trip.Tie as tie
 
 abbrev Inv-loop : tie.InvT-loop
-Inv-loop t c runs d work ends time ti n first count m₀ off₀ m off = (count ≡ countOf t c ti) × (first ≡ firstOf t c ti) × Most n (length (flatten (tripKeys (prepared t c runs work time) ti))) m (length (flatten (tabFrom (eventKeys (prepared t c runs work time) ti) off (count - off))))
+Inv-loop tables c runs d work ends time ti n first count m₀ off₀ m off = (count ≡ countOf tables c ti) × (first ≡ firstOf tables c ti) × Most n (length (flatten (tripKeys (prepared tables c runs work time) ti))) m (length (flatten (tabFrom (eventKeys (prepared tables c runs work time) ti) off (count - off))))
 
 abbrev μ-loop : tie.MeasureT-loop
-μ-loop t c runs d work ends time ti n first count m₀ off₀ m off = count - off
+μ-loop tables c runs d work ends time ti n first count m₀ off₀ m off = count - off
 
 trip-requires : tie.Need-trip-requires Inv-loop μ-loop
 trip-requires c κs = search needs
@@ -28,10 +28,10 @@ loop-holds : tie.Need-loop-holds Inv-loop μ-loop
 loop-holds c = (c .trip2 .ensures .0, c .before .trip .ensures .0, most-start _ _ _ _ (c .trip2 .ensures .0) (c .before .before .before .before .before .before .pre .1 .1 .1 .few))
 
 add-most-alight : tie.Need-add-most-alight Inv-loop μ-loop
-add-most-alight c = omega (arith, event-time (now (c .before .before .before .before .before .before .before .before .args .t)) (c .before .before .before .before .before .before .before .before .args .c) (c .before .before .before .before .before .before .before .before .args .ti) (c .before .loop .off) (c .before .before .before .trip .result) (c .before .before .before .before .before .before .before .before .pre .0) (c .before .before .before .before .before .before .before .before .pre .1 .1 .1 .below) (omega arith) (c .before .loop .inv .1), c .before .before .before .before .before .before .before .before .pre .0 .counts .times)
+add-most-alight c = omega (arith, event-time (now (c .before .before .before .before .before .before .before .before .args .tables)) (c .before .before .before .before .before .before .before .before .args .c) (c .before .before .before .before .before .before .before .before .args .ti) (c .before .loop .off) (c .before .before .before .trip .result) (c .before .before .before .before .before .before .before .before .pre .0) (c .before .before .before .before .before .before .before .before .pre .1 .1 .1 .below) (omega arith) (c .before .loop .inv .1), c .before .before .before .before .before .before .before .before .pre .0 .counts .times)
 
 most-alight-requires : tie.Need-most-alight-requires Inv-loop μ-loop
-most-alight-requires c κs = (c .before .before .before .before .before .before .before .before .pre .0, (c .before .before .before .before .before .before .before .before .pre .1 .0, (c .before .before .before .before .before .before .before .before .pre .1 .1 .0, record { below = event-time (now (c .before .before .before .before .before .before .before .before .args .t)) (c .before .before .before .before .before .before .before .before .args .c) (c .before .before .before .before .before .before .before .before .args .ti) (c .before .loop .off) (c .before .before .before .trip .result) (c .before .before .before .before .before .before .before .before .pre .0) (c .before .before .before .before .before .before .before .before .pre .1 .1 .1 .below) (omega arith) (c .before .loop .inv .1); few = c .before .loop .inv .2 .few; short = c .before .before .before .before .before .before .before .before .pre .1 .1 .1 .short })))
+most-alight-requires c κs = (c .before .before .before .before .before .before .before .before .pre .0, (c .before .before .before .before .before .before .before .before .pre .1 .0, (c .before .before .before .before .before .before .before .before .pre .1 .1 .0, record { below = event-time (now (c .before .before .before .before .before .before .before .before .args .tables)) (c .before .before .before .before .before .before .before .before .args .c) (c .before .before .before .before .before .before .before .before .args .ti) (c .before .loop .off) (c .before .before .before .trip .result) (c .before .before .before .before .before .before .before .before .pre .0) (c .before .before .before .before .before .before .before .before .pre .1 .1 .1 .below) (omega arith) (c .before .loop .inv .1); few = c .before .loop .inv .2 .few; short = c .before .before .before .before .before .before .before .before .pre .1 .1 .1 .short })))
 
 add-off : tie.Need-add-off Inv-loop μ-loop
 add-off c = omega arith
@@ -40,10 +40,10 @@ loop-less : tie.Need-loop-less Inv-loop μ-loop
 loop-less c = omega arith
 
 loop-again : tie.Need-loop-again Inv-loop μ-loop
-loop-again c = (c .before .before .loop .inv .0, c .before .before .loop .inv .1, most-again (eventKeys (prepared (now (c .before .before .before .before .before .before .before .before .before .args .t)) (c .before .before .before .before .before .before .before .before .before .args .c) (now (c .before .before .before .before .before .before .before .before .before .args .runs)) (now (c .before .before .before .before .before .before .before .before .before .args .work)) (c .before .before .before .before .before .before .before .before .before .args .time)) (c .before .before .before .before .before .before .before .before .before .args .ti)) (c .before .before .before .before .before .before .before .before .before .args .n) _ (c .before .before .loop .off) (c .before .before .before .trip2 .result) (c .before .before .loop .m) (c .most-alight .result) (c .before .before .loop .inv .2) (most-event (prepared (now (c .before .before .before .before .before .before .before .before .before .args .t)) (c .before .before .before .before .before .before .before .before .before .args .c) (now (c .before .before .before .before .before .before .before .before .before .args .runs)) (now (c .before .before .before .before .before .before .before .before .before .args .work)) (c .before .before .before .before .before .before .before .before .before .args .time)) (c .before .before .before .before .before .before .before .before .before .args .ti) (c .before .before .loop .off) (c .before .before .before .before .trip .result) (c .before .before .loop .m) (c .most-alight .result) (c .before .before .loop .inv .1) (c .most-alight .ensures (c .before .before .before .before .before .before .before .before .before .args .ti))) (omega arith))
+loop-again c = (c .before .before .loop .inv .0, c .before .before .loop .inv .1, most-again (eventKeys (prepared (now (c .before .before .before .before .before .before .before .before .before .args .tables)) (c .before .before .before .before .before .before .before .before .before .args .c) (now (c .before .before .before .before .before .before .before .before .before .args .runs)) (now (c .before .before .before .before .before .before .before .before .before .args .work)) (c .before .before .before .before .before .before .before .before .before .args .time)) (c .before .before .before .before .before .before .before .before .before .args .ti)) (c .before .before .before .before .before .before .before .before .before .args .n) _ (c .before .before .loop .off) (c .before .before .before .trip2 .result) (c .before .before .loop .m) (c .most-alight .result) (c .before .before .loop .inv .2) (most-event (prepared (now (c .before .before .before .before .before .before .before .before .before .args .tables)) (c .before .before .before .before .before .before .before .before .before .args .c) (now (c .before .before .before .before .before .before .before .before .before .args .runs)) (now (c .before .before .before .before .before .before .before .before .before .args .work)) (c .before .before .before .before .before .before .before .before .before .args .time)) (c .before .before .before .before .before .before .before .before .before .args .ti) (c .before .before .loop .off) (c .before .before .before .before .trip .result) (c .before .before .loop .m) (c .most-alight .result) (c .before .before .loop .inv .1) (c .most-alight .ensures (c .before .before .before .before .before .before .before .before .before .args .ti))) (omega arith))
 
 returns : tie.Need-returns Inv-loop μ-loop
-returns c = most-left (eventKeys (prepared (now (c .before .before .before .before .before .before .before .before .args .t)) (c .before .before .before .before .before .before .before .before .args .c) (now (c .before .before .before .before .before .before .before .before .args .runs)) (now (c .before .before .before .before .before .before .before .before .args .work)) (c .before .before .before .before .before .before .before .before .args .time)) (c .before .before .before .before .before .before .before .before .args .ti)) (c .before .before .before .before .before .before .before .before .args .n) _ (c .before .loop .off) (c .before .before .trip2 .result) (c .before .loop .m) (c .before .loop .inv .2) (omega arith)
+returns c = most-left (eventKeys (prepared (now (c .before .before .before .before .before .before .before .before .args .tables)) (c .before .before .before .before .before .before .before .before .args .c) (now (c .before .before .before .before .before .before .before .before .args .runs)) (now (c .before .before .before .before .before .before .before .before .args .work)) (c .before .before .before .before .before .before .before .before .args .time)) (c .before .before .before .before .before .before .before .before .args .ti)) (c .before .before .before .before .before .before .before .before .args .n) _ (c .before .loop .off) (c .before .before .trip2 .result) (c .before .loop .m) (c .before .loop .inv .2) (omega arith)
 
 pub most-trip-spec : {M : Type 1} → statement M
 most-trip-spec =

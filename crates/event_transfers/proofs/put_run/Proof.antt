@@ -20,36 +20,36 @@ returns : tie.Need-returns
 unfolding putRun
 returns c = simp (lt-leb _ _ (c .if1 .taken))
 
-cast-evs : tie.Need-cast-evs
-cast-evs c = search needs
+cast-transfer-runs : tie.Need-cast-transfer-runs
+cast-transfer-runs c = search needs
 
-mul-evs : tie.Need-mul-evs
-mul-evs c = search needs
+mul-transfer-runs : tie.Need-mul-transfer-runs
+mul-transfer-runs c = search needs
 
-slice-write-evs : tie.Need-slice-write-evs
-slice-write-evs c = search needs
+slice-write-transfer-runs : tie.Need-slice-write-transfer-runs
+slice-write-transfer-runs c = search needs
 
-sub-evs : tie.Need-sub-evs
-sub-evs c = search needs
+sub-transfer-runs : tie.Need-sub-transfer-runs
+sub-transfer-runs c = search needs
 
-cast-evs-2 : tie.Need-cast-evs-2
-cast-evs-2 c = search needs
+cast-transfer-runs-2 : tie.Need-cast-transfer-runs-2
+cast-transfer-runs-2 c = search needs
 
-add-evs : tie.Need-add-evs
-add-evs c = search needs
+add-transfer-runs : tie.Need-add-transfer-runs
+add-transfer-runs c = search needs
 
-mul-evs-2 : tie.Need-mul-evs-2
-mul-evs-2 c = search needs
+mul-transfer-runs-2 : tie.Need-mul-transfer-runs-2
+mul-transfer-runs-2 c = search needs
 
-slice-write-evs-2 : tie.Need-slice-write-evs-2
-slice-write-evs-2 c = simp length-set (omega arith)
+slice-write-transfer-runs-2 : tie.Need-slice-write-transfer-runs-2
+slice-write-transfer-runs-2 c = simp length-set (omega arith)
 
 same-length : tie.Need-same-length
 same-length c = search needs
 
 returns-2 : tie.Need-returns-2
 unfolding putRun
-returns-2 c = two (now (c .before .args .evs)) (c .before .args .e * 2) (c .before .args .n) (c .before .args .r - c .before .args .n) (omega arith) ∙ simp (le-leb _ _ (c .if1 .left))
+returns-2 c = two (now (c .before .args .transfer-runs)) (c .before .args .e * 2) (c .before .args .n) (c .before .args .r - c .before .args .n) (omega arith) ∙ simp (le-leb _ _ (c .if1 .left))
 
 pub put-run-spec : {M : Type 1} → statement M
 put-run-spec =
@@ -58,13 +58,13 @@ put-run-spec =
     mul-at
     add-if1
     returns
-    cast-evs
-    mul-evs
-    slice-write-evs
-    sub-evs
-    cast-evs-2
-    add-evs
-    mul-evs-2
-    slice-write-evs-2
+    cast-transfer-runs
+    mul-transfer-runs
+    slice-write-transfer-runs
+    sub-transfer-runs
+    cast-transfer-runs-2
+    add-transfer-runs
+    mul-transfer-runs-2
+    slice-write-transfer-runs-2
     same-length
     returns-2)

@@ -12,10 +12,10 @@ use Rattle.event_transfers.proofs.trip_events.Statement.{statement}
 use Rattle.event_transfers.proofs.trip_events.Tie as tie
 
 abbrev Inv-loop : tie.InvT-loop
-Inv-loop t c runs d work ends area₀ evs₀ time ti e n count m₀ off₀ area evs m off = (count ≡ countOf t c ti) × (off ≤ count) × (m ≤ 65537) × (length area ≡ length area₀) × (length evs ≡ length evs₀) × (layEvents time e (tripKeys (prepared t c runs work time) ti) (areaWalk n area₀ evs₀) ≡ layEvents time (e + off) (tabFrom (eventKeys (prepared t c runs work time) ti) off (count - off)) (areaWalk m area evs))
+Inv-loop tables c runs d work ends area₀ transfer-runs₀ time ti e n count m₀ off₀ area transfer-runs m off = (count ≡ countOf tables c ti) × (off ≤ count) × (m ≤ 65537) × (length area ≡ length area₀) × (length transfer-runs ≡ length transfer-runs₀) × (layEvents time e (tripKeys (prepared tables c runs work time) ti) (areaWalk n area₀ transfer-runs₀) ≡ layEvents time (e + off) (tabFrom (eventKeys (prepared tables c runs work time) ti) off (count - off)) (areaWalk m area transfer-runs))
 
 abbrev μ-loop : tie.MeasureT-loop
-μ-loop t c runs d work ends area₀ evs₀ time ti e n count m₀ off₀ area evs m off = count - off
+μ-loop tables c runs d work ends area₀ transfer-runs₀ time ti e n count m₀ off₀ area transfer-runs m off = count - off
 
 trip-requires : tie.Need-trip-requires Inv-loop μ-loop
 trip-requires c κs = search needs
@@ -36,7 +36,7 @@ loop-less : tie.Need-loop-less Inv-loop μ-loop
 loop-less c = omega arith
 
 loop-again : tie.Need-loop-again Inv-loop μ-loop
-loop-again c = (c .before .before .before .before .before .before .before .before .loop .inv .0, omega arith, c .before .before .before .before .event .ensures .1, omega arith, omega arith, events-again (c .before .before .before .before .before .before .before .before .before .before .before .before .before .before .before .before .args .time) (c .before .before .before .before .before .before .before .before .before .before .before .before .before .before .before .before .args .e) (c .before .before .before .before .before .before .before .before .loop .off) (c .before .before .before .before .before .before .before .before .before .trip .result) (eventKeys (prepared (now (c .before .before .before .before .before .before .before .before .before .before .before .before .before .before .before .before .args .t)) (c .before .before .before .before .before .before .before .before .before .before .before .before .before .before .before .before .args .c) (now (c .before .before .before .before .before .before .before .before .before .before .before .before .before .before .before .before .args .runs)) (now (c .before .before .before .before .before .before .before .before .before .before .before .before .before .before .before .before .args .work)) (c .before .before .before .before .before .before .before .before .before .before .before .before .before .before .before .before .args .time)) (c .before .before .before .before .before .before .before .before .before .before .before .before .before .before .before .before .args .ti)) (areaWalk (c .before .before .before .before .before .before .before .before .loop .m) (c .before .before .before .before .before .before .before .before .loop .area) (c .before .before .before .before .before .before .before .before .loop .evs)) (c .before .before .before .before .before .before .before .before .loop .inv .5) (c .before .before .before .before .event .ensures .0) (omega arith))
+loop-again c = (c .before .before .before .before .before .before .before .before .loop .inv .0, omega arith, c .before .before .before .before .event .ensures .1, omega arith, omega arith, events-again (c .before .before .before .before .before .before .before .before .before .before .before .before .before .before .before .before .args .time) (c .before .before .before .before .before .before .before .before .before .before .before .before .before .before .before .before .args .e) (c .before .before .before .before .before .before .before .before .loop .off) (c .before .before .before .before .before .before .before .before .before .trip .result) (eventKeys (prepared (now (c .before .before .before .before .before .before .before .before .before .before .before .before .before .before .before .before .args .tables)) (c .before .before .before .before .before .before .before .before .before .before .before .before .before .before .before .before .args .c) (now (c .before .before .before .before .before .before .before .before .before .before .before .before .before .before .before .before .args .runs)) (now (c .before .before .before .before .before .before .before .before .before .before .before .before .before .before .before .before .args .work)) (c .before .before .before .before .before .before .before .before .before .before .before .before .before .before .before .before .args .time)) (c .before .before .before .before .before .before .before .before .before .before .before .before .before .before .before .before .args .ti)) (areaWalk (c .before .before .before .before .before .before .before .before .loop .m) (c .before .before .before .before .before .before .before .before .loop .area) (c .before .before .before .before .before .before .before .before .loop .transfer-runs)) (c .before .before .before .before .before .before .before .before .loop .inv .5) (c .before .before .before .before .event .ensures .0) (omega arith))
 
 same-length : tie.Need-same-length Inv-loop μ-loop
 same-length c = omega arith
@@ -45,7 +45,7 @@ same-length-2 : tie.Need-same-length-2 Inv-loop μ-loop
 same-length-2 c = omega arith
 
 returns : tie.Need-returns Inv-loop μ-loop
-returns c = (events-left (c .before .before .before .before .before .before .before .before .before .args .time) (c .before .before .before .before .before .before .before .before .before .args .e) (c .before .loop .off) (c .before .before .trip .result) (eventKeys (prepared (now (c .before .before .before .before .before .before .before .before .before .args .t)) (c .before .before .before .before .before .before .before .before .before .args .c) (now (c .before .before .before .before .before .before .before .before .before .args .runs)) (now (c .before .before .before .before .before .before .before .before .before .args .work)) (c .before .before .before .before .before .before .before .before .before .args .time)) (c .before .before .before .before .before .before .before .before .before .args .ti)) (c .before .loop .inv .5) (omega arith), c .before .loop .inv .2)
+returns c = (events-left (c .before .before .before .before .before .before .before .before .before .args .time) (c .before .before .before .before .before .before .before .before .before .args .e) (c .before .loop .off) (c .before .before .trip .result) (eventKeys (prepared (now (c .before .before .before .before .before .before .before .before .before .args .tables)) (c .before .before .before .before .before .before .before .before .before .args .c) (now (c .before .before .before .before .before .before .before .before .before .args .runs)) (now (c .before .before .before .before .before .before .before .before .before .args .work)) (c .before .before .before .before .before .before .before .before .before .args .time)) (c .before .before .before .before .before .before .before .before .before .args .ti)) (c .before .loop .inv .5) (omega arith), c .before .loop .inv .2)
 
 pub trip-events-spec : {M : Type 1} → statement M
 trip-events-spec =

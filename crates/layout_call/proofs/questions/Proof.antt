@@ -19,16 +19,16 @@ abbrev asked1 : tie.Start → Bool
 asked1 s = countsOk (s .args .c) && (leb (s .args .lines) 4096 && leb (s .args .n) 4096)
 
 abbrev asked2 : tie.Start → Bool
-asked2 s = slicesOk (now (s .args .t)) (s .args .c) && layoutSizesOk (s .args .c) (s .args .lines) (s .args .n) (length (now (s .args .runs))) (length (now (s .args .entries))) (s .args .positions) (s .args .fifo)
+asked2 s = slicesOk (now (s .args .tables)) (s .args .c) && layoutSizesOk (s .args .c) (s .args .lines) (s .args .n) (length (now (s .args .runs))) (length (now (s .args .entries))) (s .args .positions) (s .args .fifo)
 
 abbrev asked3 : tie.Start → Bool
-asked3 s = runsOk (now (s .args .t)) (s .args .c) && lineRunsOk (now (s .args .runs)) (s .args .lines) (s .args .n)
+asked3 s = runsOk (now (s .args .tables)) (s .args .c) && lineRunsOk (now (s .args .runs)) (s .args .lines) (s .args .n)
 
 abbrev asked4 : tie.Start → Bool
-asked4 s = numbersOk (now (s .args .t)) (s .args .c) && entriesOk (s .args .c) (now (s .args .entries)) (s .args .n)
+asked4 s = numbersOk (now (s .args .tables)) (s .args .c) && entriesOk (s .args .c) (now (s .args .entries)) (s .args .n)
 
 abbrev asked5 : tie.Start → Bool
-asked5 s = rangesOk (now (s .args .t)) (s .args .c)
+asked5 s = rangesOk (now (s .args .tables)) (s .args .c)
 
 q1 : (c : tie.Else1) → asked1 (c .before .before .before .before .before .before .before) ≡ true
 q1 c = found-yes (c .before .both2 .ensures) (c .before .before .before .counts-ok .ensures) (c .before .before .both .ensures) (c .if1 .left)
@@ -43,7 +43,7 @@ q2 : (c : tie.Else2) → asked2 (c .before .before .before .before .before .befo
 q2 c = found-yes (c .before .both3 .ensures) (c .before .before .before .slices-ok .ensures) (c .before .before .sizes-ok .ensures) (c .if2 .left)
 
 abbrev sizesAt : tie.Start → Type 0
-sizesAt s = Sizes (now (s .args .t)) (s .args .c) (s .args .lines) (s .args .n) (length (now (s .args .runs))) (length (now (s .args .entries))) (s .args .positions) (s .args .fifo)
+sizesAt s = Sizes (now (s .args .tables)) (s .args .c) (s .args .lines) (s .args .n) (length (now (s .args .runs))) (length (now (s .args .entries))) (s .args .positions) (s .args .fifo)
 
 sizes : (c : tie.Else2) → sizesAt (c .before .before .before .before .before .before .before .before .before .before .before)
 sizes c = sizes-yes _ _ _ _ _ _ _ _ (q2 c)
@@ -108,7 +108,7 @@ rowsYes s = Two (asked4 s) (asked5 s)
 rows-yes : (c : tie.Then4) → rowsYes (c .before .before .before .before .before .before .before .before .before .before .before .before .before .before .before .before .before .before .before)
 rows-yes c =
     let s = c .before .before .before .before .before .before .before .before .before .before .before .before .before .before .before .before .before .before .before in
-    let n = numbersOk (now (s .args .t)) (s .args .c) in
+    let n = numbersOk (now (s .args .tables)) (s .args .c) in
     let e = entriesOk (s .args .c) (now (s .args .entries)) (s .args .n) in
     let x = two e (n && asked5 s) (sym (c .before .both5 .ensures ∙ ap₂ _&&_ (c .before .before .before .entries-ok .ensures) (c .before .before .rows-ok .ensures)) ∙ c .if4 .taken) in
     let y = two n (asked5 s) (x .two) in
@@ -157,7 +157,7 @@ returns-7 : tie.Need-returns-7
 unfolding layoutVerdict
 returns-7 c =
     let s = c .before .before .before .before .before .before .before .before .before .before .before .before .before .before .before .before .before .before .before .before .before .before in
-    let n = numbersOk (now (s .args .t)) (s .args .c) in
+    let n = numbersOk (now (s .args .tables)) (s .args .c) in
     let e = entriesOk (s .args .c) (now (s .args .entries)) (s .args .n) in
     let x = two n e (q4 c) in
     let y = second-no e (n && asked5 s) (sym (c .before .before .before .before .both5 .ensures ∙ ap₂ _&&_ (c .before .before .before .before .before .before .entries-ok .ensures) (c .before .before .before .before .before .rows-ok .ensures)) ∙ c .before .before .before .if4 .left) (x .two) in

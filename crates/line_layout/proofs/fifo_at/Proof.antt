@@ -20,7 +20,7 @@ flag-requires : tie.Need-flag-requires
 flag-requires c κs = search needs
 
 returns : tie.Need-returns
-returns c = let s = c .before .before .before .before .before .before in c .flag .ensures ∙ ap one (c .before .run-fifo .ensures ∙ ap (λ (r : LineRun). fifoLine (timetable (now (s .args .t)) (s .args .c)) (tripsIn (now (s .args .entries)) r)) (c .before .before .line-run .ensures .0))
+returns c = let s = c .before .before .before .before .before .before in c .flag .ensures ∙ ap one (c .before .run-fifo .ensures ∙ ap (λ (r : LineRun). fifoLine (timetable (now (s .args .tables)) (s .args .c)) (tripsIn (now (s .args .entries)) r)) (c .before .before .line-run .ensures .0))
 
 pub fifo-at-spec : {M : Type 1} → statement M
 fifo-at-spec = tie.close (tie.spec line-run-requires run-fifo-requires flag-requires returns)

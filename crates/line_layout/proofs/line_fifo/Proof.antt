@@ -11,10 +11,10 @@ use Rattle.line_layout.proofs.line_fifo.Statement.{statement}
 use Rattle.line_layout.proofs.line_fifo.Tie as tie
 
 abbrev Inv-loop : tie.InvT-loop
-Inv-loop t c lines runs entries fifo₀ l₀ fifo l = (l ≤ length fifo) × (length fifo ≡ length fifo₀) × ((j : ℕ) → j < l → getD fifo j 0 ≡ fifoOf (timetable t c) runs entries j)
+Inv-loop tables c lines runs entries fifo₀ l₀ fifo l = (l ≤ length fifo) × (length fifo ≡ length fifo₀) × ((j : ℕ) → j < l → getD fifo j 0 ≡ fifoOf (timetable tables c) runs entries j)
 
 abbrev μ-loop : tie.MeasureT-loop
-μ-loop t c lines runs entries fifo₀ l₀ fifo l = length fifo₀ - l
+μ-loop tables c lines runs entries fifo₀ l₀ fifo l = length fifo₀ - l
 
 loop-holds : tie.Need-loop-holds Inv-loop μ-loop
 loop-holds c = (omega arith, refl, λ k x. absurd (omega arith))
@@ -35,13 +35,13 @@ loop-less : tie.Need-loop-less Inv-loop μ-loop
 loop-less c = omega arith
 
 loop-again : tie.Need-loop-again Inv-loop μ-loop
-loop-again c = let s = c .before .before .before .before .before .before .before in let w = c .before .before .loop in (simp length-set (omega arith), simp length-set (omega arith), fill-again (fifoOf (timetable (now (s .args .t)) (s .args .c)) (now (s .args .runs)) (now (s .args .entries))) (w .l) (w .fifo) _ (w .inv .2) (ap (set (w .fifo) (w .l)) (c .fifo-at .ensures)) (omega arith))
+loop-again c = let s = c .before .before .before .before .before .before .before in let w = c .before .before .loop in (simp length-set (omega arith), simp length-set (omega arith), fill-again (fifoOf (timetable (now (s .args .tables)) (s .args .c)) (now (s .args .runs)) (now (s .args .entries))) (w .l) (w .fifo) _ (w .inv .2) (ap (set (w .fifo) (w .l)) (c .fifo-at .ensures)) (omega arith))
 
 same-length : tie.Need-same-length Inv-loop μ-loop
 same-length c = omega arith
 
 returns : tie.Need-returns Inv-loop μ-loop
-returns c = let s = c .before .before .before .before .before .before in tab-is (fifoOf (timetable (now (s .args .t)) (s .args .c)) (now (s .args .runs)) (now (s .args .entries))) _ _ (omega arith) (λ k x. c .before .loop .inv .2 k (omega arith))
+returns c = let s = c .before .before .before .before .before .before in tab-is (fifoOf (timetable (now (s .args .tables)) (s .args .c)) (now (s .args .runs)) (now (s .args .entries))) _ _ (omega arith) (λ k x. c .before .loop .inv .2 k (omega arith))
 
 pub line-fifo-spec : {M : Type 1} → statement M
 line-fifo-spec =

@@ -30,7 +30,7 @@ trip-requires-2 c κs = search needs
 
 returns-2 : tie.Need-returns-2
 unfolding neighbours
-returns-2 c = let s = c .before .before .before .before .before .before .before .before in simp (found-yes (c .before .before .before .before .both .ensures) (c .before .before .before .before .before .before .no-windows .ensures) (c .before .before .before .before .before .no-windows2 .ensures) (c .before .before .before .if1 .left), ne-eqb (countOf (now (s .args .t)) (s .args .c) (s .args .a)) (countOf (now (s .args .t)) (s .args .c) (s .args .b)) (λ e. c .if2 .taken (c .before .before .trip .ensures .0 ∙ e ∙ sym (c .before .trip2 .ensures .0))))
+returns-2 c = let s = c .before .before .before .before .before .before .before .before in simp (found-yes (c .before .before .before .before .both .ensures) (c .before .before .before .before .before .before .no-windows .ensures) (c .before .before .before .before .before .no-windows2 .ensures) (c .before .before .before .if1 .left), ne-eqb (countOf (now (s .args .tables)) (s .args .c) (s .args .a)) (countOf (now (s .args .tables)) (s .args .c) (s .args .b)) (λ e. c .if2 .taken (c .before .before .trip .ensures .0 ∙ e ∙ sym (c .before .trip2 .ensures .0))))
 
 trip-requires-3 : tie.Need-trip-requires-3
 trip-requires-3 c κs = search needs
@@ -43,7 +43,7 @@ times-in-order-requires c κs = let s = c .before .before .before .before .befor
 
 returns-3 : tie.Need-returns-3
 unfolding neighbours
-returns-3 c = let s = c .before .before .before .before .before .before .before .before .before .before .before in c .times-in-order .ensures ∙ simp (c .before .before .before .before .before .trip .ensures .0, c .before .before .trip3 .ensures .0, c .before .trip4 .ensures .0, found-yes (c .before .before .before .before .before .before .before .both .ensures) (c .before .before .before .before .before .before .before .before .before .no-windows .ensures) (c .before .before .before .before .before .before .before .before .no-windows2 .ensures) (c .before .before .before .before .before .before .if1 .left), eq-eqb (countOf (now (s .args .t)) (s .args .c) (s .args .a)) (countOf (now (s .args .t)) (s .args .c) (s .args .b)) (sym (c .before .before .before .before .before .trip .ensures .0) ∙ c .before .before .before .if2 .left ∙ c .before .before .before .before .trip2 .ensures .0))
+returns-3 c = let s = c .before .before .before .before .before .before .before .before .before .before .before in c .times-in-order .ensures ∙ simp (c .before .before .before .before .before .trip .ensures .0, c .before .before .trip3 .ensures .0, c .before .trip4 .ensures .0, found-yes (c .before .before .before .before .before .before .before .both .ensures) (c .before .before .before .before .before .before .before .before .before .no-windows .ensures) (c .before .before .before .before .before .before .before .before .no-windows2 .ensures) (c .before .before .before .before .before .before .if1 .left), eq-eqb (countOf (now (s .args .tables)) (s .args .c) (s .args .a)) (countOf (now (s .args .tables)) (s .args .c) (s .args .b)) (sym (c .before .before .before .before .before .trip .ensures .0) ∙ c .before .before .before .if2 .left ∙ c .before .before .before .before .trip2 .ensures .0))
 
 pub neighbours-ok-spec : {M : Type 1} → statement M
 neighbours-ok-spec =

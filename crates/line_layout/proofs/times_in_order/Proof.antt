@@ -12,12 +12,12 @@ use Rattle.line_layout.proofs.times_in_order.Statement.{statement}
 use Rattle.line_layout.proofs.times_in_order.Tie as tie
 
 abbrev Inv-loop : tie.InvT-loop
-Inv-loop t c x y n k₀ k =
-    let f : ℕ → Bool = λ j. inOrder (stopTimeAt t (x + j)) (stopTimeAt t (y + j)) in
+Inv-loop tables c x y n k₀ k =
+    let f : ℕ → Bool = λ j. inOrder (stopTimeAt tables (x + j)) (stopTimeAt tables (y + j)) in
     everyIn f 0 n ≡ everyIn f k n
 
 abbrev μ-loop : tie.MeasureT-loop
-μ-loop t c x y n k₀ k = n - k
+μ-loop tables c x y n k₀ k = n - k
 
 loop-holds : tie.Need-loop-holds Inv-loop μ-loop
 loop-holds c = refl

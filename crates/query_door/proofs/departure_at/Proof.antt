@@ -17,7 +17,7 @@ row-departure-requires c κs =
 returns : tie.Need-returns
 returns c =
     let a = c .before .before .before .before .args in
-    (c .row-departure .ensures) ∙ ap (rowDeparture (timetable (now (a .t)) (a .c))) (c .before .departure-row .ensures)
+    (c .row-departure .ensures) ∙ ap (rowDeparture (timetable (now (a .tables)) (a .c))) (c .before .departure-row .ensures)
 
 pub departure-at-spec : {M : Type 1} → statement M
 departure-at-spec = tie.close (tie.spec departure-row-requires row-departure-requires returns)

@@ -11,10 +11,10 @@ use Rattle.query_door.proofs.departure_order.Statement.{statement}
 use Rattle.query_door.proofs.departure_order.Tie as tie
 
 abbrev Inv-loop : tie.InvT-loop
-Inv-loop t c runs rows d n s₀ s = (n ≡ c .stops) × (departureOrder (timetable t c) runs rows (c .stops) ≡ everyIn (λ u. partOrder (timetable t c) (departuresOf runs rows u) (runLength runs u)) s n)
+Inv-loop tables c runs rows d n s₀ s = (n ≡ c .stops) × (departureOrder (timetable tables c) runs rows (c .stops) ≡ everyIn (λ u. partOrder (timetable tables c) (departuresOf runs rows u) (runLength runs u)) s n)
 
 abbrev μ-loop : tie.MeasureT-loop
-μ-loop t c runs rows d n s₀ s = n - s
+μ-loop tables c runs rows d n s₀ s = n - s
 
 loop-holds : tie.Need-loop-holds Inv-loop μ-loop
 unfolding departureOrder

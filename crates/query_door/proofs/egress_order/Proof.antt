@@ -12,10 +12,10 @@ use Rattle.query_door.proofs.egress_order.Statement.{statement}
 use Rattle.query_door.proofs.egress_order.Tie as tie
 
 abbrev Inv-loop : tie.InvT-loop
-Inv-loop q at count i₀ i = (1 ≤ i) × (columnRises q at 2 count ≡ everyIn (λ k. ltb (columnAt q at 2 (k - 1)) (columnAt q at 2 k)) i count)
+Inv-loop query at count i₀ i = (1 ≤ i) × (columnRises query at 2 count ≡ everyIn (λ k. ltb (columnAt query at 2 (k - 1)) (columnAt query at 2 k)) i count)
 
 abbrev μ-loop : tie.MeasureT-loop
-μ-loop q at count i₀ i = count - i
+μ-loop query at count i₀ i = count - i
 
 loop-holds : tie.Need-loop-holds Inv-loop μ-loop
 unfolding columnRises

@@ -10,13 +10,13 @@ use Rattle.query_door.proofs.in_turn.Statement.{statement}
 use Rattle.query_door.proofs.in_turn.Tie as tie
 
 abbrev Inv-loop : tie.InvT-loop
-Inv-loop t c runs rows d n end₀ s₀ end s = (n ≡ c .stops) × (end ≤ d) × (s ≤ n) × Turned t c rows runs s end
+Inv-loop tables c runs rows d n end₀ s₀ end s = (n ≡ c .stops) × (end ≤ d) × (s ≤ n) × Turned tables c rows runs s end
 
 abbrev μ-loop : tie.MeasureT-loop
-μ-loop t c runs rows d n end₀ s₀ end s = n - s
+μ-loop tables c runs rows d n end₀ s₀ end s = n - s
 
 loop-holds : tie.Need-loop-holds Inv-loop μ-loop
-loop-holds c = let s = c .before .before .before in (refl, omega arith, omega arith, turned-none (now (s .args .t)) (s .args .c) (now (s .args .rows)) (now (s .args .runs)))
+loop-holds c = let s = c .before .before .before in (refl, omega arith, omega arith, turned-none (now (s .args .tables)) (s .args .c) (now (s .args .rows)) (now (s .args .runs)))
 
 stop-run-requires : tie.Need-stop-run-requires Inv-loop μ-loop
 stop-run-requires c κs = omega (arith, c .before .before .before .before .before .pre .1 .1 .0 .size)
@@ -40,10 +40,10 @@ loop-less : tie.Need-loop-less Inv-loop μ-loop
 loop-less c = omega arith
 
 loop-again : tie.Need-loop-again Inv-loop μ-loop
-loop-again c = let s = c .before .before .before .before .before .before .before .before .before .before in let l = c .before .before .before .before .before .before .loop in (l .inv .0, omega (arith, c .before .before .before .if1 .left, c .before .before .before .before .before .before .before .before .before .before .pre .1 .1 .0 .run (l .s) (omega arith), ap (λ (x : StopRun). x .first) (c .before .before .before .before .stop-run .ensures .0), ap (λ (x : StopRun). x .length) (c .before .before .before .before .stop-run .ensures .0)), omega arith, turned-more (now (s .args .t)) (s .args .c) (now (s .args .rows)) (now (s .args .runs)) (l .s) (l .end) (c .before .before .before .before .stop-run .result) (l .inv .3) (c .before .before .before .before .stop-run .ensures .0) (c .before .before .before .if1 .left) (c .before .run-right .ensures (not-false _ (c .if2 .left))))
+loop-again c = let s = c .before .before .before .before .before .before .before .before .before .before in let l = c .before .before .before .before .before .before .loop in (l .inv .0, omega (arith, c .before .before .before .if1 .left, c .before .before .before .before .before .before .before .before .before .before .pre .1 .1 .0 .run (l .s) (omega arith), ap (λ (x : StopRun). x .first) (c .before .before .before .before .stop-run .ensures .0), ap (λ (x : StopRun). x .length) (c .before .before .before .before .stop-run .ensures .0)), omega arith, turned-more (now (s .args .tables)) (s .args .c) (now (s .args .rows)) (now (s .args .runs)) (l .s) (l .end) (c .before .before .before .before .stop-run .result) (l .inv .3) (c .before .before .before .before .stop-run .ensures .0) (c .before .before .before .if1 .left) (c .before .run-right .ensures (not-false _ (c .if2 .left))))
 
 returns-3 : tie.Need-returns-3 Inv-loop μ-loop
-returns-3 c = λ h. let s = c .before .before .before .before .before in let l = c .before .loop in let q : l .s ≡ s .args .c .stops = omega arith in in-turn (now (s .args .t)) (s .args .c) (now (s .args .rows)) (now (s .args .runs)) (s .args .d) (l .end) (s .pre .0) (s .pre .1 .0) (s .pre .1 .1 .0) (s .pre .1 .1 .1) (subst (λ (i : ℕ). Turned (now (s .args .t)) (s .args .c) (now (s .args .rows)) (now (s .args .runs)) i (l .end)) q (l .inv .3)) (eqb-true (l .end) (s .args .d) h)
+returns-3 c = λ h. let s = c .before .before .before .before .before in let l = c .before .loop in let q : l .s ≡ s .args .c .stops = omega arith in in-turn (now (s .args .tables)) (s .args .c) (now (s .args .rows)) (now (s .args .runs)) (s .args .d) (l .end) (s .pre .0) (s .pre .1 .0) (s .pre .1 .1 .0) (s .pre .1 .1 .1) (subst (λ (i : ℕ). Turned (now (s .args .tables)) (s .args .c) (now (s .args .rows)) (now (s .args .runs)) i (l .end)) q (l .inv .3)) (eqb-true (l .end) (s .args .d) h)
 
 pub in-turn-spec : {M : Type 1} → statement M
 in-turn-spec =

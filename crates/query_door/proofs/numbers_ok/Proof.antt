@@ -47,7 +47,7 @@ both-requires-4 c κs = search needs
 
 returns : tie.Need-returns
 unfolding queryQuestion4
-returns c = c .both4 .ensures ∙ ap₂ _&&_ (c .before .before .before .before .before .both .ensures ∙ ap₂ _&&_ (c .before .before .before .before .before .before .before .numbers-ok .ensures) (c .before .before .before .before .before .before .line-numbers .ensures)) (c .before .both3 .ensures ∙ ap₂ _&&_ (c .before .before .before .before .before .before .before .before .listed-ok .ensures ∙ ap₂ (λ (a b : List ℕ). listedOk (now (c .before .before .before .before .before .before .before .before .before .before .before .before .before .before .before .args .t)) (c .before .before .before .before .before .before .before .before .before .before .before .before .before .before .before .args .n .timetable) a b (c .before .before .before .before .before .before .before .before .before .before .before .before .before .before .before .args .n .departures)) (c .before .before .before .before .before .before .before .before .before .before .stop-runs .ensures) (c .before .before .before .before .before .before .before .before .before .departure-rows .ensures)) (c .before .before .both2 .ensures ∙ ap₂ _&&_ (c .before .before .before .before .query-numbers .ensures) (c .before .before .before .delays-ok .ensures)))
+returns c = c .both4 .ensures ∙ ap₂ _&&_ (c .before .before .before .before .before .both .ensures ∙ ap₂ _&&_ (c .before .before .before .before .before .before .before .numbers-ok .ensures) (c .before .before .before .before .before .before .line-numbers .ensures)) (c .before .both3 .ensures ∙ ap₂ _&&_ (c .before .before .before .before .before .before .before .before .listed-ok .ensures ∙ ap₂ (λ (a b : List ℕ). listedOk (now (c .before .before .before .before .before .before .before .before .before .before .before .before .before .before .before .args .tables)) (c .before .before .before .before .before .before .before .before .before .before .before .before .before .before .before .args .n .timetable) a b (c .before .before .before .before .before .before .before .before .before .before .before .before .before .before .before .args .n .departures)) (c .before .before .before .before .before .before .before .before .before .before .stop-runs .ensures) (c .before .before .before .before .before .before .before .before .before .departure-rows .ensures)) (c .before .before .both2 .ensures ∙ ap₂ _&&_ (c .before .before .before .before .query-numbers .ensures) (c .before .before .before .delays-ok .ensures)))
 
 pub numbers-ok-spec : {M : Type 1} → statement M
 numbers-ok-spec =

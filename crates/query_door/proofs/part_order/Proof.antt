@@ -15,11 +15,11 @@ use Rattle.query_door.proofs.part_order.Statement.{statement}
 use Rattle.query_door.proofs.part_order.Tie as tie
 
 abbrev Inv-loop : tie.InvT-loop
-Inv-loop t c rows count last₀ k₀ last k =
-    (1 ≤ k) × (last ≡ rowDeparture (timetable t c) (rowAt rows (k - 1))) × (partOrder (timetable t c) rows count ≡ everyIn (notEarlier (timetable t c) rows) k count)
+Inv-loop tables c rows count last₀ k₀ last k =
+    (1 ≤ k) × (last ≡ rowDeparture (timetable tables c) (rowAt rows (k - 1))) × (partOrder (timetable tables c) rows count ≡ everyIn (notEarlier (timetable tables c) rows) k count)
 
 abbrev μ-loop : tie.MeasureT-loop
-μ-loop t c rows count last₀ k₀ last k = count - k
+μ-loop tables c rows count last₀ k₀ last k = count - k
 
 -- the test of row k, by the two departures
 tested : (T : Timetable) (rows : List ℕ) (k : ℕ) {last next : ℕ} {b : Bool} → last ≡ rowDeparture T (rowAt rows (k - 1)) → next ≡ rowDeparture T (rowAt rows k) → leb last next ≡ b

@@ -35,7 +35,7 @@ in-turn-requires : tie.Need-in-turn-requires
 in-turn-requires c κs = (c .before .before .before .before .before .before .before .before .before .before .pre .1 .0 .slices, (c .before .before .before .before .before .before .before .before .before .before .pre .1 .1 .0 .trips, (rw (c .before .stop-runs .ensures) (c .before .before .before .before .before .before .before .before .before .before .pre .1 .1 .0 .stops), ap length (c .departure-rows .ensures) ∙ rows-size (now (c .before .before .before .before .before .before .before .before .before .before .args .built)) (c .before .before .before .before .before .before .before .before .before .before .args .n) (marks-room (c .before .before .before .before .before .before .before .before .before .before .pre .1 .0)))))
 
 returns-3 : tie.Need-returns-3
-returns-3 c = λ h. let s = c .before .before .before .before .before .before .before .before .before .before .before in let t = now (s .args .t) in let b = now (s .args .built) in let n = s .args .n in passed-yes t b (now (s .args .transfers)) (now (s .args .q)) n (s .args .rows) (sym (c .before .before .before .before .before .before .query-ok .ensures) ∙ not-false _ (c .before .before .before .before .before .if1 .left)) (sym (c .before .before .before .before .tables-ok .ensures) ∙ not-false _ (c .before .before .before .if2 .left)) (subst (λ (l : List ℕ). InTurn t (n .timetable) l (departureRows b n) (n .departures)) (c .before .before .stop-runs .ensures) (subst (λ (l : List ℕ). InTurn t (n .timetable) (now (c .before .before .stop-runs .result)) l (n .departures)) (c .before .departure-rows .ensures) (c .in-turn .ensures h)))
+returns-3 c = λ h. let s = c .before .before .before .before .before .before .before .before .before .before .before in let t = now (s .args .tables) in let b = now (s .args .built) in let n = s .args .n in passed-yes t b (now (s .args .transfers)) (now (s .args .query)) n (s .args .rows) (sym (c .before .before .before .before .before .before .query-ok .ensures) ∙ not-false _ (c .before .before .before .before .before .if1 .left)) (sym (c .before .before .before .before .tables-ok .ensures) ∙ not-false _ (c .before .before .before .if2 .left)) (subst (λ (l : List ℕ). InTurn t (n .timetable) l (departureRows b n) (n .departures)) (c .before .before .stop-runs .ensures) (subst (λ (l : List ℕ). InTurn t (n .timetable) (now (c .before .before .stop-runs .result)) l (n .departures)) (c .before .departure-rows .ensures) (c .in-turn .ensures h)))
 
 pub passed-spec : {M : Type 1} → statement M
 passed-spec =

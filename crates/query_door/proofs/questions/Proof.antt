@@ -29,34 +29,34 @@ runs-ok-requires : tie.Need-runs-ok-requires
 runs-ok-requires c κs = ((limits-yes _ (sym (c .before .before .before .before .counts-ok .ensures) ∙ not-false _ (c .before .before .before .if1 .left))), ((sized-yes _ _ _ _ _ _ _ (sym (c .before .before .sizes-ok .ensures) ∙ not-false _ (c .before .if2 .left))) .slices, ((sized-yes _ _ _ _ _ _ _ (sym (c .before .before .sizes-ok .ensures) ∙ not-false _ (c .before .if2 .left))) .builtIs, rows-few (c .before .before .before .before .before .before .before .before .before .before .before .args .n) _ _ (limits-yes _ (sym (c .before .before .before .before .counts-ok .ensures) ∙ not-false _ (c .before .before .before .if1 .left))) (c .transfer-rows .ensures))))
 
 returns-3 : tie.Need-returns-3
-returns-3 c = no3 _ _ (sym (c .before .before .before .before .before .before .counts-ok .ensures) ∙ not-false _ (c .before .before .before .before .before .if1 .left)) (sym (c .before .before .before .before .sizes-ok .ensures) ∙ not-false _ (c .before .before .before .if2 .left)) (ap (λ (r : ℕ). queryQuestion3 (now (c .before .before .before .before .before .before .before .before .before .before .before .before .before .args .t)) (now (c .before .before .before .before .before .before .before .before .before .before .before .before .before .args .built)) (c .before .before .before .before .before .before .before .before .before .before .before .before .before .args .n) r) (sym (c .before .before .transfer-rows .ensures)) ∙ (sym (c .before .runs-ok .ensures) ∙ not-true _ (c .if3 .taken)))
+returns-3 c = no3 _ _ (sym (c .before .before .before .before .before .before .counts-ok .ensures) ∙ not-false _ (c .before .before .before .before .before .if1 .left)) (sym (c .before .before .before .before .sizes-ok .ensures) ∙ not-false _ (c .before .before .before .if2 .left)) (ap (λ (r : ℕ). queryQuestion3 (now (c .before .before .before .before .before .before .before .before .before .before .before .before .before .args .tables)) (now (c .before .before .before .before .before .before .before .before .before .before .before .before .before .args .built)) (c .before .before .before .before .before .before .before .before .before .before .before .before .before .args .n) r) (sym (c .before .before .transfer-rows .ensures)) ∙ (sym (c .before .runs-ok .ensures) ∙ not-true _ (c .if3 .taken)))
 
 passed-requires : tie.Need-passed-requires
 passed-requires c κs = ((limits-yes _ (sym (c .before .before .before .before .before .before .counts-ok .ensures) ∙ not-false _ (c .before .before .before .before .before .if1 .left))), ((sized-yes _ _ _ _ _ _ _ (sym (c .before .before .before .before .sizes-ok .ensures) ∙ not-false _ (c .before .before .before .if2 .left))), ((placed-yes _ _ _ _ _ (limits-yes _ (sym (c .before .before .before .before .before .before .counts-ok .ensures) ∙ not-false _ (c .before .before .before .before .before .if1 .left))) (sized-yes _ _ _ _ _ _ _ (sym (c .before .before .before .before .sizes-ok .ensures) ∙ not-false _ (c .before .before .before .if2 .left))) (sym (c .before .runs-ok .ensures) ∙ not-false _ (c .if3 .left))), rows-room (c .before .before .before .before .before .before .before .before .before .before .before .before .before .args .n) _ _ (c .before .before .transfer-rows .ensures))))
 
 returns-4 : tie.Need-returns-4
-returns-4 c = yes _ _ (sym (c .before .before .before .before .before .before .before .before .counts-ok .ensures) ∙ not-false _ (c .before .before .before .before .before .before .before .if1 .left)) (sym (c .before .before .before .before .before .before .sizes-ok .ensures) ∙ not-false _ (c .before .before .before .before .before .if2 .left)) (ap (λ (r : ℕ). queryQuestion3 (now (c .before .before .before .before .before .before .before .before .before .before .before .before .before .before .before .args .t)) (now (c .before .before .before .before .before .before .before .before .before .before .before .before .before .before .before .args .built)) (c .before .before .before .before .before .before .before .before .before .before .before .before .before .before .before .args .n) r) (sym (c .before .before .before .before .transfer-rows .ensures)) ∙ (sym (c .before .before .before .runs-ok .ensures) ∙ not-false _ (c .before .before .if3 .left))) (c .before .passed .ensures (c .if4 .taken) .numbers) (ap (λ (r : ℕ). queryQuestion5 (now (c .before .before .before .before .before .before .before .before .before .before .before .before .before .before .before .args .t)) (now (c .before .before .before .before .before .before .before .before .before .before .before .before .before .before .before .args .built)) (now (c .before .before .before .before .before .before .before .before .before .before .before .before .before .before .before .args .transfers)) (now (c .before .before .before .before .before .before .before .before .before .before .before .before .before .before .before .args .q)) (c .before .before .before .before .before .before .before .before .before .before .before .before .before .before .before .args .n) r) (sym (c .before .before .before .before .transfer-rows .ensures)) ∙ (c .before .passed .ensures (c .if4 .taken) .ranges)) (c .before .passed .ensures (c .if4 .taken) .order)
+returns-4 c = yes _ _ (sym (c .before .before .before .before .before .before .before .before .counts-ok .ensures) ∙ not-false _ (c .before .before .before .before .before .before .before .if1 .left)) (sym (c .before .before .before .before .before .before .sizes-ok .ensures) ∙ not-false _ (c .before .before .before .before .before .if2 .left)) (ap (λ (r : ℕ). queryQuestion3 (now (c .before .before .before .before .before .before .before .before .before .before .before .before .before .before .before .args .tables)) (now (c .before .before .before .before .before .before .before .before .before .before .before .before .before .before .before .args .built)) (c .before .before .before .before .before .before .before .before .before .before .before .before .before .before .before .args .n) r) (sym (c .before .before .before .before .transfer-rows .ensures)) ∙ (sym (c .before .before .before .runs-ok .ensures) ∙ not-false _ (c .before .before .if3 .left))) (c .before .passed .ensures (c .if4 .taken) .numbers) (ap (λ (r : ℕ). queryQuestion5 (now (c .before .before .before .before .before .before .before .before .before .before .before .before .before .before .before .args .tables)) (now (c .before .before .before .before .before .before .before .before .before .before .before .before .before .before .before .args .built)) (now (c .before .before .before .before .before .before .before .before .before .before .before .before .before .before .before .args .transfers)) (now (c .before .before .before .before .before .before .before .before .before .before .before .before .before .before .before .args .query)) (c .before .before .before .before .before .before .before .before .before .before .before .before .before .before .before .args .n) r) (sym (c .before .before .before .before .transfer-rows .ensures)) ∙ (c .before .passed .ensures (c .if4 .taken) .ranges)) (c .before .passed .ensures (c .if4 .taken) .order)
 
 numbers-ok-requires : tie.Need-numbers-ok-requires
 numbers-ok-requires c κs = ((limits-yes _ (sym (c .before .before .before .before .before .before .before .before .counts-ok .ensures) ∙ not-false _ (c .before .before .before .before .before .before .before .if1 .left))), ((sized-yes _ _ _ _ _ _ _ (sym (c .before .before .before .before .before .before .sizes-ok .ensures) ∙ not-false _ (c .before .before .before .before .before .if2 .left))), (placed-yes _ _ _ _ _ (limits-yes _ (sym (c .before .before .before .before .before .before .before .before .counts-ok .ensures) ∙ not-false _ (c .before .before .before .before .before .before .before .if1 .left))) (sized-yes _ _ _ _ _ _ _ (sym (c .before .before .before .before .before .before .sizes-ok .ensures) ∙ not-false _ (c .before .before .before .before .before .if2 .left))) (sym (c .before .before .before .runs-ok .ensures) ∙ not-false _ (c .before .before .if3 .left)))))
 
 returns-5 : tie.Need-returns-5
-returns-5 c = no4 _ _ (sym (c .before .before .before .before .before .before .before .before .before .before .counts-ok .ensures) ∙ not-false _ (c .before .before .before .before .before .before .before .before .before .if1 .left)) (sym (c .before .before .before .before .before .before .before .before .sizes-ok .ensures) ∙ not-false _ (c .before .before .before .before .before .before .before .if2 .left)) (ap (λ (r : ℕ). queryQuestion3 (now (c .before .before .before .before .before .before .before .before .before .before .before .before .before .before .before .before .before .args .t)) (now (c .before .before .before .before .before .before .before .before .before .before .before .before .before .before .before .before .before .args .built)) (c .before .before .before .before .before .before .before .before .before .before .before .before .before .before .before .before .before .args .n) r) (sym (c .before .before .before .before .before .before .transfer-rows .ensures)) ∙ (sym (c .before .before .before .before .before .runs-ok .ensures) ∙ not-false _ (c .before .before .before .before .if3 .left))) (sym (c .before .numbers-ok .ensures) ∙ not-true _ (c .if5 .taken))
+returns-5 c = no4 _ _ (sym (c .before .before .before .before .before .before .before .before .before .before .counts-ok .ensures) ∙ not-false _ (c .before .before .before .before .before .before .before .before .before .if1 .left)) (sym (c .before .before .before .before .before .before .before .before .sizes-ok .ensures) ∙ not-false _ (c .before .before .before .before .before .before .before .if2 .left)) (ap (λ (r : ℕ). queryQuestion3 (now (c .before .before .before .before .before .before .before .before .before .before .before .before .before .before .before .before .before .args .tables)) (now (c .before .before .before .before .before .before .before .before .before .before .before .before .before .before .before .before .before .args .built)) (c .before .before .before .before .before .before .before .before .before .before .before .before .before .before .before .before .before .args .n) r) (sym (c .before .before .before .before .before .before .transfer-rows .ensures)) ∙ (sym (c .before .before .before .before .before .runs-ok .ensures) ∙ not-false _ (c .before .before .before .before .if3 .left))) (sym (c .before .numbers-ok .ensures) ∙ not-true _ (c .if5 .taken))
 
 ranges-ok-requires : tie.Need-ranges-ok-requires
 ranges-ok-requires c κs = ((limits-yes _ (sym (c .before .before .before .before .before .before .before .before .before .before .counts-ok .ensures) ∙ not-false _ (c .before .before .before .before .before .before .before .before .before .if1 .left))), ((sized-yes _ _ _ _ _ _ _ (sym (c .before .before .before .before .before .before .before .before .sizes-ok .ensures) ∙ not-false _ (c .before .before .before .before .before .before .before .if2 .left))), rows-room (c .before .before .before .before .before .before .before .before .before .before .before .before .before .before .before .before .before .args .n) _ _ (c .before .before .before .before .before .before .transfer-rows .ensures)))
 
 returns-6 : tie.Need-returns-6
-returns-6 c = no5 _ _ (sym (c .before .before .before .before .before .before .before .before .before .before .before .before .counts-ok .ensures) ∙ not-false _ (c .before .before .before .before .before .before .before .before .before .before .before .if1 .left)) (sym (c .before .before .before .before .before .before .before .before .before .before .sizes-ok .ensures) ∙ not-false _ (c .before .before .before .before .before .before .before .before .before .if2 .left)) (ap (λ (r : ℕ). queryQuestion3 (now (c .before .before .before .before .before .before .before .before .before .before .before .before .before .before .before .before .before .before .before .args .t)) (now (c .before .before .before .before .before .before .before .before .before .before .before .before .before .before .before .before .before .before .before .args .built)) (c .before .before .before .before .before .before .before .before .before .before .before .before .before .before .before .before .before .before .before .args .n) r) (sym (c .before .before .before .before .before .before .before .before .transfer-rows .ensures)) ∙ (sym (c .before .before .before .before .before .before .before .runs-ok .ensures) ∙ not-false _ (c .before .before .before .before .before .before .if3 .left))) (sym (c .before .before .before .numbers-ok .ensures) ∙ not-false _ (c .before .before .if5 .left)) (ap (λ (r : ℕ). queryQuestion5 (now (c .before .before .before .before .before .before .before .before .before .before .before .before .before .before .before .before .before .before .before .args .t)) (now (c .before .before .before .before .before .before .before .before .before .before .before .before .before .before .before .before .before .before .before .args .built)) (now (c .before .before .before .before .before .before .before .before .before .before .before .before .before .before .before .before .before .before .before .args .transfers)) (now (c .before .before .before .before .before .before .before .before .before .before .before .before .before .before .before .before .before .before .before .args .q)) (c .before .before .before .before .before .before .before .before .before .before .before .before .before .before .before .before .before .before .before .args .n) r) (sym (c .before .before .before .before .before .before .before .before .transfer-rows .ensures)) ∙ (sym (c .before .ranges-ok .ensures) ∙ not-true _ (c .if6 .taken)))
+returns-6 c = no5 _ _ (sym (c .before .before .before .before .before .before .before .before .before .before .before .before .counts-ok .ensures) ∙ not-false _ (c .before .before .before .before .before .before .before .before .before .before .before .if1 .left)) (sym (c .before .before .before .before .before .before .before .before .before .before .sizes-ok .ensures) ∙ not-false _ (c .before .before .before .before .before .before .before .before .before .if2 .left)) (ap (λ (r : ℕ). queryQuestion3 (now (c .before .before .before .before .before .before .before .before .before .before .before .before .before .before .before .before .before .before .before .args .tables)) (now (c .before .before .before .before .before .before .before .before .before .before .before .before .before .before .before .before .before .before .before .args .built)) (c .before .before .before .before .before .before .before .before .before .before .before .before .before .before .before .before .before .before .before .args .n) r) (sym (c .before .before .before .before .before .before .before .before .transfer-rows .ensures)) ∙ (sym (c .before .before .before .before .before .before .before .runs-ok .ensures) ∙ not-false _ (c .before .before .before .before .before .before .if3 .left))) (sym (c .before .before .before .numbers-ok .ensures) ∙ not-false _ (c .before .before .if5 .left)) (ap (λ (r : ℕ). queryQuestion5 (now (c .before .before .before .before .before .before .before .before .before .before .before .before .before .before .before .before .before .before .before .args .tables)) (now (c .before .before .before .before .before .before .before .before .before .before .before .before .before .before .before .before .before .before .before .args .built)) (now (c .before .before .before .before .before .before .before .before .before .before .before .before .before .before .before .before .before .before .before .args .transfers)) (now (c .before .before .before .before .before .before .before .before .before .before .before .before .before .before .before .before .before .before .before .args .query)) (c .before .before .before .before .before .before .before .before .before .before .before .before .before .before .before .before .before .before .before .args .n) r) (sym (c .before .before .before .before .before .before .before .before .transfer-rows .ensures)) ∙ (sym (c .before .ranges-ok .ensures) ∙ not-true _ (c .if6 .taken)))
 
 order-ok-requires : tie.Need-order-ok-requires
 order-ok-requires c κs = ((limits-yes _ (sym (c .before .before .before .before .before .before .before .before .before .before .before .before .counts-ok .ensures) ∙ not-false _ (c .before .before .before .before .before .before .before .before .before .before .before .if1 .left))), ((sized-yes _ _ _ _ _ _ _ (sym (c .before .before .before .before .before .before .before .before .before .before .sizes-ok .ensures) ∙ not-false _ (c .before .before .before .before .before .before .before .before .before .if2 .left))), numbered-yes _ _ _ _ _ (sized-yes _ _ _ _ _ _ _ (sym (c .before .before .before .before .before .before .before .before .before .before .sizes-ok .ensures) ∙ not-false _ (c .before .before .before .before .before .before .before .before .before .if2 .left))) (placed-yes _ _ _ _ _ (limits-yes _ (sym (c .before .before .before .before .before .before .before .before .before .before .before .before .counts-ok .ensures) ∙ not-false _ (c .before .before .before .before .before .before .before .before .before .before .before .if1 .left))) (sized-yes _ _ _ _ _ _ _ (sym (c .before .before .before .before .before .before .before .before .before .before .sizes-ok .ensures) ∙ not-false _ (c .before .before .before .before .before .before .before .before .before .if2 .left))) (sym (c .before .before .before .before .before .before .before .runs-ok .ensures) ∙ not-false _ (c .before .before .before .before .before .before .if3 .left))) (sym (c .before .before .before .numbers-ok .ensures) ∙ not-false _ (c .before .before .if5 .left)) .listed))
 
 returns-7 : tie.Need-returns-7
-returns-7 c = no6 _ _ (sym (c .before .before .before .before .before .before .before .before .before .before .before .before .before .before .counts-ok .ensures) ∙ not-false _ (c .before .before .before .before .before .before .before .before .before .before .before .before .before .if1 .left)) (sym (c .before .before .before .before .before .before .before .before .before .before .before .before .sizes-ok .ensures) ∙ not-false _ (c .before .before .before .before .before .before .before .before .before .before .before .if2 .left)) (ap (λ (r : ℕ). queryQuestion3 (now (c .before .before .before .before .before .before .before .before .before .before .before .before .before .before .before .before .before .before .before .before .before .args .t)) (now (c .before .before .before .before .before .before .before .before .before .before .before .before .before .before .before .before .before .before .before .before .before .args .built)) (c .before .before .before .before .before .before .before .before .before .before .before .before .before .before .before .before .before .before .before .before .before .args .n) r) (sym (c .before .before .before .before .before .before .before .before .before .before .transfer-rows .ensures)) ∙ (sym (c .before .before .before .before .before .before .before .before .before .runs-ok .ensures) ∙ not-false _ (c .before .before .before .before .before .before .before .before .if3 .left))) (sym (c .before .before .before .before .before .numbers-ok .ensures) ∙ not-false _ (c .before .before .before .before .if5 .left)) (ap (λ (r : ℕ). queryQuestion5 (now (c .before .before .before .before .before .before .before .before .before .before .before .before .before .before .before .before .before .before .before .before .before .args .t)) (now (c .before .before .before .before .before .before .before .before .before .before .before .before .before .before .before .before .before .before .before .before .before .args .built)) (now (c .before .before .before .before .before .before .before .before .before .before .before .before .before .before .before .before .before .before .before .before .before .args .transfers)) (now (c .before .before .before .before .before .before .before .before .before .before .before .before .before .before .before .before .before .before .before .before .before .args .q)) (c .before .before .before .before .before .before .before .before .before .before .before .before .before .before .before .before .before .before .before .before .before .args .n) r) (sym (c .before .before .before .before .before .before .before .before .before .before .transfer-rows .ensures)) ∙ (sym (c .before .before .before .ranges-ok .ensures) ∙ not-false _ (c .before .before .if6 .left))) (sym (c .before .order-ok .ensures) ∙ not-true _ (c .if7 .taken))
+returns-7 c = no6 _ _ (sym (c .before .before .before .before .before .before .before .before .before .before .before .before .before .before .counts-ok .ensures) ∙ not-false _ (c .before .before .before .before .before .before .before .before .before .before .before .before .before .if1 .left)) (sym (c .before .before .before .before .before .before .before .before .before .before .before .before .sizes-ok .ensures) ∙ not-false _ (c .before .before .before .before .before .before .before .before .before .before .before .if2 .left)) (ap (λ (r : ℕ). queryQuestion3 (now (c .before .before .before .before .before .before .before .before .before .before .before .before .before .before .before .before .before .before .before .before .before .args .tables)) (now (c .before .before .before .before .before .before .before .before .before .before .before .before .before .before .before .before .before .before .before .before .before .args .built)) (c .before .before .before .before .before .before .before .before .before .before .before .before .before .before .before .before .before .before .before .before .before .args .n) r) (sym (c .before .before .before .before .before .before .before .before .before .before .transfer-rows .ensures)) ∙ (sym (c .before .before .before .before .before .before .before .before .before .runs-ok .ensures) ∙ not-false _ (c .before .before .before .before .before .before .before .before .if3 .left))) (sym (c .before .before .before .before .before .numbers-ok .ensures) ∙ not-false _ (c .before .before .before .before .if5 .left)) (ap (λ (r : ℕ). queryQuestion5 (now (c .before .before .before .before .before .before .before .before .before .before .before .before .before .before .before .before .before .before .before .before .before .args .tables)) (now (c .before .before .before .before .before .before .before .before .before .before .before .before .before .before .before .before .before .before .before .before .before .args .built)) (now (c .before .before .before .before .before .before .before .before .before .before .before .before .before .before .before .before .before .before .before .before .before .args .transfers)) (now (c .before .before .before .before .before .before .before .before .before .before .before .before .before .before .before .before .before .before .before .before .before .args .query)) (c .before .before .before .before .before .before .before .before .before .before .before .before .before .before .before .before .before .before .before .before .before .args .n) r) (sym (c .before .before .before .before .before .before .before .before .before .before .transfer-rows .ensures)) ∙ (sym (c .before .before .before .ranges-ok .ensures) ∙ not-false _ (c .before .before .if6 .left))) (sym (c .before .order-ok .ensures) ∙ not-true _ (c .if7 .taken))
 
 returns-8 : tie.Need-returns-8
-returns-8 c = yes _ _ (sym (c .before .before .before .before .before .before .before .before .before .before .before .before .before .before .counts-ok .ensures) ∙ not-false _ (c .before .before .before .before .before .before .before .before .before .before .before .before .before .if1 .left)) (sym (c .before .before .before .before .before .before .before .before .before .before .before .before .sizes-ok .ensures) ∙ not-false _ (c .before .before .before .before .before .before .before .before .before .before .before .if2 .left)) (ap (λ (r : ℕ). queryQuestion3 (now (c .before .before .before .before .before .before .before .before .before .before .before .before .before .before .before .before .before .before .before .before .before .args .t)) (now (c .before .before .before .before .before .before .before .before .before .before .before .before .before .before .before .before .before .before .before .before .before .args .built)) (c .before .before .before .before .before .before .before .before .before .before .before .before .before .before .before .before .before .before .before .before .before .args .n) r) (sym (c .before .before .before .before .before .before .before .before .before .before .transfer-rows .ensures)) ∙ (sym (c .before .before .before .before .before .before .before .before .before .runs-ok .ensures) ∙ not-false _ (c .before .before .before .before .before .before .before .before .if3 .left))) (sym (c .before .before .before .before .before .numbers-ok .ensures) ∙ not-false _ (c .before .before .before .before .if5 .left)) (ap (λ (r : ℕ). queryQuestion5 (now (c .before .before .before .before .before .before .before .before .before .before .before .before .before .before .before .before .before .before .before .before .before .args .t)) (now (c .before .before .before .before .before .before .before .before .before .before .before .before .before .before .before .before .before .before .before .before .before .args .built)) (now (c .before .before .before .before .before .before .before .before .before .before .before .before .before .before .before .before .before .before .before .before .before .args .transfers)) (now (c .before .before .before .before .before .before .before .before .before .before .before .before .before .before .before .before .before .before .before .before .before .args .q)) (c .before .before .before .before .before .before .before .before .before .before .before .before .before .before .before .before .before .before .before .before .before .args .n) r) (sym (c .before .before .before .before .before .before .before .before .before .before .transfer-rows .ensures)) ∙ (sym (c .before .before .before .ranges-ok .ensures) ∙ not-false _ (c .before .before .if6 .left))) (sym (c .before .order-ok .ensures) ∙ not-false _ (c .if7 .left))
+returns-8 c = yes _ _ (sym (c .before .before .before .before .before .before .before .before .before .before .before .before .before .before .counts-ok .ensures) ∙ not-false _ (c .before .before .before .before .before .before .before .before .before .before .before .before .before .if1 .left)) (sym (c .before .before .before .before .before .before .before .before .before .before .before .before .sizes-ok .ensures) ∙ not-false _ (c .before .before .before .before .before .before .before .before .before .before .before .if2 .left)) (ap (λ (r : ℕ). queryQuestion3 (now (c .before .before .before .before .before .before .before .before .before .before .before .before .before .before .before .before .before .before .before .before .before .args .tables)) (now (c .before .before .before .before .before .before .before .before .before .before .before .before .before .before .before .before .before .before .before .before .before .args .built)) (c .before .before .before .before .before .before .before .before .before .before .before .before .before .before .before .before .before .before .before .before .before .args .n) r) (sym (c .before .before .before .before .before .before .before .before .before .before .transfer-rows .ensures)) ∙ (sym (c .before .before .before .before .before .before .before .before .before .runs-ok .ensures) ∙ not-false _ (c .before .before .before .before .before .before .before .before .if3 .left))) (sym (c .before .before .before .before .before .numbers-ok .ensures) ∙ not-false _ (c .before .before .before .before .if5 .left)) (ap (λ (r : ℕ). queryQuestion5 (now (c .before .before .before .before .before .before .before .before .before .before .before .before .before .before .before .before .before .before .before .before .before .args .tables)) (now (c .before .before .before .before .before .before .before .before .before .before .before .before .before .before .before .before .before .before .before .before .before .args .built)) (now (c .before .before .before .before .before .before .before .before .before .before .before .before .before .before .before .before .before .before .before .before .before .args .transfers)) (now (c .before .before .before .before .before .before .before .before .before .before .before .before .before .before .before .before .before .before .before .before .before .args .query)) (c .before .before .before .before .before .before .before .before .before .before .before .before .before .before .before .before .before .before .before .before .before .args .n) r) (sym (c .before .before .before .before .before .before .before .before .before .before .transfer-rows .ensures)) ∙ (sym (c .before .before .before .ranges-ok .ensures) ∙ not-false _ (c .before .before .if6 .left))) (sym (c .before .order-ok .ensures) ∙ not-false _ (c .if7 .left))
 
 pub questions-spec : {M : Type 1} → statement M
 questions-spec =

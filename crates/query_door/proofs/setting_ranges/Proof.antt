@@ -32,7 +32,7 @@ both-requires-4 : tie.Need-both-requires-4
 both-requires-4 c κs = search needs
 
 returns : tie.Need-returns
-returns c = ranges (now (c .before .before .before .before .before .before .before .before .before .before .args .q)) (c .before .before .before .before .before .before .before .before .field .ensures .0) (c .before .before .before .before .before .before .before .field2 .ensures .0) (c .before .before .field5 .ensures .0) (c .before .before .before .before .before .field3 .ensures .0) (c .before .before .before .before .field4 .ensures .0) (c .before .before .before .before .before .before .both .ensures) (c .before .before .before .both2 .ensures) (c .before .both3 .ensures) (c .both4 .ensures)
+returns c = ranges (now (c .before .before .before .before .before .before .before .before .before .before .args .query)) (c .before .before .before .before .before .before .before .before .field .ensures .0) (c .before .before .before .before .before .before .before .field2 .ensures .0) (c .before .before .field5 .ensures .0) (c .before .before .before .before .before .field3 .ensures .0) (c .before .before .before .before .field4 .ensures .0) (c .before .before .before .before .before .before .both .ensures) (c .before .before .before .both2 .ensures) (c .before .both3 .ensures) (c .both4 .ensures)
 
 pub setting-ranges-spec : {M : Type 1} → statement M
 setting-ranges-spec =

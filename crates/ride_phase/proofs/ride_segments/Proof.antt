@@ -15,11 +15,11 @@ use Rattle.query_types.specs.Slices.{slices}
 use Rattle.ride_phase.proofs.ride_segments.Tie as tie
 
 abbrev Inv-loop : tie.InvT-loop
-Inv-loop t rows stop-rows built bytes area p m from work₀ labels₀ distances₀ queue₀ g₀ k₀ work labels distances queue g k =
-    Riding (p .context .lay) (p .stamp) (Rides (p .context) (slices t rows stop-rows built bytes area) work₀) (λ T Q. rideSegments T Q (p .context .flagged) (p .stamp - 2) (p .stamp) (queueOf from m)) (λ T Q. segmentsFrom T Q (p .context .flagged) (p .stamp - 2) (p .stamp) from m k) (memory work₀ labels₀ distances₀ g₀) (memory work labels distances g) queue₀ queue
+Inv-loop tables delay-rows stop-rows built patterns transfers p m from work₀ labels₀ label-distances₀ queue₀ g₀ k₀ work labels label-distances queue g k =
+    Riding (p .context .lay) (p .stamp) (Rides (p .context) (slices tables delay-rows stop-rows built patterns transfers) work₀) (λ T Q. rideSegments T Q (p .context .flagged) (p .stamp - 2) (p .stamp) (queueOf from m)) (λ T Q. segmentsFrom T Q (p .context .flagged) (p .stamp - 2) (p .stamp) from m k) (memory work₀ labels₀ label-distances₀ g₀) (memory work labels label-distances g) queue₀ queue
 
 abbrev μ-loop : tie.MeasureT-loop
-μ-loop t rows stop-rows built bytes area p m from work₀ labels₀ distances₀ queue₀ g₀ k₀ work labels distances queue g k =
+μ-loop tables delay-rows stop-rows built patterns transfers p m from work₀ labels₀ label-distances₀ queue₀ g₀ k₀ work labels label-distances queue g k =
     m - k
 
 loop-holds : tie.Need-loop-holds Inv-loop μ-loop

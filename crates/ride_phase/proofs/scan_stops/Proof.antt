@@ -17,11 +17,11 @@ use Rattle.query_types.specs.Slices.{slices}
 use Rattle.ride_phase.proofs.scan_stops.Tie as tie
 
 abbrev Inv-loop : tie.InvT-loop
-Inv-loop t rows stop-rows built bytes area p count work₀ labels₀ distances₀ queue₀ g₀ i₀ work labels distances queue g i =
-    Riding (p .context .lay) (p .stamp) (Changing (p .context) (slices t rows stop-rows built bytes area) (p .stamp - 2) (p .change) work₀) (λ T Q. scanStops T Q (p .context .flagged) (p .stamp - 2) (p .stamp) (part work₀ (p .context .lay .other) count)) (λ T Q. scanStops T Q (p .context .flagged) (p .stamp - 2) (p .stamp) (drop i (part work₀ (p .context .lay .other) count))) (memory work₀ labels₀ distances₀ g₀) (memory work labels distances g) queue₀ queue
+Inv-loop tables delay-rows stop-rows built patterns transfers p count work₀ labels₀ label-distances₀ queue₀ g₀ i₀ work labels label-distances queue g i =
+    Riding (p .context .lay) (p .stamp) (Changing (p .context) (slices tables delay-rows stop-rows built patterns transfers) (p .stamp - 2) (p .change) work₀) (λ T Q. scanStops T Q (p .context .flagged) (p .stamp - 2) (p .stamp) (part work₀ (p .context .lay .other) count)) (λ T Q. scanStops T Q (p .context .flagged) (p .stamp - 2) (p .stamp) (drop i (part work₀ (p .context .lay .other) count))) (memory work₀ labels₀ label-distances₀ g₀) (memory work labels label-distances g) queue₀ queue
 
 abbrev μ-loop : tie.MeasureT-loop
-μ-loop t rows stop-rows built bytes area p count work₀ labels₀ distances₀ queue₀ g₀ i₀ work labels distances queue g i =
+μ-loop tables delay-rows stop-rows built patterns transfers p count work₀ labels₀ label-distances₀ queue₀ g₀ i₀ work labels label-distances queue g i =
     count - i
 
 loop-holds : tie.Need-loop-holds Inv-loop μ-loop

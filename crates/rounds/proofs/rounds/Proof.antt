@@ -14,12 +14,12 @@ use Rattle.query_types.specs.Slices.{slices}
 use Rattle.rounds.proofs.rounds.Tie as tie
 
 abbrev Inv-loop : tie.InvT-loop
-Inv-loop ctx t built transfers patterns distances q work₀ labels₀ metres₀ queue-a₀ queue-b₀ rows stop-rows limit g₀ even₀ r₀ work labels metres queue-a queue-b g even r =
-    Running ctx (slices t rows stop-rows built patterns transfers) (tablesOf (lent (ctx .counts) t built transfers patterns distances q)) (queryOf (lent (ctx .counts) t built transfers patterns distances q)) limit r even (length queue-a₀)
-    (memory work labels metres g) queue-a queue-b
+Inv-loop ctx tables built transfers patterns distances query work₀ labels₀ label-distances₀ queue-a₀ queue-b₀ delay-rows stop-rows limit g₀ even₀ r₀ work labels label-distances queue-a queue-b g even r =
+    Running ctx (slices tables delay-rows stop-rows built patterns transfers) (tablesOf (lent (ctx .counts) tables built transfers patterns distances query)) (queryOf (lent (ctx .counts) tables built transfers patterns distances query)) limit r even (length queue-a₀)
+    (memory work labels label-distances g) queue-a queue-b
 
 abbrev μ-loop : tie.MeasureT-loop
-μ-loop ctx t built transfers patterns distances q work₀ labels₀ metres₀ queue-a₀ queue-b₀ rows stop-rows limit g₀ even₀ r₀ work labels metres queue-a queue-b g even r =
+μ-loop ctx tables built transfers patterns distances query work₀ labels₀ label-distances₀ queue-a₀ queue-b₀ delay-rows stop-rows limit g₀ even₀ r₀ work labels label-distances queue-a queue-b g even r =
     limit - r
 
 delay-rows-requires : tie.Need-delay-rows-requires Inv-loop μ-loop
@@ -59,13 +59,13 @@ same-length-5 : tie.Need-same-length-5 Inv-loop μ-loop
 same-length-5 c = let S = c .before .before .before .before .before .before .before .before .before .before .before .before .before .before .before .before .before .before .before .before .pre in let p = c .before .before .before .loop .inv in p .second ∙ S .halves
 
 returns : tie.Need-returns Inv-loop μ-loop
-returns c = let S = c .before .before .before .before .before .before .before .before .before .before .before .before .before .before .before .before .before .before .before .before .pre in let p = c .before .before .before .loop .inv in ended-early (let x = c .before .before .before .before .before .before .before .before .before .before .before .before .before .before .before .before .before .before .before .before .args in lent (x .ctx .counts) (now (x .t)) (now (x .built)) (now (x .transfers)) (now (x .patterns)) (now (x .distances)) (now (x .q))) _ _ (fed-of S _ _) p (sym (c .before .ends .ensures) ∙ c .if1 .taken)
+returns c = let S = c .before .before .before .before .before .before .before .before .before .before .before .before .before .before .before .before .before .before .before .before .pre in let p = c .before .before .before .loop .inv in ended-early (let x = c .before .before .before .before .before .before .before .before .before .before .before .before .before .before .before .before .before .before .before .before .args in lent (x .ctx .counts) (now (x .tables)) (now (x .built)) (now (x .transfers)) (now (x .patterns)) (now (x .distances)) (now (x .query))) _ _ (fed-of S _ _) p (sym (c .before .ends .ensures) ∙ c .if1 .taken)
 
 turn-requires : tie.Need-turn-requires Inv-loop μ-loop
-turn-requires c κs = let S = c .before .before .before .before .before .before .before .before .before .before .before .before .before .before .before .before .before .before .before .before .before .before .before .before .before .pre in let p = c .before .before .before .before .before .before .before .before .loop .inv in let l = c .before .before .before .before .before .before .before .before .before .tbr-max-rounds .ensures in let m = rounds-most (getD (now (c .before .before .before .before .before .before .before .before .before .before .before .before .before .before .before .before .before .before .before .before .before .before .before .before .before .args .q)) 2 0) (getD (now (c .before .before .before .before .before .before .before .before .before .before .before .before .before .before .before .before .before .before .before .before .before .before .before .before .before .args .q)) 3 0) in loop-open _ _ (fed-of S _ _) p (sym (c .before .before .before .before .before .before .ends .ensures) ∙ c .before .before .before .before .before .if1 .left) (c .before .before .before .before .before .before .before .loop-test .taken) (omega (arith, l, m))
+turn-requires c κs = let S = c .before .before .before .before .before .before .before .before .before .before .before .before .before .before .before .before .before .before .before .before .before .before .before .before .before .pre in let p = c .before .before .before .before .before .before .before .before .loop .inv in let l = c .before .before .before .before .before .before .before .before .before .tbr-max-rounds .ensures in let m = rounds-most (getD (now (c .before .before .before .before .before .before .before .before .before .before .before .before .before .before .before .before .before .before .before .before .before .before .before .before .before .args .query)) 2 0) (getD (now (c .before .before .before .before .before .before .before .before .before .before .before .before .before .before .before .before .before .before .before .before .before .before .before .before .before .args .query)) 3 0) in loop-open _ _ (fed-of S _ _) p (sym (c .before .before .before .before .before .before .ends .ensures) ∙ c .before .before .before .before .before .if1 .left) (c .before .before .before .before .before .before .before .loop-test .taken) (omega (arith, l, m))
 
 add-r : tie.Need-add-r Inv-loop μ-loop
-add-r c = let l = c .before .before .before .before .before .before .before .before .before .before .before .before .before .before .before .before .before .before .before .before .tbr-max-rounds .ensures in let m = rounds-most (getD (now (c .before .before .before .before .before .before .before .before .before .before .before .before .before .before .before .before .before .before .before .before .before .before .before .before .before .before .before .before .before .before .before .before .before .before .before .before .args .q)) 2 0) (getD (now (c .before .before .before .before .before .before .before .before .before .before .before .before .before .before .before .before .before .before .before .before .before .before .before .before .before .before .before .before .before .before .before .before .before .before .before .before .args .q)) 3 0) in omega (arith, l, m, c .before .before .before .before .before .before .before .before .before .before .before .before .before .before .before .before .before .before .loop-test .taken)
+add-r c = let l = c .before .before .before .before .before .before .before .before .before .before .before .before .before .before .before .before .before .before .before .before .tbr-max-rounds .ensures in let m = rounds-most (getD (now (c .before .before .before .before .before .before .before .before .before .before .before .before .before .before .before .before .before .before .before .before .before .before .before .before .before .before .before .before .before .before .before .before .before .before .before .before .args .query)) 2 0) (getD (now (c .before .before .before .before .before .before .before .before .before .before .before .before .before .before .before .before .before .before .before .before .before .before .before .before .before .before .before .before .before .before .before .before .before .before .before .before .args .query)) 3 0) in omega (arith, l, m, c .before .before .before .before .before .before .before .before .before .before .before .before .before .before .before .before .before .before .loop-test .taken)
 
 loop-less : tie.Need-loop-less Inv-loop μ-loop
 loop-less c = omega arith
@@ -89,7 +89,7 @@ same-length-10 : tie.Need-same-length-10 Inv-loop μ-loop
 same-length-10 c = let S = c .before .before .before .before .before .before .before .before .before .before .before .before .before .before .before .before .before .before .pre in let p = c .before .loop .inv in p .second ∙ S .halves
 
 returns-2 : tie.Need-returns-2 Inv-loop μ-loop
-returns-2 c = let S = c .before .before .before .before .before .before .before .before .before .before .before .before .before .before .before .before .before .before .pre in let p = c .before .loop .inv in ended-last (let x = c .before .before .before .before .before .before .before .before .before .before .before .before .before .before .before .before .before .before .args in lent (x .ctx .counts) (now (x .t)) (now (x .built)) (now (x .transfers)) (now (x .patterns)) (now (x .distances)) (now (x .q))) _ _ (fed-of S _ _) p (c .loop-test .left)
+returns-2 c = let S = c .before .before .before .before .before .before .before .before .before .before .before .before .before .before .before .before .before .before .pre in let p = c .before .loop .inv in ended-last (let x = c .before .before .before .before .before .before .before .before .before .before .before .before .before .before .before .before .before .before .args in lent (x .ctx .counts) (now (x .tables)) (now (x .built)) (now (x .transfers)) (now (x .patterns)) (now (x .distances)) (now (x .query))) _ _ (fed-of S _ _) p (c .loop-test .left)
 
 pub rounds-spec : {M : Type 1} → statement M
 rounds-spec =

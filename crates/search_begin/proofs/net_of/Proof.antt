@@ -52,7 +52,7 @@ add-t24 : tie.Need-add-t24
 add-t24 c = search needs
 
 returns : tie.Need-returns
-returns c = λ x l B e. let A = askable-as (c .before .before .before .before .before .before .before .before .before .before .before .before .before .before .before .before .before .before .pre) in net-is (c .before .before .before .before .before .before .before .before .before .before .before .before .before .before .before .before .before .before .args .n) (now (c .before .before .before .before .before .before .before .before .before .before .before .before .before .before .before .before .before .before .args .t)) (now (c .before .before .before .before .before .before .before .before .before .before .before .before .before .before .before .before .before .before .args .built)) (now (c .before .before .before .before .before .before .before .before .before .before .before .before .before .before .before .before .before .before .args .q)) (now (c .before .before .before .before .before .before .before .before .before .before .before .before .before .before .before .before .before .before .args .distances)) x e (query-room (A .sized)) _ _ _ (c .before .before .before .before .before .before .before .before .before .before .before .before .delay-rows .ensures) (c .before .before .before .before .before .before .before .before .before .before .before .stop-rows .ensures) (c .before .before .before .before .before .before .before .before .before .egress-rows .ensures) _ _ _ _ (c .before .before .before .before .line-tables .ensures) (c .before .before .before .before .before .before .before .before .before .before .rt-margin .ensures) (c .before .before .before .before .before .before .before .target-cells .ensures) (c .before .before .before .transfer-runs-at .ensures .0)
+returns c = λ x l B e. let A = askable-as (c .before .before .before .before .before .before .before .before .before .before .before .before .before .before .before .before .before .before .pre) in net-is (c .before .before .before .before .before .before .before .before .before .before .before .before .before .before .before .before .before .before .args .n) (now (c .before .before .before .before .before .before .before .before .before .before .before .before .before .before .before .before .before .before .args .tables)) (now (c .before .before .before .before .before .before .before .before .before .before .before .before .before .before .before .before .before .before .args .built)) (now (c .before .before .before .before .before .before .before .before .before .before .before .before .before .before .before .before .before .before .args .query)) (now (c .before .before .before .before .before .before .before .before .before .before .before .before .before .before .before .before .before .before .args .distances)) x e (query-room (A .sized)) _ _ _ (c .before .before .before .before .before .before .before .before .before .before .before .before .delay-rows .ensures) (c .before .before .before .before .before .before .before .before .before .before .before .stop-rows .ensures) (c .before .before .before .before .before .before .before .before .before .egress-rows .ensures) _ _ _ _ (c .before .before .before .before .line-tables .ensures) (c .before .before .before .before .before .before .before .before .before .before .rt-margin .ensures) (c .before .before .before .before .before .before .before .target-cells .ensures) (c .before .before .before .transfer-runs-at .ensures .0)
 
 pub net-of-spec : {M : Type 1} → statement M
 net-of-spec =

@@ -44,7 +44,7 @@ same-length : tie.Need-same-length
 same-length c = search needs
 
 returns : tie.Need-returns
-returns c = let a = c .before .before .before .before .before .before in let x = a .args in ap (λ (m : ℕ). set (now (x .work)) (restAt (x .lay) + m) (getD (now (x .q)) (x .at + 1) 0 + 1)) (c .before .field .ensures .0)
+returns c = let a = c .before .before .before .before .before .before in let x = a .args in ap (λ (m : ℕ). set (now (x .work)) (restAt (x .lay) + m) (getD (now (x .query)) (x .at + 1) 0 + 1)) (c .before .field .ensures .0)
 
 pub put-egress-spec : {M : Type 1} → statement M
 put-egress-spec =

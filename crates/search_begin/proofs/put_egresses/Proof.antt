@@ -10,13 +10,13 @@ use Rattle.search_begin.proofs.put_egresses.Statement.{statement}
 use Rattle.search_begin.proofs.put_egresses.Tie as tie
 
 abbrev Inv-loop : tie.InvT-loop
-Inv-loop lay q first n work₀ k₀ work k = (k ≤ n) × WorkSized lay (length work) × EgressRows lay q first n × Egressed (tabFrom (egressRowFrom q first) k (n - k)) lay work₀ work
+Inv-loop lay query first n work₀ k₀ work k = (k ≤ n) × WorkSized lay (length work) × EgressRows lay query first n × Egressed (tabFrom (egressRowFrom query first) k (n - k)) lay work₀ work
 
 abbrev μ-loop : tie.MeasureT-loop
-μ-loop lay q first n work₀ k₀ work k = k
+μ-loop lay query first n work₀ k₀ work k = k
 
 loop-holds : tie.Need-loop-holds Inv-loop μ-loop
-loop-holds c = let a = c .before .before in let x = a .args in (omega arith, a .pre .0, a .pre .1 .0, rw (rows-end (now (x .q)) (x .first) (x .n)) (a .pre .1 .1))
+loop-holds c = let a = c .before .before in let x = a .args in (omega arith, a .pre .0, a .pre .1 .0, rw (rows-end (now (x .query)) (x .first) (x .n)) (a .pre .1 .1))
 
 sub-k : tie.Need-sub-k Inv-loop μ-loop
 sub-k c = omega arith
@@ -34,13 +34,13 @@ loop-less : tie.Need-loop-less Inv-loop μ-loop
 loop-less c = omega arith
 
 loop-again : tie.Need-loop-again Inv-loop μ-loop
-loop-again c = let a = c .before .before .before .before .before .before .before .before in let x = a .args in let v = c .before .before .before .before .before .loop .inv in let g = egress-again (x .lay) (now (x .q)) (x .first) (c .before .before .before .before .before .loop .k) (x .n) (now (x .work)) _ _ (v .2) (omega (arith, a .pre .0 .words)) (c .before .before .before .before .loop-test .taken) (v .0) (v .3) (c .before .before .put-egress .ensures) in (omega (arith, v .0), sized-same (a .pre .0) (g .size), v .2, g)
+loop-again c = let a = c .before .before .before .before .before .before .before .before in let x = a .args in let v = c .before .before .before .before .before .loop .inv in let g = egress-again (x .lay) (now (x .query)) (x .first) (c .before .before .before .before .before .loop .k) (x .n) (now (x .work)) _ _ (v .2) (omega (arith, a .pre .0 .words)) (c .before .before .before .before .loop-test .taken) (v .0) (v .3) (c .before .before .put-egress .ensures) in (omega (arith, v .0), sized-same (a .pre .0) (g .size), v .2, g)
 
 same-length : tie.Need-same-length Inv-loop μ-loop
 same-length c = c .before .loop .inv .3 .size
 
 returns : tie.Need-returns Inv-loop μ-loop
-returns c = let a = c .before .before .before .before in let x = a .args in let v = c .before .loop .inv in rw (all-rows (now (x .q)) (x .first) (c .before .loop .k) (x .n) (omega arith)) (v .3)
+returns c = let a = c .before .before .before .before in let x = a .args in let v = c .before .loop .inv in rw (all-rows (now (x .query)) (x .first) (c .before .loop .k) (x .n) (omega arith)) (v .3)
 
 pub put-egresses-spec : {M : Type 1} → statement M
 put-egresses-spec =

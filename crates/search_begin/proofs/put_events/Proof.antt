@@ -11,10 +11,10 @@ use Rattle.query_types.specs.Slices.{slices}
 use Rattle.search_begin.proofs.put_events.Tie as tie
 
 abbrev Inv-loop : tie.InvT-loop
-Inv-loop t work₀ c a trips before₀ i₀ work before i = Running t c a trips work₀ work before i
+Inv-loop tables work₀ c a trips before₀ i₀ work before i = Running tables c a trips work₀ work before i
 
 abbrev μ-loop : tie.MeasureT-loop
-μ-loop t work₀ c a trips before₀ i₀ work before i = trips - i
+μ-loop tables work₀ c a trips before₀ i₀ work before i = trips - i
 
 mul-a : tie.Need-mul-a Inv-loop μ-loop
 mul-a c = omega (arith, c .before .before .before .before .pre .1 .1 .stops)
@@ -32,7 +32,7 @@ add-a-3 : tie.Need-add-a-3 Inv-loop μ-loop
 add-a-3 c = omega (arith, c .before .before .before .before .before .before .pre .1 .1 .stops, c .before .before .before .before .before .before .pre .1 .1 .trips, c .before .before .before .before .before .before .pre .1 .1 .lines)
 
 loop-holds : tie.Need-loop-holds Inv-loop μ-loop
-loop-holds c = running-none (now (c .before .before .before .before .before .before .args .t)) (c .before .before .before .before .before .before .args .n .timetable) _ (c .before .before .before .before .before .before .args .lay .trips) (now (c .before .before .before .before .before .before .args .work)) (ap (λ (k : Lay). k .trips) (c .before .before .before .before .before .before .pre .1 .0)) (c .before .before .before .before .before .before .pre .0) (omega (arith, c .before .before .before .before .before .before .pre .1 .1 .words))
+loop-holds c = running-none (now (c .before .before .before .before .before .before .args .tables)) (c .before .before .before .before .before .before .args .n .timetable) _ (c .before .before .before .before .before .before .args .lay .trips) (now (c .before .before .before .before .before .before .args .work)) (ap (λ (k : Lay). k .trips) (c .before .before .before .before .before .before .pre .1 .0)) (c .before .before .before .before .before .before .pre .0) (omega (arith, c .before .before .before .before .before .before .pre .1 .1 .words))
 
 cast-work : tie.Need-cast-work Inv-loop μ-loop
 cast-work c = let r = c .before .loop .inv in omega (arith, r .small, r .few, r .trips-are, r .sane .counts .trips)

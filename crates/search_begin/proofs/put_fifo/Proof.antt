@@ -50,7 +50,7 @@ same-length : tie.Need-same-length
 same-length c = search needs
 
 returns : tie.Need-returns
-returns c = put-part _ _ (c .before .before .before .before .before .before .before .before .before .before .before .before .args .lay .lines) _ (now (c .before .before .before .before .before .before .before .before .before .before .before .before .args .work)) _ refl (omega (arith, c .before .before .before .before .before .before .before .before .before .before .before .before .pre .1 .1 .1 .words)) (fifos-read (timetable (now (c .before .before .before .before .before .before .before .before .before .before .before .before .args .t)) (c .before .before .before .before .before .before .before .before .before .before .before .before .args .n .timetable)) (c .before .before .before .before .before .before .before .before .before .before .before .before .args .n .lines) (c .before .before .before .before .before .before .before .before .before .before .before .before .args .lay .lines) _ _ _ (lineRuns (now (c .before .before .before .before .before .before .before .before .before .before .before .before .args .built)) (c .before .before .before .before .before .before .before .before .before .before .before .before .args .n)) (lineEntries (now (c .before .before .before .before .before .before .before .before .before .before .before .before .args .built)) (c .before .before .before .before .before .before .before .before .before .before .before .before .args .n)) (c .before .before .line-fifo .ensures) (c .before .before .before .before .before .line-runs .ensures) (c .before .before .before .before .line-entries .ensures) (ap (λ (k : Lay). k .lines) (c .before .before .before .before .before .before .before .before .before .before .before .before .pre .1 .1 .0)))
+returns c = put-part _ _ (c .before .before .before .before .before .before .before .before .before .before .before .before .args .lay .lines) _ (now (c .before .before .before .before .before .before .before .before .before .before .before .before .args .work)) _ refl (omega (arith, c .before .before .before .before .before .before .before .before .before .before .before .before .pre .1 .1 .1 .words)) (fifos-read (timetable (now (c .before .before .before .before .before .before .before .before .before .before .before .before .args .tables)) (c .before .before .before .before .before .before .before .before .before .before .before .before .args .n .timetable)) (c .before .before .before .before .before .before .before .before .before .before .before .before .args .n .lines) (c .before .before .before .before .before .before .before .before .before .before .before .before .args .lay .lines) _ _ _ (lineRuns (now (c .before .before .before .before .before .before .before .before .before .before .before .before .args .built)) (c .before .before .before .before .before .before .before .before .before .before .before .before .args .n)) (lineEntries (now (c .before .before .before .before .before .before .before .before .before .before .before .before .args .built)) (c .before .before .before .before .before .before .before .before .before .before .before .before .args .n)) (c .before .before .line-fifo .ensures) (c .before .before .before .before .before .line-runs .ensures) (c .before .before .before .before .line-entries .ensures) (ap (λ (k : Lay). k .lines) (c .before .before .before .before .before .before .before .before .before .before .before .before .pre .1 .1 .0)))
 
 pub put-fifo-spec : {M : Type 1} → statement M
 put-fifo-spec =

@@ -43,7 +43,7 @@ same-length-3 : tie.Need-same-length-3
 same-length-3 c = search needs
 
 returns : tie.Need-returns
-returns c = let a = c .before .before .before .before .before .before .before .before .before .before .before .before .before .before .before .before .before .before in let x = a .args in step-as (λ T Q. relax T Q (x .ride .stamp) (stopAt T (x .ride .trip) (x .p)) (x .v) (Transit (x .v) (x .ride .trip) (x .ride .stop) (x .ride .offset) (x .p) (x .ride .stamp - 2) (x .ride .shift))) (c .before .before .before .before .before .before .relax .ensures) (λ T Q y. y .0) (λ T Q y z. ap (λ (s : ℕ). relax T Q (x .ride .stamp) s (x .v) (Transit (x .v) (x .ride .trip) (x .ride .stop) (x .ride .offset) (x .p) (x .ride .stamp - 2) (x .ride .shift)) z) (c .before .before .before .before .before .before .before .before .before .before .before .time .ensures .0 ∙ ap (λ (f : ℕ). timeOf (now (x .t)) (f + x .p) 0) (c .before .before .before .before .before .before .before .before .before .before .before .before .trip .ensures .0) ∙ sym (ap (λ (u : Timetable). timeAt u (x .ride .trip) (x .p) .stop) (y .1))))
+returns c = let a = c .before .before .before .before .before .before .before .before .before .before .before .before .before .before .before .before .before .before in let x = a .args in step-as (λ T Q. relax T Q (x .ride .stamp) (stopAt T (x .ride .trip) (x .p)) (x .v) (Transit (x .v) (x .ride .trip) (x .ride .stop) (x .ride .offset) (x .p) (x .ride .stamp - 2) (x .ride .shift))) (c .before .before .before .before .before .before .relax .ensures) (λ T Q y. y .0) (λ T Q y z. ap (λ (s : ℕ). relax T Q (x .ride .stamp) s (x .v) (Transit (x .v) (x .ride .trip) (x .ride .stop) (x .ride .offset) (x .p) (x .ride .stamp - 2) (x .ride .shift)) z) (c .before .before .before .before .before .before .before .before .before .before .before .time .ensures .0 ∙ ap (λ (f : ℕ). timeOf (now (x .tables)) (f + x .p) 0) (c .before .before .before .before .before .before .before .before .before .before .before .before .trip .ensures .0) ∙ sym (ap (λ (u : Timetable). timeAt u (x .ride .trip) (x .p) .stop) (y .1))))
 
 pub alight-spec : {M : Type 1} → statement M
 alight-spec =

@@ -54,7 +54,7 @@ same-length-3 : tie.Need-same-length-3
 same-length-3 c = search needs
 
 returns : tie.Need-returns
-returns c = let a = c .before .before .before .before .before .before .before .before .before .before .before .before .before .before .before .before .before .before in let x = a .args in improve-is (x .lay) (x .stamp) (x .s) (x .v) (x .how) (now (x .work)) (now (x .labels)) (now (x .distances)) (x .h) (a .pre .0) (a .pre .1 .0) _ _ _ _ _ _ (c .before .before .before .before .before .before .before .before .before .mark .ensures) refl (c .before .before .before .before .store-label .ensures .0) (c .before .before .before .before .store-label .ensures .1) (c .before .before .before .before .before .before .before .before .before .before .before .best-after .ensures)
+returns c = let a = c .before .before .before .before .before .before .before .before .before .before .before .before .before .before .before .before .before .before in let x = a .args in improve-is (x .lay) (x .stamp) (x .s) (x .v) (x .how) (now (x .work)) (now (x .labels)) (now (x .label-distances)) (x .h) (a .pre .0) (a .pre .1 .0) _ _ _ _ _ _ (c .before .before .before .before .before .before .before .before .before .mark .ensures) refl (c .before .before .before .before .store-label .ensures .0) (c .before .before .before .before .store-label .ensures .1) (c .before .before .before .before .before .before .before .before .before .before .before .best-after .ensures)
 
 pub improve-spec : {M : Type 1} → statement M
 improve-spec =

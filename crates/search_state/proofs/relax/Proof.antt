@@ -11,7 +11,7 @@ slice-read-if1 : tie.Need-slice-read-if1
 slice-read-if1 c = search needs
 
 returns : tie.Need-returns
-returns c = let a = c .before .before .before .before .before in let x = a .args in relax-late (x .lay) (x .stamp) (x .s) (x .v) (x .how) (now (x .work)) (now (x .labels)) (now (x .distances)) (x .h) (a .pre .0) (a .pre .1 .0) (c .if1 .taken)
+returns c = let a = c .before .before .before .before .before in let x = a .args in relax-late (x .lay) (x .stamp) (x .s) (x .v) (x .how) (now (x .work)) (now (x .labels)) (now (x .label-distances)) (x .h) (a .pre .0) (a .pre .1 .0) (c .if1 .taken)
 
 improve-requires : tie.Need-improve-requires
 improve-requires c κs = search needs
@@ -26,7 +26,7 @@ same-length-3 : tie.Need-same-length-3
 same-length-3 c = search needs
 
 returns-2 : tie.Need-returns-2
-returns-2 c = let a = c .before .before .before .before .before .before .before .before .before .before .before .before .before .before .before in let x = a .args in relax-go (x .lay) (x .stamp) (x .s) (x .v) (x .how) (now (x .work)) (now (x .labels)) (now (x .distances)) (x .h) (a .pre .0) (a .pre .1 .0) (c .before .before .before .before .before .before .before .before .before .before .if1 .left) (c .before .before .before .before .before .before .improve .ensures)
+returns-2 c = let a = c .before .before .before .before .before .before .before .before .before .before .before .before .before .before .before in let x = a .args in relax-go (x .lay) (x .stamp) (x .s) (x .v) (x .how) (now (x .work)) (now (x .labels)) (now (x .label-distances)) (x .h) (a .pre .0) (a .pre .1 .0) (c .before .before .before .before .before .before .before .before .before .before .if1 .left) (c .before .before .before .before .before .before .improve .ensures)
 
 pub relax-spec : {M : Type 1} → statement M
 relax-spec =

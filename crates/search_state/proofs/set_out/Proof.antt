@@ -36,7 +36,7 @@ slice-read-if1 : tie.Need-slice-read-if1
 slice-read-if1 c = search needs
 
 returns : tie.Need-returns
-returns c = let a = c .before .before .before .before .before .before .before .before .before in let x = a .args in start-late (x .lay) (x .start) (x .stop) (x .duration) (x .distance) (now (x .work)) (now (x .labels)) (now (x .distances)) (x .h) (a .pre .0) (a .pre .1 .0) _ (c .if1 .taken) (c .before .before .best-after .ensures)
+returns c = let a = c .before .before .before .before .before .before .before .before .before in let x = a .args in start-late (x .lay) (x .start) (x .stop) (x .duration) (x .distance) (now (x .work)) (now (x .labels)) (now (x .label-distances)) (x .h) (a .pre .0) (a .pre .1 .0) _ (c .if1 .taken) (c .before .before .best-after .ensures)
 
 enter-requires : tie.Need-enter-requires
 enter-requires c κs = search needs
@@ -60,7 +60,7 @@ same-length-3 : tie.Need-same-length-3
 same-length-3 c = search needs
 
 returns-2 : tie.Need-returns-2
-returns-2 c = let a = c .before .before .before .before .before .before .before .before .before .before .before .before .before .before .before .before .before .before .before .before .before in let x = a .args in start-early (x .lay) (x .start) (x .stop) (x .duration) (x .distance) (now (x .work)) (now (x .labels)) (now (x .distances)) (x .h) (a .pre .0) (a .pre .1 .0) _ _ _ _ _ (c .before .before .before .before .before .before .before .before .before .before .before .before .if1 .left) (c .before .before .before .before .before .before .before .before .before .before .before .before .before .before .best-after .ensures) (c .before .before .before .before .before .before .before .before .before .before .enter .ensures) (c .before .before .before .before .before .record-of .ensures) (c .before .before .before .before .store-label .ensures .0) (c .before .before .before .before .store-label .ensures .1)
+returns-2 c = let a = c .before .before .before .before .before .before .before .before .before .before .before .before .before .before .before .before .before .before .before .before .before in let x = a .args in start-early (x .lay) (x .start) (x .stop) (x .duration) (x .distance) (now (x .work)) (now (x .labels)) (now (x .label-distances)) (x .h) (a .pre .0) (a .pre .1 .0) _ _ _ _ _ (c .before .before .before .before .before .before .before .before .before .before .before .before .if1 .left) (c .before .before .before .before .before .before .before .before .before .before .before .before .before .before .best-after .ensures) (c .before .before .before .before .before .before .before .before .before .before .enter .ensures) (c .before .before .before .before .before .record-of .ensures) (c .before .before .before .before .store-label .ensures .0) (c .before .before .before .before .store-label .ensures .1)
 
 pub set-out-spec : {M : Type 1} → statement M
 set-out-spec =

@@ -10,7 +10,7 @@ use Rattle.tables.proofs.edge_rises.Tie as tie
 
 returns : tie.Need-returns
 unfolding edgeRises
-returns c = sym (ap (λ (n : ℕ). edgeRises (now (c .before .before .args .t)) (c .before .before .args .c) n) (c .if1 .taken))
+returns c = sym (ap (λ (n : ℕ). edgeRises (now (c .before .before .args .tables)) (c .before .before .args .c) n) (c .if1 .taken))
 
 sub-edge : tie.Need-sub-edge
 sub-edge c = search needs

@@ -11,16 +11,16 @@ use Rattle.tables.proofs.every_row.Statement.{statement}
 use Rattle.tables.proofs.every_row.Tie as tie
 
 abbrev Inv-loop : tie.InvT-loop
-Inv-loop t c k n i₀ i = (n ≡ rowCountOf k c) × (everyRow t c k ≡ everyIn (rowOk t c k) i n)
+Inv-loop tables c k n i₀ i = (n ≡ rowCountOf k c) × (everyRow tables c k ≡ everyIn (rowOk tables c k) i n)
 
 abbrev μ-loop : tie.MeasureT-loop
-μ-loop t c k n i₀ i = n - i
+μ-loop tables c k n i₀ i = n - i
 
 rows-of-requires : tie.Need-rows-of-requires Inv-loop μ-loop
 rows-of-requires c κs = search needs
 
 loop-holds : tie.Need-loop-holds Inv-loop μ-loop
-loop-holds c = (c .rows-of .ensures, ap (λ (n : ℕ). everyIn (rowOk (now (c .before .before .args .t)) (c .before .before .args .c) (c .before .before .args .k)) 0 n) (sym (c .rows-of .ensures)))
+loop-holds c = (c .rows-of .ensures, ap (λ (n : ℕ). everyIn (rowOk (now (c .before .before .args .tables)) (c .before .before .args .c) (c .before .before .args .k)) 0 n) (sym (c .rows-of .ensures)))
 
 row-ok-requires : tie.Need-row-ok-requires Inv-loop μ-loop
 row-ok-requires c κs = (search needs, (search needs, omega arith))

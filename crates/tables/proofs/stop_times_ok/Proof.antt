@@ -14,10 +14,10 @@ use Rattle.tables.proofs.stop_times_ok.Statement.{statement}
 use Rattle.tables.proofs.stop_times_ok.Tie as tie
 
 abbrev Inv-loop : tie.InvT-loop
-Inv-loop t c n stops₀ times₀ codes₀ i₀ stops times codes i = (n ≡ c .times) × (i ≤ n) × (everyIn (inRange t c) 0 (c .times) ≡ kept c stops times codes && everyIn (inRange t c) i n)
+Inv-loop tables c n stops₀ times₀ codes₀ i₀ stops times codes i = (n ≡ c .times) × (i ≤ n) × (everyIn (inRange tables c) 0 (c .times) ≡ kept c stops times codes && everyIn (inRange tables c) i n)
 
 abbrev μ-loop : tie.MeasureT-loop
-μ-loop t c n stops₀ times₀ codes₀ i₀ stops times codes i = n - i
+μ-loop tables c n stops₀ times₀ codes₀ i₀ stops times codes i = n - i
 
 loop-holds : tie.Need-loop-holds Inv-loop μ-loop
 loop-holds c = (refl, omega arith, kept-none (c .before .args .c) _)
@@ -65,7 +65,7 @@ loop-less : tie.Need-loop-less Inv-loop μ-loop
 loop-less c = omega arith
 
 loop-again : tie.Need-loop-again Inv-loop μ-loop
-loop-again c = let s = c .before .before .before .before .before .before .before .before .before in let l = c .before .before .before .before .before .before .before .loop in (c .before .before .before .before .before .before .before .loop .inv .0, omega arith, every-keep (inRange (now (s .args .t)) (s .args .c)) (l .i) (s .args .c .times) (kept (s .args .c) (l .stops) (l .times) (l .codes)) (l .inv .2) (kept-next (now (s .args .t)) (s .args .c) (l .i) (l .stops) (l .times) (l .codes) (c .before .before .before .before .before .field .ensures .0) (c .before .before .before .before .larger .ensures) (c .before .before .before .word .ensures) (c .before .before .word2 .ensures) (c .before .word3 .ensures) (c .word4 .ensures)) (omega arith))
+loop-again c = let s = c .before .before .before .before .before .before .before .before .before in let l = c .before .before .before .before .before .before .before .loop in (c .before .before .before .before .before .before .before .loop .inv .0, omega arith, every-keep (inRange (now (s .args .tables)) (s .args .c)) (l .i) (s .args .c .times) (kept (s .args .c) (l .stops) (l .times) (l .codes)) (l .inv .2) (kept-next (now (s .args .tables)) (s .args .c) (l .i) (l .stops) (l .times) (l .codes) (c .before .before .before .before .before .field .ensures .0) (c .before .before .before .before .larger .ensures) (c .before .before .before .word .ensures) (c .before .before .word2 .ensures) (c .before .word3 .ensures) (c .word4 .ensures)) (omega arith))
 
 both-requires : tie.Need-both-requires Inv-loop μ-loop
 both-requires c κs = search needs
@@ -74,7 +74,7 @@ both-requires-2 : tie.Need-both-requires-2 Inv-loop μ-loop
 both-requires-2 c κs = search needs
 
 returns : tie.Need-returns Inv-loop μ-loop
-returns c = let s = c .before .before .before .before .before .before in let l = c .before .before .before .before .loop in c .both2 .ensures ∙ ap (λ (x : Bool). leb (l .stops) (s .args .c .stops) && x) (c .before .both .ensures) ∙ every-kept (inRange (now (s .args .t)) (s .args .c)) (l .i) (s .args .c .times) (kept (s .args .c) (l .stops) (l .times) (l .codes)) (l .inv .2) (omega arith) ∙ every-both (rowOk (now (s .args .t)) (s .args .c) StopTimeNumbers) (rowOk (now (s .args .t)) (s .args .c) StopTimeRanges) 0 (s .args .c .times - 0)
+returns c = let s = c .before .before .before .before .before .before in let l = c .before .before .before .before .loop in c .both2 .ensures ∙ ap (λ (x : Bool). leb (l .stops) (s .args .c .stops) && x) (c .before .both .ensures) ∙ every-kept (inRange (now (s .args .tables)) (s .args .c)) (l .i) (s .args .c .times) (kept (s .args .c) (l .stops) (l .times) (l .codes)) (l .inv .2) (omega arith) ∙ every-both (rowOk (now (s .args .tables)) (s .args .c) StopTimeNumbers) (rowOk (now (s .args .tables)) (s .args .c) StopTimeRanges) 0 (s .args .c .times - 0)
 
 pub stop-times-ok-spec : {M : Type 1} → statement M
 stop-times-ok-spec =

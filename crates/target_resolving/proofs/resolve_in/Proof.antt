@@ -11,11 +11,11 @@ use Rattle.target_resolving.proofs.resolve_in.Statement.{statement}
 use Rattle.target_resolving.proofs.resolve_in.Tie as tie
 
 abbrev Inv-loop : tie.InvT-loop
-Inv-loop t c rows stop-rows built w is-fifo from k off after best j₀ j =
-    (j ≤ k) × ((T : Tables) (Q : Query) (trip : ℕ → ℕ) (p : ℕ) → Agree T Q t c rows stop-rows → Asks Q w → TripsAt trip p built from k → resolveIn T Q is-fifo off after best trip k p ≡ left T Q is-fifo off after best trip k p j)
+Inv-loop tables c delay-rows stop-rows built w is-fifo from k off after best j₀ j =
+    (j ≤ k) × ((T : Tables) (Q : Query) (trip : ℕ → ℕ) (p : ℕ) → Agree T Q tables c delay-rows stop-rows → Asks Q w → TripsAt trip p built from k → resolveIn T Q is-fifo off after best trip k p ≡ left T Q is-fifo off after best trip k p j)
 
 abbrev μ-loop : tie.MeasureT-loop
-μ-loop t c rows stop-rows built w is-fifo from k off after best j₀ j = k - j
+μ-loop tables c delay-rows stop-rows built w is-fifo from k off after best j₀ j = k - j
 
 loop-holds : tie.Need-loop-holds Inv-loop μ-loop
 loop-holds c = let s = c .before .before .before .before in (omega arith, λ T Q trip p g q l. left-first T Q (s .args .is-fifo) (s .args .off) (s .args .after) (s .args .best) trip (s .args .k) p)

@@ -9,19 +9,19 @@ use Rattle.target_resolving.proofs.try_trip.Statement.{statement}
 use Rattle.target_resolving.proofs.try_trip.Tie as tie
 
 returns : tie.Need-returns
-returns c = let s = c .before .before .before .before .before in λ T Q g q. tried-unknown T Q (s .args .is-fifo) (s .args .off) (s .args .after) (s .args .best) (s .args .trip) (has-not T Q (s .args .is-fifo) (s .args .off) (s .args .after) (s .args .best) (s .args .trip) (now (s .args .t)) (s .args .c) (g .timetable) (c .if1 .taken))
+returns c = let s = c .before .before .before .before .before in λ T Q g q. tried-unknown T Q (s .args .is-fifo) (s .args .off) (s .args .after) (s .args .best) (s .args .trip) (has-not T Q (s .args .is-fifo) (s .args .off) (s .args .after) (s .args .best) (s .args .trip) (now (s .args .tables)) (s .args .c) (g .timetable) (c .if1 .taken))
 
 trip-requires : tie.Need-trip-requires
 trip-requires c κs = search needs
 
 returns-2 : tie.Need-returns-2
-returns-2 c = let s = c .before .before .before .before .before .before .before in λ T Q g q. tried-unknown T Q (s .args .is-fifo) (s .args .off) (s .args .after) (s .args .best) (s .args .trip) (has-short T Q (s .args .is-fifo) (s .args .off) (s .args .after) (s .args .best) (s .args .trip) (now (s .args .t)) (s .args .c) _ (g .timetable) (c .before .before .if1 .left) (c .before .trip .ensures .0) (c .if2 .taken))
+returns-2 c = let s = c .before .before .before .before .before .before .before in λ T Q g q. tried-unknown T Q (s .args .is-fifo) (s .args .off) (s .args .after) (s .args .best) (s .args .trip) (has-short T Q (s .args .is-fifo) (s .args .off) (s .args .after) (s .args .best) (s .args .trip) (now (s .args .tables)) (s .args .c) _ (g .timetable) (c .before .before .if1 .left) (c .before .trip .ensures .0) (c .if2 .taken))
 
 too-late-requires : tie.Need-too-late-requires
 too-late-requires c κs = search needs
 
 returns-3 : tie.Need-returns-3
-returns-3 c = let s = c .before .before .before .before .before .before .before .before .before in λ T Q g q. tried-late T Q (s .args .is-fifo) (s .args .off) (s .args .after) (s .args .best) (s .args .trip) (has-both T Q (s .args .is-fifo) (s .args .off) (s .args .after) (s .args .best) (s .args .trip) (now (s .args .t)) (s .args .c) _ (g .timetable) (c .before .before .before .before .if1 .left) (c .before .before .before .trip .ensures .0) (c .before .before .if2 .left)) (sym (c .before .too-late .ensures T Q (g .timetable) q) ∙ c .if3 .taken)
+returns-3 c = let s = c .before .before .before .before .before .before .before .before .before in λ T Q g q. tried-late T Q (s .args .is-fifo) (s .args .off) (s .args .after) (s .args .best) (s .args .trip) (has-both T Q (s .args .is-fifo) (s .args .off) (s .args .after) (s .args .best) (s .args .trip) (now (s .args .tables)) (s .args .c) _ (g .timetable) (c .before .before .before .before .if1 .left) (c .before .before .before .trip .ensures .0) (c .before .before .if2 .left)) (sym (c .before .too-late .ensures T Q (g .timetable) q) ∙ c .if3 .taken)
 
 cast-delay-of : tie.Need-cast-delay-of
 cast-delay-of c = search needs
@@ -33,7 +33,7 @@ barred-requires : tie.Need-barred-requires
 barred-requires c κs = let s = c .before .before .before .before .before .before .before .before .before .before in (s .pre .0, (c .delay-of .ensures .0, record { trip = c .before .before .before .before .before .if1 .left; offset = omega (arith, c .before .before .before .before .trip .ensures .0, c .before .before .before .if2 .left) }))
 
 returns-4 : tie.Need-returns-4
-returns-4 c = let s = c .before .before .before .before .before .before .before .before .before .before .before .before in λ T Q g q. tried-shut T Q (s .args .is-fifo) (s .args .off) (s .args .after) (s .args .best) (s .args .trip) (has-both T Q (s .args .is-fifo) (s .args .off) (s .args .after) (s .args .best) (s .args .trip) (now (s .args .t)) (s .args .c) _ (g .timetable) (c .before .before .before .before .before .before .before .if1 .left) (c .before .before .before .before .before .before .trip .ensures .0) (c .before .before .before .before .before .if2 .left)) (sym (c .before .before .before .before .too-late .ensures T Q (g .timetable) q) ∙ c .before .before .before .if3 .left) (shut-as T Q (s .args .is-fifo) (s .args .off) (s .args .after) (s .args .best) (s .args .trip) (hitOf (c .before .before .delay-of .result)) (c .before .before .delay-of .ensures .1 Q (now (s .args .stop-rows)) (g .delays)) (sym (c .before .barred .ensures T Q g q) ∙ c .if4 .taken))
+returns-4 c = let s = c .before .before .before .before .before .before .before .before .before .before .before .before in λ T Q g q. tried-shut T Q (s .args .is-fifo) (s .args .off) (s .args .after) (s .args .best) (s .args .trip) (has-both T Q (s .args .is-fifo) (s .args .off) (s .args .after) (s .args .best) (s .args .trip) (now (s .args .tables)) (s .args .c) _ (g .timetable) (c .before .before .before .before .before .before .before .if1 .left) (c .before .before .before .before .before .before .trip .ensures .0) (c .before .before .before .before .before .if2 .left)) (sym (c .before .before .before .before .too-late .ensures T Q (g .timetable) q) ∙ c .before .before .before .if3 .left) (shut-as T Q (s .args .is-fifo) (s .args .off) (s .args .after) (s .args .best) (s .args .trip) (hitOf (c .before .before .delay-of .result)) (c .before .before .delay-of .ensures .1 Q (now (s .args .stop-rows)) (g .delays)) (sym (c .before .barred .ensures T Q g q) ∙ c .if4 .taken))
 
 board-at-requires : tie.Need-board-at-requires
 board-at-requires c κs = let s = c .before .before .before .before .before .before .before .before .before .before .before .before in (s .pre .0, (c .before .before .delay-of .ensures .0, (record { trip = c .before .before .before .before .before .before .before .if1 .left; offset = omega (arith, c .before .before .before .before .before .before .trip .ensures .0, c .before .before .before .before .before .if2 .left) }, s .pre .1)))
@@ -42,7 +42,7 @@ weigh-requires : tie.Need-weigh-requires
 weigh-requires c κs = search needs
 
 returns-5 : tie.Need-returns-5
-returns-5 c = let s = c .before .before .before .before .before .before .before .before .before .before .before .before .before .before in λ T Q g q. tried-found T Q (s .args .is-fifo) (s .args .off) (s .args .after) (s .args .best) (s .args .trip) _ (has-both T Q (s .args .is-fifo) (s .args .off) (s .args .after) (s .args .best) (s .args .trip) (now (s .args .t)) (s .args .c) _ (g .timetable) (c .before .before .before .before .before .before .before .before .before .if1 .left) (c .before .before .before .before .before .before .before .before .trip .ensures .0) (c .before .before .before .before .before .before .before .if2 .left)) (sym (c .before .before .before .before .before .before .too-late .ensures T Q (g .timetable) q) ∙ c .before .before .before .before .before .if3 .left) (shut-as T Q (s .args .is-fifo) (s .args .off) (s .args .after) (s .args .best) (s .args .trip) (hitOf (c .before .before .before .before .delay-of .result)) (c .before .before .before .before .delay-of .ensures .1 Q (now (s .args .stop-rows)) (g .delays)) (sym (c .before .before .before .barred .ensures T Q g q) ∙ c .before .before .if4 .left)) (c .weigh .ensures ∙ board-as T Q (s .args .is-fifo) (s .args .off) (s .args .after) (s .args .best) (s .args .trip) (hitOf (c .before .before .before .before .delay-of .result)) _ (c .before .before .before .before .delay-of .ensures .1 Q (now (s .args .stop-rows)) (g .delays)) (c .before .board-at .ensures T Q g))
+returns-5 c = let s = c .before .before .before .before .before .before .before .before .before .before .before .before .before .before in λ T Q g q. tried-found T Q (s .args .is-fifo) (s .args .off) (s .args .after) (s .args .best) (s .args .trip) _ (has-both T Q (s .args .is-fifo) (s .args .off) (s .args .after) (s .args .best) (s .args .trip) (now (s .args .tables)) (s .args .c) _ (g .timetable) (c .before .before .before .before .before .before .before .before .before .if1 .left) (c .before .before .before .before .before .before .before .before .trip .ensures .0) (c .before .before .before .before .before .before .before .if2 .left)) (sym (c .before .before .before .before .before .before .too-late .ensures T Q (g .timetable) q) ∙ c .before .before .before .before .before .if3 .left) (shut-as T Q (s .args .is-fifo) (s .args .off) (s .args .after) (s .args .best) (s .args .trip) (hitOf (c .before .before .before .before .delay-of .result)) (c .before .before .before .before .delay-of .ensures .1 Q (now (s .args .stop-rows)) (g .delays)) (sym (c .before .before .before .barred .ensures T Q g q) ∙ c .before .before .if4 .left)) (c .weigh .ensures ∙ board-as T Q (s .args .is-fifo) (s .args .off) (s .args .after) (s .args .best) (s .args .trip) (hitOf (c .before .before .before .before .delay-of .result)) _ (c .before .before .before .before .delay-of .ensures .1 Q (now (s .args .stop-rows)) (g .delays)) (c .before .board-at .ensures T Q g))
 
 pub try-trip-spec : {M : Type 1} → statement M
 try-trip-spec =

@@ -10,7 +10,7 @@ use Rattle.transfers_call.proofs.questions.Tie as tie
 
 -- what is lent, and that the questions before are answered yes
 abbrev lentAt : tie.Start → TransferLent
-lentAt s = transferLent (now (s .args .t)) (s .args .c) (s .args .line-count) (now (s .args .lines)) (s .args .d) (now (s .args .runs)) (now (s .args .rows)) (s .args .time)
+lentAt s = transferLent (now (s .args .tables)) (s .args .c) (s .args .line-count) (now (s .args .lines)) (s .args .d) (now (s .args .runs)) (now (s .args .rows)) (s .args .time)
 
 q1 : (c : tie.Else1) → transfersQuestion1 (lentAt (c .before .before .before .before .before .before .before .before)) ≡ true
 q1 c = answer1 _ (c .before .both2 .ensures) (c .before .before .before .counts-ok .ensures) (c .before .before .both .ensures) (not-false _ (c .if1 .left))

@@ -26,7 +26,7 @@ same-length-2 : tie.Need-same-length-2
 same-length-2 c = search needs
 
 returns : tie.Need-returns
-returns c = settle-most (prepared (now (c .before .before .before .before .before .before .before .before .before .before .before .before .before .before .before .before .args .t)) (c .before .before .before .before .before .before .before .before .before .before .before .before .before .before .before .before .args .c) (now (c .before .before .before .before .before .before .before .before .before .before .before .before .before .before .before .before .args .runs)) (now (c .before .before .before .before .before .before .before .before .before .before .before .before .before .before .before .before .args .work)) (c .before .before .before .before .before .before .before .before .before .before .before .before .before .before .before .before .args .time)) (transferAreas (now (c .before .before .before .before .before .before .before .before .before .before .before .before .before .before .before .before .args .area)) (now (c .before .before .before .before .before .before .before .before .before .before .before .before .before .before .before .before .args .evs))) _ _ _ _ _ (c .before .before .before .before .before .before .before .before .before .most-all .ensures) (c .before .before .before .before .before .before .before .before .room-ok .ensures) (c .before .before .before .before .before .before .before .if1 .taken) (c .before .before .before .before .all-events .ensures .0)
+returns c = settle-most (prepared (now (c .before .before .before .before .before .before .before .before .before .before .before .before .before .before .before .before .args .tables)) (c .before .before .before .before .before .before .before .before .before .before .before .before .before .before .before .before .args .c) (now (c .before .before .before .before .before .before .before .before .before .before .before .before .before .before .before .before .args .runs)) (now (c .before .before .before .before .before .before .before .before .before .before .before .before .before .before .before .before .args .work)) (c .before .before .before .before .before .before .before .before .before .before .before .before .before .before .before .before .args .time)) (transferAreas (now (c .before .before .before .before .before .before .before .before .before .before .before .before .before .before .before .before .args .area)) (now (c .before .before .before .before .before .before .before .before .before .before .before .before .before .before .before .before .args .transfer-runs))) _ _ _ _ _ (c .before .before .before .before .before .before .before .before .before .most-all .ensures) (c .before .before .before .before .before .before .before .before .room-ok .ensures) (c .before .before .before .before .before .before .before .if1 .taken) (c .before .before .before .before .all-events .ensures .0)
 
 total-requires : tie.Need-total-requires
 total-requires c κs = search needs
@@ -35,7 +35,7 @@ room-ok-requires-2 : tie.Need-room-ok-requires-2
 room-ok-requires-2 c κs = search needs
 
 returns-2 : tie.Need-returns-2
-returns-2 c = settle-no (prepared (now (c .before .before .before .before .before .before .before .before .before .before .before .before .args .t)) (c .before .before .before .before .before .before .before .before .before .before .before .before .args .c) (now (c .before .before .before .before .before .before .before .before .before .before .before .before .args .runs)) (now (c .before .before .before .before .before .before .before .before .before .before .before .before .args .work)) (c .before .before .before .before .before .before .before .before .before .before .before .before .args .time)) (transferAreas (now (c .before .before .before .before .before .before .before .before .before .before .before .before .args .area)) (now (c .before .before .before .before .before .before .before .before .before .before .before .before .args .evs))) _ _ (c .before .before .total .ensures) (c .before .room-ok2 .ensures) (not-true _ (c .if2 .taken))
+returns-2 c = settle-no (prepared (now (c .before .before .before .before .before .before .before .before .before .before .before .before .args .tables)) (c .before .before .before .before .before .before .before .before .before .before .before .before .args .c) (now (c .before .before .before .before .before .before .before .before .before .before .before .before .args .runs)) (now (c .before .before .before .before .before .before .before .before .before .before .before .before .args .work)) (c .before .before .before .before .before .before .before .before .before .before .before .before .args .time)) (transferAreas (now (c .before .before .before .before .before .before .before .before .before .before .before .before .args .area)) (now (c .before .before .before .before .before .before .before .before .before .before .before .before .args .transfer-runs))) _ _ (c .before .before .total .ensures) (c .before .room-ok2 .ensures) (not-true _ (c .if2 .taken))
 
 all-events-requires-2 : tie.Need-all-events-requires-2
 all-events-requires-2 c κs = search needs
@@ -50,7 +50,7 @@ same-length-4 : tie.Need-same-length-4
 same-length-4 c = search needs
 
 returns-3 : tie.Need-returns-3
-returns-3 c = settle-yes (prepared (now (c .before .before .before .before .before .before .before .before .before .before .before .before .before .before .before .before .before .before .before .args .t)) (c .before .before .before .before .before .before .before .before .before .before .before .before .before .before .before .before .before .before .before .args .c) (now (c .before .before .before .before .before .before .before .before .before .before .before .before .before .before .before .before .before .before .before .args .runs)) (now (c .before .before .before .before .before .before .before .before .before .before .before .before .before .before .before .before .before .before .before .args .work)) (c .before .before .before .before .before .before .before .before .before .before .before .before .before .before .before .before .before .before .before .args .time)) (transferAreas (now (c .before .before .before .before .before .before .before .before .before .before .before .before .before .before .before .before .before .before .before .args .area)) (now (c .before .before .before .before .before .before .before .before .before .before .before .before .before .before .before .before .before .before .before .args .evs))) _ _ _ _ _ (c .before .before .before .before .before .before .before .before .before .total .ensures) (c .before .before .before .before .before .before .before .before .room-ok2 .ensures) (not-false _ (c .before .before .before .before .before .before .before .if2 .left)) (c .before .before .before .before .all-events2 .ensures .0)
+returns-3 c = settle-yes (prepared (now (c .before .before .before .before .before .before .before .before .before .before .before .before .before .before .before .before .before .before .before .args .tables)) (c .before .before .before .before .before .before .before .before .before .before .before .before .before .before .before .before .before .before .before .args .c) (now (c .before .before .before .before .before .before .before .before .before .before .before .before .before .before .before .before .before .before .before .args .runs)) (now (c .before .before .before .before .before .before .before .before .before .before .before .before .before .before .before .before .before .before .before .args .work)) (c .before .before .before .before .before .before .before .before .before .before .before .before .before .before .before .before .before .before .before .args .time)) (transferAreas (now (c .before .before .before .before .before .before .before .before .before .before .before .before .before .before .before .before .before .before .before .args .area)) (now (c .before .before .before .before .before .before .before .before .before .before .before .before .before .before .before .before .before .before .before .args .transfer-runs))) _ _ _ _ _ (c .before .before .before .before .before .before .before .before .before .total .ensures) (c .before .before .before .before .before .before .before .before .room-ok2 .ensures) (not-false _ (c .before .before .before .before .before .before .before .if2 .left)) (c .before .before .before .before .all-events2 .ensures .0)
 
 pub settle-spec : {M : Type 1} → statement M
 settle-spec =

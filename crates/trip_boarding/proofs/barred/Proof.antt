@@ -24,7 +24,7 @@ either-requires-2 : tie.Need-either-requires-2
 either-requires-2 c κs = search needs
 
 returns : tie.Need-returns
-returns c = let s = c .before .before .before .before .before .before .before .before in λ T Q g q. barred-is T Q (now (s .args .t)) (s .args .c) (hitOf (s .args .adj)) (s .args .trip) (s .args .off) _ _ _ _ _ (g .timetable) (c .before .before .before .before .usable .ensures T Q (g .timetable) q) (c .before .before .before .event-word .ensures) (c .before .skipped .ensures T Q g) (c .before .before .either .ensures) (c .either2 .ensures)
+returns c = let s = c .before .before .before .before .before .before .before .before in λ T Q g q. barred-is T Q (now (s .args .tables)) (s .args .c) (hitOf (s .args .adj)) (s .args .trip) (s .args .off) _ _ _ _ _ (g .timetable) (c .before .before .before .before .usable .ensures T Q (g .timetable) q) (c .before .before .before .event-word .ensures) (c .before .skipped .ensures T Q g) (c .before .before .either .ensures) (c .either2 .ensures)
 
 pub barred-spec : {M : Type 1} → statement M
 barred-spec =

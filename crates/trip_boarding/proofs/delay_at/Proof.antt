@@ -23,7 +23,7 @@ no-delay-requires : tie.Need-no-delay-requires
 no-delay-requires c κs = search needs
 
 returns : tie.Need-returns
-returns c = let s = c .before .before .before .before .before .before .before .before in (rw (c .stop-delay .ensures) (row-bounded (delayTables (now (s .args .rows)) (now (s .args .stop-rows))) (s .pre .0 .delayRows) (s .pre .0 .stopRows) _ _ (s .pre .1 .0 .below _ (c .before .before .adj .given .1))), λ T Q g. delay-at-is T Q _ _ _ _ g _ (hit (c .before .before .adj .given .0 .0)) _ _ _ _ (c .before .before .adj .given .1) (c .before .before .before .before .event-word .ensures) (c .stop-delay .ensures))
+returns c = let s = c .before .before .before .before .before .before .before .before in (rw (c .stop-delay .ensures) (row-bounded (delayTables (now (s .args .delay-rows)) (now (s .args .stop-rows))) (s .pre .0 .delayRows) (s .pre .0 .stopRows) _ _ (s .pre .1 .0 .below _ (c .before .before .adj .given .1))), λ T Q g. delay-at-is T Q _ _ _ _ g _ (hit (c .before .before .adj .given .0 .0)) _ _ _ _ (c .before .before .adj .given .1) (c .before .before .before .before .event-word .ensures) (c .stop-delay .ensures))
 
 returns-2 : tie.Need-returns-2
 returns-2 c = let s = c .before .before .before .before .before .before .before in (rw (c .no-delay .ensures) no-delay-bounded, λ T Q g. delay-at-is T Q _ _ _ _ g _ miss _ _ _ _ (c .before .enum-told .given .1) (c .before .before .before .event-word .ensures) (c .no-delay .ensures))

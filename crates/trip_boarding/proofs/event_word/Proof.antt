@@ -21,7 +21,7 @@ cast-result : tie.Need-cast-result
 cast-result c = search needs
 
 returns : tie.Need-returns
-returns c = let s = c .before .before .before in c .time .ensures .0 ∙ ap (λ (x : ℕ). timeOf (now (s .args .t)) (x + s .args .off) (s .args .k)) (c .before .trip .ensures .0)
+returns c = let s = c .before .before .before in c .time .ensures .0 ∙ ap (λ (x : ℕ). timeOf (now (s .args .tables)) (x + s .args .off) (s .args .k)) (c .before .trip .ensures .0)
 
 pub event-word-spec : {M : Type 1} → statement M
 event-word-spec = tie.close (tie.spec trip-requires add-time time-requires cast-result returns)

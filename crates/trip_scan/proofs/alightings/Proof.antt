@@ -17,12 +17,12 @@ use Rattle.query_types.specs.Slices.{slices}
 use Rattle.trip_scan.proofs.alightings.Tie as tie
 
 abbrev Inv-loop : tie.InvT-loop
-Inv-loop t rows stop-rows s p work₀ labels₀ distances₀ trip adj n x₀ o₀ work labels distances x o =
-    (n ≡ countOf t (s .context .counts .timetable) (s .ride .trip)) × (trip ≡ s .ride .trip) × Along (s .context .lay) (s .ride .stamp) (Reads t (s .context .counts .timetable) rows stop-rows (s .context .lay) work₀) (λ T Q. alightings T Q (s .ride .stamp) (hitOf (s .adj)) (s .ride .shift) (s .ride .trip) (s .ride .stop) (s .ride .offset) (stopCount T (s .ride .trip) - p) p)
-    (λ T Q. alightFrom T Q (s .ride .stamp) (hitOf (s .adj)) (s .ride .shift) (s .ride .trip) (s .ride .stop) (s .ride .offset) n o) (memory work₀ labels₀ distances₀ x₀) (memory work labels distances x)
+Inv-loop tables delay-rows stop-rows s p work₀ labels₀ label-distances₀ trip adj n x₀ o₀ work labels label-distances x o =
+    (n ≡ countOf tables (s .context .counts .timetable) (s .ride .trip)) × (trip ≡ s .ride .trip) × Along (s .context .lay) (s .ride .stamp) (Reads tables (s .context .counts .timetable) delay-rows stop-rows (s .context .lay) work₀) (λ T Q. alightings T Q (s .ride .stamp) (hitOf (s .adj)) (s .ride .shift) (s .ride .trip) (s .ride .stop) (s .ride .offset) (stopCount T (s .ride .trip) - p) p)
+    (λ T Q. alightFrom T Q (s .ride .stamp) (hitOf (s .adj)) (s .ride .shift) (s .ride .trip) (s .ride .stop) (s .ride .offset) n o) (memory work₀ labels₀ label-distances₀ x₀) (memory work labels label-distances x)
 
 abbrev μ-loop : tie.MeasureT-loop
-μ-loop t rows stop-rows s p work₀ labels₀ distances₀ trip adj n x₀ o₀ work labels distances x o =
+μ-loop tables delay-rows stop-rows s p work₀ labels₀ label-distances₀ trip adj n x₀ o₀ work labels label-distances x o =
     n - o
 
 cast-trip : tie.Need-cast-trip Inv-loop μ-loop
@@ -32,7 +32,7 @@ trip-requires : tie.Need-trip-requires Inv-loop μ-loop
 trip-requires c κs = let a = c .before .before .before .before .before .before .before in let g = a .pre .0 in (g .ground .sane .counts, (g .ground .sane .slices, (g .trip, omega arith)))
 
 loop-holds : tie.Need-loop-holds Inv-loop μ-loop
-loop-holds c = let a = c .before .before .before .before .before .before .before .before in let x = a .args in let r = x .s .ride in ((c .trip .ensures) .0, refl, along-start _ _ _ (a .pre .1) (λ T Q y z. ap (λ (k : ℕ). alightings T Q (r .stamp) (hitOf (x .s .adj)) (r .shift) (r .trip) (r .stop) (r .offset) (k - x .p) (x .p) z) ((c .trip .ensures .0) ∙ sym (count-is T (now (x .t)) (x .s .context .counts .timetable) (r .trip) (y .agree .timetable)))))
+loop-holds c = let a = c .before .before .before .before .before .before .before .before in let x = a .args in let r = x .s .ride in ((c .trip .ensures) .0, refl, along-start _ _ _ (a .pre .1) (λ T Q y z. ap (λ (k : ℕ). alightings T Q (r .stamp) (hitOf (x .s .adj)) (r .shift) (r .trip) (r .stop) (r .offset) (k - x .p) (x .p) z) ((c .trip .ensures .0) ∙ sym (count-is T (now (x .tables)) (x .s .context .counts .timetable) (r .trip) (y .agree .timetable)))))
 
 shut-requires : tie.Need-shut-requires Inv-loop μ-loop
 shut-requires c κs = let a = c .before .before .before .before .before .before .before .before .before .before in let x = a .args in let r = x .s .ride in let i = (c .before .loop .inv) in let g = a .pre .0 in (g .ground, (g .known, record { trip = g .trip; offset = omega (arith, i .0, c .loop-test .taken) }))

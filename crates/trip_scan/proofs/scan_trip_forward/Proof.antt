@@ -49,7 +49,7 @@ same-length-7 : tie.Need-same-length-7
 same-length-7 c = c .before .before .before .before .before .before .before .before .transferring .ensures .size
 
 returns-2 : tie.Need-returns-2
-returns-2 c = let a = c .before .before .before .before .before .before .before .before .before .before .before .before .before .before .before .before .before .before .before .before .before .before .before .before .before .before .before .before .before .before .before .before .before .before .before .before in let x = a .args in let r = x .s .ride in let s = c .before .before .before .before .before .before .before .before .before .before .before .before .before .before .before .before .before .before .before .before .before .alightings .ensures in queue-as _ (queue-then (Nets (x .s .context) (slices (now (x .t)) (now (x .rows)) (now (x .stop-rows)) (now (x .built)) (now (x .bytes)) (now (x .area))) (now (x .work))) (queue-step (now (x .queue)) (c .before .before .before .before .before .before .before .before .before .before .before .before .before .before .before .before .before .before .before .before .before .alightings .ensures) (a .pre .1 .1 .1 .none) (a .pre .1 .1 .1 .room)) (s .full ∙ a .pre .1 .1 .1 .none) (c .before .before .before .before .before .before .before .before .transferring .ensures) (λ T Q y. (record { agree = y .agree; egress = y .egress }, nets-kept (s .same) (a .pre .0 .past) y))) (λ T Q y. y) (λ T Q y. scan-flagged T Q (r .stamp) (hitOf (x .s .adj)) (r .shift) (r .trip) (r .stop) (r .offset) (x .s .context .flagged) _ (c .before .before .before .before .before .before .before .before .before .before .before .before .before .if1 .left))
+returns-2 c = let a = c .before .before .before .before .before .before .before .before .before .before .before .before .before .before .before .before .before .before .before .before .before .before .before .before .before .before .before .before .before .before .before .before .before .before .before .before in let x = a .args in let r = x .s .ride in let s = c .before .before .before .before .before .before .before .before .before .before .before .before .before .before .before .before .before .before .before .before .before .alightings .ensures in queue-as _ (queue-then (Nets (x .s .context) (slices (now (x .tables)) (now (x .delay-rows)) (now (x .stop-rows)) (now (x .built)) (now (x .patterns)) (now (x .transfers))) (now (x .work))) (queue-step (now (x .queue)) (c .before .before .before .before .before .before .before .before .before .before .before .before .before .before .before .before .before .before .before .before .before .alightings .ensures) (a .pre .1 .1 .1 .none) (a .pre .1 .1 .1 .room)) (s .full ∙ a .pre .1 .1 .1 .none) (c .before .before .before .before .before .before .before .before .transferring .ensures) (λ T Q y. (record { agree = y .agree; egress = y .egress }, nets-kept (s .same) (a .pre .0 .past) y))) (λ T Q y. y) (λ T Q y. scan-flagged T Q (r .stamp) (hitOf (x .s .adj)) (r .shift) (r .trip) (r .stop) (r .offset) (x .s .context .flagged) _ (c .before .before .before .before .before .before .before .before .before .before .before .before .before .if1 .left))
 
 pub scan-trip-forward-spec : {M : Type 1} → statement M
 scan-trip-forward-spec =

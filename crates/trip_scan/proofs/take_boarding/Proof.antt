@@ -42,7 +42,7 @@ same-length-4 : tie.Need-same-length-4
 same-length-4 c = c .before .before .before .before .before .before .before .before .transfer .ensures .size
 
 returns : tie.Need-returns
-returns c = let a = c .before .before .before .before .before .before .before .before .before .before .before .before .before .before .before .before .before .before .before .before .before in let x = a .args in boarding-is (now (x .t)) (x .s .context .counts .timetable) (x .from) (x .off) (x .time) (x .trip) (x .b) _ _ _ (c .before .before .before .before .before .before .before .before .transfer .ensures) (c .before .before .before .before .before .before .before .before .before .before .before .before .before .before .before .trip .ensures .0) (c .before .before .before .before .before .before .before .before .before .before .before .before .before .before .time .ensures .0) (c .before .before .before .before .before .before .before .before .before .before .before .before .before .trip2 .ensures .0)
+returns c = let a = c .before .before .before .before .before .before .before .before .before .before .before .before .before .before .before .before .before .before .before .before .before in let x = a .args in boarding-is (now (x .tables)) (x .s .context .counts .timetable) (x .from) (x .off) (x .time) (x .trip) (x .b) _ _ _ (c .before .before .before .before .before .before .before .before .transfer .ensures) (c .before .before .before .before .before .before .before .before .before .before .before .before .before .before .before .trip .ensures .0) (c .before .before .before .before .before .before .before .before .before .before .before .before .before .before .time .ensures .0) (c .before .before .before .before .before .before .before .before .before .before .before .before .before .trip2 .ensures .0)
 
 pub take-boarding-spec : {M : Type 1} → statement M
 take-boarding-spec =

@@ -23,7 +23,7 @@ holds-target-requires : tie.Need-holds-target-requires
 holds-target-requires c κs = search needs
 
 returns : tie.Need-returns
-returns c = let a = c .before .before .before .before .before .before .before .before .before .before .before .before .before in let x = a .args in queue-none _ _ _ (a .pre .1 .1 .0) (a .pre .1 .1 .1 .0) (λ T Q y. take-skip T Q (x .s .ride .stamp) (x .v) (x .from) (transferAt (now (x .area)) (x .k)) _ _ (c .before .holds-target .ensures T Q (y .patterned) (y .target) ∙ ap (holdsTarget T Q) (c .before .before .field .ensures .0)) (c .if1 .taken))
+returns c = let a = c .before .before .before .before .before .before .before .before .before .before .before .before .before in let x = a .args in queue-none _ _ _ (a .pre .1 .1 .0) (a .pre .1 .1 .1 .0) (λ T Q y. take-skip T Q (x .s .ride .stamp) (x .v) (x .from) (transferAt (now (x .transfers)) (x .k)) _ _ (c .before .holds-target .ensures T Q (y .patterned) (y .target) ∙ ap (holdsTarget T Q) (c .before .before .field .ensures .0)) (c .if1 .taken))
 
 add-time : tie.Need-add-time
 add-time c = let r = c .before .before .before .before .before .before .before .before .before .before .before .before .before .pre .1 .0 in omega (arith, r .near, r .inside)
@@ -62,10 +62,10 @@ same-length : tie.Need-same-length
 same-length c = search needs
 
 returns-2 : tie.Need-returns-2
-returns-2 c = let a = c .before .before .before .before .before .before .before .before .before .before .before .before .before .before .before .before .before .before .before .before in let x = a .args in queue-none _ _ _ (a .pre .1 .1 .0) (a .pre .1 .1 .1 .0) (λ T Q y. take-none T Q (x .s .ride .stamp) (x .v) (x .from) (transferAt (now (x .area)) (x .k)) _ _ _ (c .before .before .before .before .before .before .before .before .holds-target .ensures T Q (y .patterned) (y .target) ∙ ap (holdsTarget T Q) (c .before .before .before .before .before .before .before .before .before .field .ensures .0)) (c .before .before .before .before .before .before .before .if1 .left) (c .enum-told .given .1) (c .before .before .resolve .ensures T Q _ (y .agree) (y .asks) (y .lines) (record { trip = refl; place = sym (c .before .before .before .before .before .field2 .ensures .0) })))
+returns-2 c = let a = c .before .before .before .before .before .before .before .before .before .before .before .before .before .before .before .before .before .before .before .before in let x = a .args in queue-none _ _ _ (a .pre .1 .1 .0) (a .pre .1 .1 .1 .0) (λ T Q y. take-none T Q (x .s .ride .stamp) (x .v) (x .from) (transferAt (now (x .transfers)) (x .k)) _ _ _ (c .before .before .before .before .before .before .before .before .holds-target .ensures T Q (y .patterned) (y .target) ∙ ap (holdsTarget T Q) (c .before .before .before .before .before .before .before .before .before .field .ensures .0)) (c .before .before .before .before .before .before .before .if1 .left) (c .enum-told .given .1) (c .before .before .resolve .ensures T Q _ (y .agree) (y .asks) (y .lines) (record { trip = refl; place = sym (c .before .before .before .before .before .field2 .ensures .0) })))
 
 take-boarding-requires : tie.Need-take-boarding-requires
-take-boarding-requires c κs = let a = c .before .before .before .before .before .before .before .before .before .before .before .before .before .before .before .before .before .before .before .before .before .before .before .before .before in let x = a .args in let n = a .pre .0 in (record { sane = n .ground .sane; stops = n .stops; trips = n .trips }, (boards-in (n .T) (n .Q) (n .door) (now (x .t)) (x .s .context .counts .timetable) (n .nets .agree .timetable) (transferAt (now (x .area)) (x .k)) _ _ _ _ _ _ (c .before .before .before .before .before .found .given .1) (c .before .before .before .before .before .before .before .resolve .ensures (n .T) (n .Q) (transferAt (now (x .area)) (x .k)) (n .nets .agree) (n .nets .asks) (n .nets .lines) (record { trip = refl; place = sym (c .before .before .before .before .before .before .before .before .before .before .field2 .ensures .0) })) (c .before .before .before .before .before .before .before .before .before .before .field2 .ensures .0), (a .pre .1 .1 .0, a .pre .1 .1 .1 .0)))
+take-boarding-requires c κs = let a = c .before .before .before .before .before .before .before .before .before .before .before .before .before .before .before .before .before .before .before .before .before .before .before .before .before in let x = a .args in let n = a .pre .0 in (record { sane = n .ground .sane; stops = n .stops; trips = n .trips }, (boards-in (n .T) (n .Q) (n .door) (now (x .tables)) (x .s .context .counts .timetable) (n .nets .agree .timetable) (transferAt (now (x .transfers)) (x .k)) _ _ _ _ _ _ (c .before .before .before .before .before .found .given .1) (c .before .before .before .before .before .before .before .resolve .ensures (n .T) (n .Q) (transferAt (now (x .transfers)) (x .k)) (n .nets .agree) (n .nets .asks) (n .nets .lines) (record { trip = refl; place = sym (c .before .before .before .before .before .before .before .before .before .before .field2 .ensures .0) })) (c .before .before .before .before .before .before .before .before .before .before .field2 .ensures .0), (a .pre .1 .1 .0, a .pre .1 .1 .1 .0)))
 
 same-length-2 : tie.Need-same-length-2
 same-length-2 c = c .before .before .before .before .before .before .before .before .take-boarding .ensures .same .size
@@ -80,7 +80,7 @@ same-length-5 : tie.Need-same-length-5
 same-length-5 c = c .before .before .before .before .before .before .before .before .take-boarding .ensures .size
 
 returns-3 : tie.Need-returns-3
-returns-3 c = let a = c .before .before .before .before .before .before .before .before .before .before .before .before .before .before .before .before .before .before .before .before .before .before .before .before .before .before .before .before .before .before .before .before .before .before in let x = a .args in queue-as _ (c .before .before .before .before .before .before .before .before .take-boarding .ensures) (λ T Q y. (y .egress, y .agree .timetable)) (λ T Q y. take-some T Q (x .s .ride .stamp) (x .v) (x .from) (transferAt (now (x .area)) (x .k)) _ _ _ _ _ _ (c .before .before .before .before .before .before .before .before .before .before .before .before .before .before .before .before .before .before .before .before .before .before .holds-target .ensures T Q (y .patterned) (y .target) ∙ ap (holdsTarget T Q) (c .before .before .before .before .before .before .before .before .before .before .before .before .before .before .before .before .before .before .before .before .before .before .before .field .ensures .0)) (c .before .before .before .before .before .before .before .before .before .before .before .before .before .before .before .before .before .before .before .before .before .if1 .left) (c .before .before .before .before .before .before .before .before .before .before .before .before .before .before .found .given .1) (c .before .before .before .before .before .before .before .before .before .before .before .before .before .before .before .before .resolve .ensures T Q (transferAt (now (x .area)) (x .k)) (y .agree) (y .asks) (y .lines) (record { trip = refl; place = sym (c .before .before .before .before .before .before .before .before .before .before .before .before .before .before .before .before .before .before .before .field2 .ensures .0) })) (c .before .before .before .before .before .before .before .before .before .before .before .before .before .before .before .before .before .before .before .field2 .ensures .0))
+returns-3 c = let a = c .before .before .before .before .before .before .before .before .before .before .before .before .before .before .before .before .before .before .before .before .before .before .before .before .before .before .before .before .before .before .before .before .before .before in let x = a .args in queue-as _ (c .before .before .before .before .before .before .before .before .take-boarding .ensures) (λ T Q y. (y .egress, y .agree .timetable)) (λ T Q y. take-some T Q (x .s .ride .stamp) (x .v) (x .from) (transferAt (now (x .transfers)) (x .k)) _ _ _ _ _ _ (c .before .before .before .before .before .before .before .before .before .before .before .before .before .before .before .before .before .before .before .before .before .before .holds-target .ensures T Q (y .patterned) (y .target) ∙ ap (holdsTarget T Q) (c .before .before .before .before .before .before .before .before .before .before .before .before .before .before .before .before .before .before .before .before .before .before .before .field .ensures .0)) (c .before .before .before .before .before .before .before .before .before .before .before .before .before .before .before .before .before .before .before .before .before .if1 .left) (c .before .before .before .before .before .before .before .before .before .before .before .before .before .before .found .given .1) (c .before .before .before .before .before .before .before .before .before .before .before .before .before .before .before .before .resolve .ensures T Q (transferAt (now (x .transfers)) (x .k)) (y .agree) (y .asks) (y .lines) (record { trip = refl; place = sym (c .before .before .before .before .before .before .before .before .before .before .before .before .before .before .before .before .before .before .before .field2 .ensures .0) })) (c .before .before .before .before .before .before .before .before .before .before .before .before .before .before .before .before .before .before .before .field2 .ensures .0))
 
 pub take-transfer-spec : {M : Type 1} → statement M
 take-transfer-spec =

@@ -14,16 +14,16 @@ use Rattle.query_types.specs.Slices.{slices}
 use Rattle.trip_scan.proofs.take_transfers.Tie as tie
 
 abbrev Inv-loop : tie.InvT-loop
-Inv-loop t rows stop-rows built bytes area s v from run work₀ labels₀ distances₀ queue₀ x₀ j₀ work labels distances queue x j =
-    Queuing (s .context .lay) (s .ride .stamp) (Nets (s .context) (slices t rows stop-rows built bytes area) work₀) (λ T Q. takeTransfers T Q (s .ride .stamp) v from (transfersAt area run))
-    (λ T Q. takeFrom T Q (s .ride .stamp) v from area (run .first) (run .length) j) (memory work₀ labels₀ distances₀ x₀) (memory work labels distances x) queue₀ queue
+Inv-loop tables delay-rows stop-rows built patterns transfers s v from run work₀ labels₀ label-distances₀ queue₀ x₀ j₀ work labels label-distances queue x j =
+    Queuing (s .context .lay) (s .ride .stamp) (Nets (s .context) (slices tables delay-rows stop-rows built patterns transfers) work₀) (λ T Q. takeTransfers T Q (s .ride .stamp) v from (transfersAt transfers run))
+    (λ T Q. takeFrom T Q (s .ride .stamp) v from transfers (run .first) (run .length) j) (memory work₀ labels₀ label-distances₀ x₀) (memory work labels label-distances x) queue₀ queue
 
 abbrev μ-loop : tie.MeasureT-loop
-μ-loop t rows stop-rows built bytes area s v from run work₀ labels₀ distances₀ queue₀ x₀ j₀ work labels distances queue x j =
+μ-loop tables delay-rows stop-rows built patterns transfers s v from run work₀ labels₀ label-distances₀ queue₀ x₀ j₀ work labels label-distances queue x j =
     run .length - j
 
 loop-holds : tie.Need-loop-holds Inv-loop μ-loop
-loop-holds c = let a = c .before .before .before .before .before .before .before .before .before .before in let x = a .args in queuing-start _ _ _ _ (a .pre .1 .1 .0) (a .pre .1 .1 .1 .0) (λ T Q y z. from-start T Q (x .s .ride .stamp) (x .v) (x .from) (now (x .area)) (x .run .first) (x .run .length) z)
+loop-holds c = let a = c .before .before .before .before .before .before .before .before .before .before in let x = a .args in queuing-start _ _ _ _ (a .pre .1 .1 .0) (a .pre .1 .1 .1 .0) (λ T Q y z. from-start T Q (x .s .ride .stamp) (x .v) (x .from) (now (x .transfers)) (x .run .first) (x .run .length) z)
 
 add-k : tie.Need-add-k Inv-loop μ-loop
 add-k c = let a = c .before .before .before .before .before .before .before .before .before .before .before .before .before .before in omega (arith, a .pre .1 .0 .near, c .before .if1 .taken)
@@ -44,7 +44,7 @@ same-length-4 : tie.Need-same-length-4 Inv-loop μ-loop
 same-length-4 c = (c .before .before .before .before .before .before .before .before .before .take-transfer .ensures .size) ∙ (c .before .before .before .before .before .before .before .before .before .before .before .before .before .before .before .before .before .loop .inv .size)
 
 returns : tie.Need-returns Inv-loop μ-loop
-returns c = let a = c .before .before .before .before .before .before .before .before .before .before .before .before .before .before .before .before .before .before .before .before .before .before .before .before .before .before .before .before in let x = a .args in queuing-over (λ T Q. takeFrom T Q (x .s .ride .stamp) (x .v) (x .from) (now (x .area)) (x .run .first) (x .run .length) (c .before .before .before .before .before .before .before .before .before .before .before .before .before .before .before .before .before .loop .j + 1)) (c .before .before .before .before .before .before .before .before .before .before .before .before .before .before .before .before .before .loop .inv) (c .before .before .before .before .before .before .before .before .before .take-transfer .ensures) (λ T Q y. nets-kept (c .before .before .before .before .before .before .before .before .before .before .before .before .before .before .before .before .before .loop .inv .same) (a .pre .0 .past) y) (λ T Q y. from-turn T Q (x .s .ride .stamp) (x .v) (x .from) (now (x .area)) (x .run .first) (x .run .length) _ _ (c .before .before .before .before .before .before .before .before .before .before .before .before .before .before .before .if1 .taken)) (c .if2 .taken) (λ T Q z. from-grows T Q (x .s .ride .stamp) (x .v) (x .from) (now (x .area)) (x .run .first) (x .run .length) _ z)
+returns c = let a = c .before .before .before .before .before .before .before .before .before .before .before .before .before .before .before .before .before .before .before .before .before .before .before .before .before .before .before .before in let x = a .args in queuing-over (λ T Q. takeFrom T Q (x .s .ride .stamp) (x .v) (x .from) (now (x .transfers)) (x .run .first) (x .run .length) (c .before .before .before .before .before .before .before .before .before .before .before .before .before .before .before .before .before .loop .j + 1)) (c .before .before .before .before .before .before .before .before .before .before .before .before .before .before .before .before .before .loop .inv) (c .before .before .before .before .before .before .before .before .before .take-transfer .ensures) (λ T Q y. nets-kept (c .before .before .before .before .before .before .before .before .before .before .before .before .before .before .before .before .before .loop .inv .same) (a .pre .0 .past) y) (λ T Q y. from-turn T Q (x .s .ride .stamp) (x .v) (x .from) (now (x .transfers)) (x .run .first) (x .run .length) _ _ (c .before .before .before .before .before .before .before .before .before .before .before .before .before .before .before .if1 .taken)) (c .if2 .taken) (λ T Q z. from-grows T Q (x .s .ride .stamp) (x .v) (x .from) (now (x .transfers)) (x .run .first) (x .run .length) _ z)
 
 add-j : tie.Need-add-j Inv-loop μ-loop
 add-j c = let a = c .before .before .before .before .before .before .before .before .before .before .before .before .before .before .before .before .before .before .before .before .before .before .before .before .before .before .before .before in omega (arith, a .pre .1 .0 .near, c .before .before .before .before .before .before .before .before .before .before .before .before .before .before .before .if1 .taken)
@@ -53,7 +53,7 @@ loop-less : tie.Need-loop-less Inv-loop μ-loop
 loop-less c = omega (arith, c .before .before .before .before .before .before .before .before .before .before .before .before .before .before .before .if1 .taken)
 
 loop-again : tie.Need-loop-again Inv-loop μ-loop
-loop-again c = let a = c .before .before .before .before .before .before .before .before .before .before .before .before .before .before .before .before .before .before .before .before .before .before .before .before .before .before .before .before in let x = a .args in queuing-turn _ (c .before .before .before .before .before .before .before .before .before .before .before .before .before .before .before .before .before .loop .inv) (c .before .before .before .before .before .before .before .before .before .take-transfer .ensures) (λ T Q y. nets-kept (c .before .before .before .before .before .before .before .before .before .before .before .before .before .before .before .before .before .loop .inv .same) (a .pre .0 .past) y) (λ T Q y. from-turn T Q (x .s .ride .stamp) (x .v) (x .from) (now (x .area)) (x .run .first) (x .run .length) _ _ (c .before .before .before .before .before .before .before .before .before .before .before .before .before .before .before .if1 .taken)) (c .if2 .left)
+loop-again c = let a = c .before .before .before .before .before .before .before .before .before .before .before .before .before .before .before .before .before .before .before .before .before .before .before .before .before .before .before .before in let x = a .args in queuing-turn _ (c .before .before .before .before .before .before .before .before .before .before .before .before .before .before .before .before .before .loop .inv) (c .before .before .before .before .before .before .before .before .before .take-transfer .ensures) (λ T Q y. nets-kept (c .before .before .before .before .before .before .before .before .before .before .before .before .before .before .before .before .before .loop .inv .same) (a .pre .0 .past) y) (λ T Q y. from-turn T Q (x .s .ride .stamp) (x .v) (x .from) (now (x .transfers)) (x .run .first) (x .run .length) _ _ (c .before .before .before .before .before .before .before .before .before .before .before .before .before .before .before .if1 .taken)) (c .if2 .left)
 
 same-length-5 : tie.Need-same-length-5 Inv-loop μ-loop
 same-length-5 c = c .before .before .loop .inv .same .size
@@ -68,7 +68,7 @@ same-length-8 : tie.Need-same-length-8 Inv-loop μ-loop
 same-length-8 c = c .before .before .loop .inv .size
 
 returns-2 : tie.Need-returns-2 Inv-loop μ-loop
-returns-2 c = let a = c .before .before .before .before .before .before .before .before .before .before .before .before .before in let x = a .args in queuing-end _ (c .before .before .loop .inv) (λ T Q y. from-end T Q (x .s .ride .stamp) (x .v) (x .from) (now (x .area)) (x .run .first) (x .run .length) _ _ (c .if1 .left))
+returns-2 c = let a = c .before .before .before .before .before .before .before .before .before .before .before .before .before in let x = a .args in queuing-end _ (c .before .before .loop .inv) (λ T Q y. from-end T Q (x .s .ride .stamp) (x .v) (x .from) (now (x .transfers)) (x .run .first) (x .run .length) _ _ (c .if1 .left))
 
 pub take-transfers-spec : {M : Type 1} → statement M
 take-transfers-spec =

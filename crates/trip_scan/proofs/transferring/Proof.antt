@@ -17,13 +17,13 @@ use Rattle.query_types.specs.Slices.{slices}
 use Rattle.trip_scan.proofs.transferring.Tie as tie
 
 abbrev Inv-loop : tie.InvT-loop
-Inv-loop t rows stop-rows built bytes area s p work₀ labels₀ distances₀ queue₀ trip adj n x₀ o₀ work labels distances queue x o =
-    (n ≡ countOf t (s .context .counts .timetable) (s .ride .trip)) × Queuing (s .context .lay) (s .ride .stamp) (Nets (s .context) (slices t rows stop-rows built bytes area) work₀)
+Inv-loop tables delay-rows stop-rows built patterns transfers s p work₀ labels₀ label-distances₀ queue₀ trip adj n x₀ o₀ work labels label-distances queue x o =
+    (n ≡ countOf tables (s .context .counts .timetable) (s .ride .trip)) × Queuing (s .context .lay) (s .ride .stamp) (Nets (s .context) (slices tables delay-rows stop-rows built patterns transfers) work₀)
     (λ T Q. transferring T Q (s .ride .stamp) (hitOf (s .adj)) (s .ride .shift) (s .ride .trip) (stopCount T (s .ride .trip) - p) p)
-    (λ T Q. transferFrom T Q (s .ride .stamp) (hitOf (s .adj)) (s .ride .shift) (s .ride .trip) n o) (memory work₀ labels₀ distances₀ x₀) (memory work labels distances x) queue₀ queue
+    (λ T Q. transferFrom T Q (s .ride .stamp) (hitOf (s .adj)) (s .ride .shift) (s .ride .trip) n o) (memory work₀ labels₀ label-distances₀ x₀) (memory work labels label-distances x) queue₀ queue
 
 abbrev μ-loop : tie.MeasureT-loop
-μ-loop t rows stop-rows built bytes area s p work₀ labels₀ distances₀ queue₀ trip adj n x₀ o₀ work labels distances queue x o =
+μ-loop tables delay-rows stop-rows built patterns transfers s p work₀ labels₀ label-distances₀ queue₀ trip adj n x₀ o₀ work labels label-distances queue x o =
     n - o
 
 cast-trip : tie.Need-cast-trip Inv-loop μ-loop
@@ -33,7 +33,7 @@ trip-requires : tie.Need-trip-requires Inv-loop μ-loop
 trip-requires c κs = let a = c .before .before .before .before .before .before .before .before .before .before .before in let x = a .args in let r = x .s .ride in let g = a .pre .1 .0 in (g .ground .sane .counts, (g .ground .sane .slices, (g .trip, omega arith)))
 
 loop-holds : tie.Need-loop-holds Inv-loop μ-loop
-loop-holds c = let a = c .before .before .before .before .before .before .before .before .before .before .before .before in let x = a .args in let r = x .s .ride in (c .trip .ensures .0, queuing-start _ _ _ _ (a .pre .1 .1 .0) (a .pre .1 .1 .1) (λ T Q y z. ap (λ (k : ℕ). transferring T Q (r .stamp) (hitOf (x .s .adj)) (r .shift) (r .trip) (k - x .p) (x .p) z) ((c .trip .ensures .0) ∙ sym (count-is T (now (x .t)) (x .s .context .counts .timetable) (r .trip) (y .agree .timetable)))))
+loop-holds c = let a = c .before .before .before .before .before .before .before .before .before .before .before .before in let x = a .args in let r = x .s .ride in (c .trip .ensures .0, queuing-start _ _ _ _ (a .pre .1 .1 .0) (a .pre .1 .1 .1) (λ T Q y z. ap (λ (k : ℕ). transferring T Q (r .stamp) (hitOf (x .s .adj)) (r .shift) (r .trip) (k - x .p) (x .p) z) ((c .trip .ensures .0) ∙ sym (count-is T (now (x .tables)) (x .s .context .counts .timetable) (r .trip) (y .agree .timetable)))))
 
 shut-requires : tie.Need-shut-requires Inv-loop μ-loop
 shut-requires c κs = let a = c .before .before .before .before .before .before .before .before .before .before .before .before .before .before in let x = a .args in let r = x .s .ride in let g = a .pre .1 .0 in let i = c .before .loop .inv in (g .ground, (g .known, record { trip = g .trip; offset = omega (arith, i .0, c .loop-test .taken) }))

@@ -12,10 +12,10 @@ use Rattle.walk_phase.proofs.first_edge.Statement.{statement}
 use Rattle.walk_phase.proofs.first_edge.Tie as tie
 
 abbrev Inv-loop : tie.InvT-loop
-Inv-loop t c x lo₀ hi₀ lo hi = Halved (λ i. leb x (edgeOf t c i 0)) (c .edges) lo hi
+Inv-loop tables c x lo₀ hi₀ lo hi = Halved (λ i. leb x (edgeOf tables c i 0)) (c .edges) lo hi
 
 abbrev μ-loop : tie.MeasureT-loop
-μ-loop t c x lo₀ hi₀ lo hi = hi - lo
+μ-loop tables c x lo₀ hi₀ lo hi = hi - lo
 
 loop-holds : tie.Need-loop-holds Inv-loop μ-loop
 loop-holds c = halved-start _ _
@@ -36,13 +36,13 @@ loop-less : tie.Need-loop-less Inv-loop μ-loop
 loop-less c = omega arith
 
 loop-again : tie.Need-loop-again Inv-loop μ-loop
-loop-again c = halved-up _ _ _ _ _ (keys-stay (λ i. edgeOf (now (c .before .before .before .before .before .args .t)) (c .before .before .before .before .before .args .c) i 0) (c .before .before .before .before .before .args .x) _ (edges-rising _ _ (c .before .before .before .before .before .pre .1))) (c .before .before .before .loop .inv) (lt-leb _ _ (rw (c .before .edge .ensures .0) at (c .if1 .taken))) (omega arith)
+loop-again c = halved-up _ _ _ _ _ (keys-stay (λ i. edgeOf (now (c .before .before .before .before .before .args .tables)) (c .before .before .before .before .before .args .c) i 0) (c .before .before .before .before .before .args .x) _ (edges-rising _ _ (c .before .before .before .before .before .pre .1))) (c .before .before .before .loop .inv) (lt-leb _ _ (rw (c .before .edge .ensures .0) at (c .if1 .taken))) (omega arith)
 
 loop-less-2 : tie.Need-loop-less-2 Inv-loop μ-loop
 loop-less-2 c = omega arith
 
 loop-again-2 : tie.Need-loop-again-2 Inv-loop μ-loop
-loop-again-2 c = halved-down _ _ _ _ _ (keys-stay (λ i. edgeOf (now (c .before .before .before .before .before .args .t)) (c .before .before .before .before .before .args .c) i 0) (c .before .before .before .before .before .args .x) _ (edges-rising _ _ (c .before .before .before .before .before .pre .1))) (c .before .before .before .loop .inv) (le-leb _ _ (rw (c .before .edge .ensures .0) at (c .if1 .left))) (omega arith) (omega arith)
+loop-again-2 c = halved-down _ _ _ _ _ (keys-stay (λ i. edgeOf (now (c .before .before .before .before .before .args .tables)) (c .before .before .before .before .before .args .c) i 0) (c .before .before .before .before .before .args .x) _ (edges-rising _ _ (c .before .before .before .before .before .pre .1))) (c .before .before .before .loop .inv) (le-leb _ _ (rw (c .before .edge .ensures .0) at (c .if1 .left))) (omega arith) (omega arith)
 
 returns : tie.Need-returns Inv-loop μ-loop
 returns c = halved-end _ _ _ _ (c .before .loop .inv) (omega arith)

@@ -14,12 +14,12 @@ use Rattle.walk_phase.proofs.walk_all.Statement.{statement}
 use Rattle.walk_phase.proofs.walk_all.Tie as tie
 
 abbrev Inv-loop : tie.InvT-loop
-Inv-loop lay ctx stamp n t distances patterns work₀ labels₀ metres₀ g₀ i₀ work labels metres g i =
-    Along lay stamp (WalksAgree lay ctx t distances patterns work₀) (λ T Q. walkAll T Q (ctx .flagged) stamp (part work₀ (lay .other) n))
-    (λ T Q. walkAll T Q (ctx .flagged) stamp (drop i (part work₀ (lay .other) n))) (memory work₀ labels₀ metres₀ g₀) (memory work labels metres g)
+Inv-loop lay ctx stamp n tables distances patterns work₀ labels₀ label-distances₀ g₀ i₀ work labels label-distances g i =
+    Along lay stamp (WalksAgree lay ctx tables distances patterns work₀) (λ T Q. walkAll T Q (ctx .flagged) stamp (part work₀ (lay .other) n))
+    (λ T Q. walkAll T Q (ctx .flagged) stamp (drop i (part work₀ (lay .other) n))) (memory work₀ labels₀ label-distances₀ g₀) (memory work labels label-distances g)
 
 abbrev μ-loop : tie.MeasureT-loop
-μ-loop lay ctx stamp n t distances patterns work₀ labels₀ metres₀ g₀ i₀ work labels metres g i =
+μ-loop lay ctx stamp n tables distances patterns work₀ labels₀ label-distances₀ g₀ i₀ work labels label-distances g i =
     n - i
 
 loop-holds : tie.Need-loop-holds Inv-loop μ-loop

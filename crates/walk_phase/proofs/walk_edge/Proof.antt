@@ -16,7 +16,7 @@ skips-requires : tie.Need-skips-requires
 skips-requires c κs = search needs
 
 returns : tie.Need-returns
-returns c = let a = c .before .before .before .before .before .before .before .before .before .before in let x = a .args in (edge-skipped (x .lay) (x .ctx) (x .stamp) (x .x) (x .v) (x .e) (now (x .t)) (now (x .distances)) (now (x .patterns)) (now (x .work)) (now (x .labels)) (now (x .metres)) (x .h) (c .before .before .edge-row .result) (c .before .before .edge-row .ensures) _ refl (a .pre .1 .1 .1 .1) _ (c .before .skips .ensures) (a .pre .0) (c .if1 .taken), falls-refl _ _)
+returns c = let a = c .before .before .before .before .before .before .before .before .before .before in let x = a .args in (edge-skipped (x .lay) (x .ctx) (x .stamp) (x .x) (x .v) (x .e) (now (x .tables)) (now (x .distances)) (now (x .patterns)) (now (x .work)) (now (x .labels)) (now (x .label-distances)) (x .h) (c .before .before .edge-row .result) (c .before .before .edge-row .ensures) _ refl (a .pre .1 .1 .1 .1) _ (c .before .skips .ensures) (a .pre .0) (c .if1 .taken), falls-refl _ _)
 
 cast-effective-duration-s : tie.Need-cast-effective-duration-s
 cast-effective-duration-s c = let a = c .before .before .before .before .before .before .before .before .before .before .before in let x = a .args in let q = row-ok _ _ (a .pre .1 .0) (c .before .before .before .edge-row .ensures) (a .pre .1 .1 .1 .1) in omega (arith, q .duration)
@@ -31,7 +31,7 @@ add-w : tie.Need-add-w
 add-w c = let a = c .before .before .before .before .before .before .before .before .before .before .before .before .before in let x = a .args in let q = row-ok _ _ (a .pre .1 .0) (c .before .before .before .before .before .edge-row .ensures) (a .pre .1 .1 .1 .1) in let k = duration-most _ (c .before .before .before .before .before .edge-row .result .pathway) (x .ctx .net .terms .wheelchair) (q .duration) in omega (arith, k, c .effective-duration-s .ensures, a .pre .1 .1 .1 .0)
 
 returns-2 : tie.Need-returns-2
-returns-2 c = let a = c .before .before .before .before .before .before .before .before .before .before .before .before .before .before .before in let x = a .args in (edge-late (x .lay) (x .ctx) (x .stamp) (x .x) (x .v) (x .e) (now (x .t)) (now (x .distances)) (now (x .patterns)) (now (x .work)) (now (x .labels)) (now (x .metres)) (x .h) (c .before .before .before .before .before .before .before .edge-row .result) (c .before .before .before .before .before .before .before .edge-row .ensures) _ (c .before .before .effective-duration-s .ensures) (a .pre .1 .1 .1 .1) _ (c .before .before .before .before .before .before .skips .ensures) (a .pre .0) (c .before .before .before .before .before .if1 .left) (c .if2 .taken), falls-refl _ _)
+returns-2 c = let a = c .before .before .before .before .before .before .before .before .before .before .before .before .before .before .before in let x = a .args in (edge-late (x .lay) (x .ctx) (x .stamp) (x .x) (x .v) (x .e) (now (x .tables)) (now (x .distances)) (now (x .patterns)) (now (x .work)) (now (x .labels)) (now (x .label-distances)) (x .h) (c .before .before .before .before .before .before .before .edge-row .result) (c .before .before .before .before .before .before .before .edge-row .ensures) _ (c .before .before .effective-duration-s .ensures) (a .pre .1 .1 .1 .1) _ (c .before .before .before .before .before .before .skips .ensures) (a .pre .0) (c .before .before .before .before .before .if1 .left) (c .if2 .taken), falls-refl _ _)
 
 cast-t20 : tie.Need-cast-t20
 cast-t20 c = let a = c .before .before .before .before .before .before .before .before .before .before .before .before .before .before .before in let x = a .args in omega (arith, a .pre .1 .1 .0, a .pre .0 .sized .sections .stops)
@@ -61,7 +61,7 @@ same-length-3 : tie.Need-same-length-3
 same-length-3 c = search needs
 
 returns-3 : tie.Need-returns-3
-returns-3 c = let a = c .before .before .before .before .before .before .before .before .before .before .before .before .before .before .before .before .before .before .before .before .before .before .before .before .before .before .before in let x = a .args in (edge-walked (x .lay) (x .ctx) (x .stamp) (x .x) (x .v) (x .e) (now (x .t)) (now (x .distances)) (now (x .patterns)) (now (x .work)) (now (x .labels)) (now (x .metres)) (x .h) (c .before .before .before .before .before .before .before .before .before .before .before .before .before .before .before .before .before .before .before .edge-row .result) (c .before .before .before .before .before .before .before .before .before .before .before .before .before .before .before .before .before .before .before .edge-row .ensures) _ (c .before .before .before .before .before .before .before .before .before .before .before .before .before .before .effective-duration-s .ensures) (a .pre .1 .1 .1 .1) _ (c .before .before .before .before .before .before .before .before .before .before .before .before .before .before .before .before .before .before .skips .ensures) (a .pre .0) (c .before .before .before .before .before .before .before .before .before .before .before .before .before .before .before .before .before .if1 .left) (c .before .before .before .before .before .before .before .before .before .before .before .before .if2 .left) (c .before .before .before .before .before .before .relax .ensures), relaxed-falls _ _ _ (c .before .before .before .before .before .before .relax .ensures))
+returns-3 c = let a = c .before .before .before .before .before .before .before .before .before .before .before .before .before .before .before .before .before .before .before .before .before .before .before .before .before .before .before in let x = a .args in (edge-walked (x .lay) (x .ctx) (x .stamp) (x .x) (x .v) (x .e) (now (x .tables)) (now (x .distances)) (now (x .patterns)) (now (x .work)) (now (x .labels)) (now (x .label-distances)) (x .h) (c .before .before .before .before .before .before .before .before .before .before .before .before .before .before .before .before .before .before .before .edge-row .result) (c .before .before .before .before .before .before .before .before .before .before .before .before .before .before .before .before .before .before .before .edge-row .ensures) _ (c .before .before .before .before .before .before .before .before .before .before .before .before .before .before .effective-duration-s .ensures) (a .pre .1 .1 .1 .1) _ (c .before .before .before .before .before .before .before .before .before .before .before .before .before .before .before .before .before .before .skips .ensures) (a .pre .0) (c .before .before .before .before .before .before .before .before .before .before .before .before .before .before .before .before .before .if1 .left) (c .before .before .before .before .before .before .before .before .before .before .before .before .if2 .left) (c .before .before .before .before .before .before .relax .ensures), relaxed-falls _ _ _ (c .before .before .before .before .before .before .relax .ensures))
 
 pub walk-edge-spec : {M : Type 1} → statement M
 walk-edge-spec =

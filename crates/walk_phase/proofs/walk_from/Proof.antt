@@ -13,12 +13,12 @@ use Rattle.query_types.specs.Slices.{slices}
 use Rattle.walk_phase.proofs.walk_from.Tie as tie
 
 abbrev Inv-loop : tie.InvT-loop
-Inv-loop lay ctx stamp x v t distances patterns work₀ labels₀ metres₀ c e₀ g₀ work labels metres e g =
-    Along lay stamp (WalksAgree lay ctx t distances patterns work₀) (λ T Q. walkFrom T Q (ctx .flagged) stamp x v (edgesFrom T x))
-    (λ T Q. walkLeft T Q (ctx .flagged) stamp x v t (ctx .counts .timetable) e) (memory work₀ labels₀ metres₀ g₀) (memory work labels metres g)
+Inv-loop lay ctx stamp x v tables distances patterns work₀ labels₀ label-distances₀ c e₀ g₀ work labels label-distances e g =
+    Along lay stamp (WalksAgree lay ctx tables distances patterns work₀) (λ T Q. walkFrom T Q (ctx .flagged) stamp x v (edgesFrom T x))
+    (λ T Q. walkLeft T Q (ctx .flagged) stamp x v tables (ctx .counts .timetable) e) (memory work₀ labels₀ label-distances₀ g₀) (memory work labels label-distances g)
 
 abbrev μ-loop : tie.MeasureT-loop
-μ-loop lay ctx stamp x v t distances patterns work₀ labels₀ metres₀ c e₀ g₀ work labels metres e g =
+μ-loop lay ctx stamp x v tables distances patterns work₀ labels₀ label-distances₀ c e₀ g₀ work labels label-distances e g =
     ctx .counts .timetable .edges - e
 
 first-edge-requires : tie.Need-first-edge-requires Inv-loop μ-loop
