@@ -39,7 +39,7 @@ pub enum Call {
     Query,
 }
 
-// words of workspace for each stop, trip and line, and beyond them (crates/asking/specs/Door.antt, workSize)
+// words of workspace for each stop, trip and line, and beyond them (crates/query_types/specs/Layout.antt, workSize)
 const WORK: [usize; 4] = [5, 8, 3, 128];
 
 pub fn work_size(n: &QuerySizes) -> usize {

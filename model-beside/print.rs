@@ -48,7 +48,7 @@ fn print_tables(n: u64, c: &Case) {
     println!("  trip = λ t. getD {} t (runs 0 0 0 0);", list(rows, |x| x));
     println!("  time = λ i. getD {} i (calls 0 0 0 0);", list(&e.stop_times, |x| format!("record {{ stop = {}; arrival = {}; departure = {}; sequence = {}; pickup = {}; «drop_off» = {} }}", x.stop_idx, x.arrival_s, x.departure_s, x.stop_sequence, x.pickup_type, x.drop_off_type)));
     println!("  window = λ i. getD {} i (window 0 0 0);", list(windows, |x| x));
-    println!("  edge = λ k. getD {} k (foot 0 0 0 0);", list(e.walk_edges.iter().enumerate(), |(i, x)| format!("record {{ from = {}; to = {}; duration = {}; pathway = {}; pattern = {} }}", x.from_stop_idx, x.to_stop_idx, x.duration_s, x.pathway_mode.unwrap_or(0), e.arc_flag_pattern[i])));
+    println!("  edge = λ k. getD {} k (footEdge 0 0 0 0);", list(e.walk_edges.iter().enumerate(), |(i, x)| format!("record {{ from = {}; to = {}; duration = {}; pathway = {}; pattern = {} }}", x.from_stop_idx, x.to_stop_idx, x.duration_s, x.pathway_mode.unwrap_or(0), e.arc_flag_pattern[i])));
     println!("  cell = λ s. getD {} s 0 }}\n", list(&e.stop_partition, number));
     println!("abbrev T{n} : Tables\nT{n} = record {{ timetable = X{n}; distance = λ k. getD {} k noDistance; lines = {}; lineOf = λ t. getD {} t 0;", list(&e.walk_edges, |x| float(x.distance_m)), e.line_trips.len(), list(&e.line_of_trip, number));
     println!("  line = λ l. let ts : List ℕ = getD {} l [] in record {{ count = length ts; trip = λ p. getD ts p 0 }};", list(&e.line_trips, |l| list(l, number)));

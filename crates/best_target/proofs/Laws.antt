@@ -7,10 +7,8 @@ use native.Mathlib.Omega.{arith}
 use native.Mathlib.Numerals.{add-one}
 use native.Mathlib.Nat.{add-zero, zero-add}
 use Rattle.loops.proofs.Count.{tab-ext}
-use lib.ListN.{length, getD, set, length-set}
+use lib.ListN.{length, getD, set, replicate, length-set}
 use lib.Seq.{getD-set-same, getD-set-other}
-use mathlib.Core.Logic.{⊎-elim}
-use Rattle.loops.proofs.Search.{split}
 use lib.Dec.{ltb, leb, eqb}
 use borrow.Author.Tests.{lt-ltb, le-ltb, eq-eqb, ne-eqb}
 use Rattle.loops.specs.Count.{tabFrom}
@@ -21,6 +19,7 @@ use Rattle.label.specs.Table.{recordOf}
 use Rattle.best_target.specs.declared.Target.{Target}
 use Rattle.best_target.specs.Totals.{targetOf, better, withStop, withReach, candidateAt, candidatesIn, ZeroFrom, CandidatePut}
 use Rattle.arc_flags.specs.Flags.{egressRowAt, egressRows}
+use Rattle.words.proofs.Filling.{zero-at}
 
 pub better-less : (b : ℕ × ℕ) (total stop : ℕ) → total < b .0 → (total, stop) ≡ better b total stop
 better-less b total stop h = sym (ap (λ (x : Bool). cond x (total, stop) b) (lt-ltb total (b .0) h))
@@ -117,8 +116,9 @@ getD-end [] i h = refl
 getD-end (x ∷ l) zero h = absurd (omega arith)
 getD-end (x ∷ l) (suc i) h = getD-end l i (omega arith)
 
-pub all-zero : (l : List ℕ) → ((k : ℕ) → k < length l → getD l k 0 ≡ 0) → ZeroFrom l 0
-all-zero l h = record { zeros = λ i u. ⊎-elim (λ (a : i < length l). h i a) (λ (a : length l ≤ i). getD-end l i a) (split i (length l)) }
+-- all zero
+pub zeroed : {out : List ℕ} (n : ℕ) → out ≡ replicate n 0 → ZeroFrom out 0
+zeroed n e = record { zeros = λ i h. ap (λ (l : List ℕ). getD l i 0) e ∙ zero-at n i }
 
 pub put-is : (old : List ℕ) (m total stop row : ℕ) → m * 3 + 3 ≤ length old → CandidatePut old (set (set (set old (m * 3) total) (m * 3 + 1) stop) (m * 3 + 2) row) m total stop row
 put-is old m total stop row h =

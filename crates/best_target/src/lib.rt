@@ -171,17 +171,6 @@ fn row_target(
     }
 }
 
-// No candidate.
-fn clear(out: &mut [u32])
-    ensures { λ _. ⌜ ZeroFrom (now (out .exit)) 0 ⌝ }
-{
-    let mut i: usize = 0;
-    while i < out.len() {
-        out[i] = 0;
-        i += 1;
-    }
-}
-
 // Candidate m.
 fn put_candidate(out: &mut [u32], m: usize, b: Target, row: u32)
     requires { ⌜ m * 3 + 3 ≤ length (now out) ⌝ }
@@ -221,7 +210,7 @@ pub fn candidates(
         ≡ candidatesFrom T Q a top (suc rounds) 0 never) ⌝
         ∗ ⌜ r ≤ 13 ⌝ }
 {
-    clear(out);
+    words::clear_words(out);
     let mut last: u32 = 4294967295;
     let mut m: usize = 0;
     let mut row: u32 = 0;

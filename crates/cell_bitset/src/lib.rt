@@ -14,9 +14,6 @@ ghost use lib.Bits.{bitOr};
 ghost use Rattle.loops.specs.Count.{tab};
 ghost use Rattle.cell_bitset.specs.CellSet.{cellLimit, emptySet, held, withCell, meets, holdsNone, byteUpto, union, sized};
 
-// The most cells that a set has room for.
-pub const CELL_LIMIT: u32 = 512;
-
 #[repr(C)]
 pub struct CellBitSet {
     // cell c is bit c % 8 of byte c / 8

@@ -23,6 +23,9 @@ use door::Answer;
 use frequency::FreqBoard;
 use stop_delay::StopDelay;
 
+// The most cells that a set has room for.
+const CELL_LIMIT: u32 = 512;
+
 // The answer of a call that takes a number of cells: 0 and the set made, or the number of the first no.
 #[repr(C)]
 pub struct CellSetAnswer {
@@ -34,7 +37,7 @@ pub struct CellSetAnswer {
 pub fn create(num_cells: u32) -> CellSetAnswer
     ensures { λ r. ⌜ r ≡ created «num_cells» ⌝ }
 {
-    if cell_bitset::CELL_LIMIT < num_cells {
+    if CELL_LIMIT < num_cells {
         return CellSetAnswer {
             code: 1,
             set: CellBitSet::new(0),
@@ -50,7 +53,7 @@ pub fn create(num_cells: u32) -> CellSetAnswer
 pub fn resize(set: CellBitSet, num_cells: u32) -> CellSetAnswer
     ensures { λ r. ⌜ r ≡ resized set «num_cells» ⌝ }
 {
-    if cell_bitset::CELL_LIMIT < num_cells {
+    if CELL_LIMIT < num_cells {
         return CellSetAnswer { code: 1, set: set };
     }
     CellSetAnswer {

@@ -16,22 +16,32 @@ use Rattle.search_state.specs.Part.{part}
 use Rattle.search_state.proofs.Part.{part-at}
 use Rattle.model.specs.Tables.{Tables, Query, fifo}
 use Rattle.model.specs.Search.{Boardings, lineAt, undelayed, prunable, dominated, pruned, passedOver}
-use Rattle.query_types.specs.Layout.{positionsAt, fifoAt, tripStampsAt, boardedOffsetsAt, boardedDeparturesAt, lineStampsAt, headsAt, linksAt, leastAt}
+use Rattle.search_state.specs.Places.{Sized}
+use Rattle.query_types.specs.Layout.{Few, positionsAt, fifoAt, tripStampsAt, boardedOffsetsAt, boardedDeparturesAt, lineStampsAt, headsAt, linksAt, leastAt}
 use Rattle.line_pruning.specs.Chain.{chainFirst, chainFrom, isIn, before, someBefore, lowered, listed, linked, stampedAs}
 use Rattle.line_pruning.specs.Books.{Agrees, Books, Inside}
 use Rattle.line_pruning.proofs.Chains.{in-here, in-there}
 use Rattle.line_pruning.proofs.Noting.{line-is, position-is}
 
--- where a chain begins
-pub first-no : (lay : Lay) (stamp : ℕ) (w : List ℕ) (l : ℕ) → (getD w (lineStampsAt lay + l) 0 ≡ stamp → ⊥) → 0 ≡ chainFirst lay stamp w l
-unfolding chainFirst
-first-no lay stamp w l n = sym (ap (λ (b : Bool). cond b (getD w (headsAt lay + l) 0) 0) (ne-eqb (getD w (lineStampsAt lay + l) 0) stamp n))
+-- so few stops, trips and lines that the sections' starts are numbers of the machine
+pub few : {lay : Lay} {n b d : ℕ} → Sized lay n b d → Few lay
+few s = record { stops = s .sections .stops; trips = s .sections .trips; lines = s .sections .lines }
 
-pub first-yes : (lay : Lay) (stamp : ℕ) (w : List ℕ) (l : ℕ) → getD w (lineStampsAt lay + l) 0 ≡ stamp → getD w (lineStampsAt lay + l + lay .lines) 0 ≡ chainFirst lay stamp w l
+-- a number of a section whose start was read
+pub read-at : (w : List ℕ) (i a b : ℕ) → a ≡ b → getD w (a + i) 0 ≡ getD w (b + i) 0
+read-at w i a b e = ap (λ (x : ℕ). getD w (x + i) 0) e
+
+-- where a chain begins
+pub first-no : (lay : Lay) (stamp : ℕ) (w : List ℕ) (l a : ℕ) → a ≡ lineStampsAt lay → (getD w (a + l) 0 ≡ stamp → ⊥) → 0 ≡ chainFirst lay stamp w l
 unfolding chainFirst
-first-yes lay stamp w l e =
-    let z : lineStampsAt lay + l + lay .lines ≡ headsAt lay + l = omega arith in
-    ap (λ (i : ℕ). getD w i 0) z ∙ sym (ap (λ (b : Bool). cond b (getD w (headsAt lay + l) 0) 0) (eq-eqb (getD w (lineStampsAt lay + l) 0) stamp e))
+first-no lay stamp w l a q n =
+    sym (ap (λ (b : Bool). cond b (getD w (headsAt lay + l) 0) 0) (ne-eqb (getD w (lineStampsAt lay + l) 0) stamp (λ e. n (read-at w l a (lineStampsAt lay) q ∙ e))))
+
+pub first-yes : (lay : Lay) (stamp : ℕ) (w : List ℕ) (l a h : ℕ) → a ≡ lineStampsAt lay → h ≡ headsAt lay → getD w (a + l) 0 ≡ stamp → getD w (h + l) 0 ≡ chainFirst lay stamp w l
+unfolding chainFirst
+first-yes lay stamp w l a h q r e =
+    read-at w l h (headsAt lay) r
+    ∙ sym (ap (λ (b : Bool). cond b (getD w (headsAt lay + l) 0) 0) (eq-eqb (getD w (lineStampsAt lay + l) 0) stamp (sym (read-at w l a (lineStampsAt lay) q) ∙ e)))
 
 -- along a chain: at place k the rest of it begins with h
 pub record Walking (lay : Lay) (w : List ℕ) (p o first k h : ℕ) : Type 0 where
@@ -147,56 +157,56 @@ module _ (T : Tables) (Q : Query) (lay : Lay) (stamp : ℕ) (w : List ℕ) (b : 
       ∙ ap (λ (x : ℕ). eqb (getD w (tripStampsAt lay + t) 0) stamp && not (ltb dep (getD w (boardedDeparturesAt lay + t) 0) || (eqb dep (getD w (boardedDeparturesAt lay + t) 0) && ltb o x)))
       (section-at (b .boardOffset) (boardedOffsetsAt lay) (bk .boardOffset)))
 
-  pub passed-no : (getD w (tripStampsAt lay + t) 0 ≡ stamp → ⊥) → false ≡ passedOver T Q stamp t o dep b
-  passed-no n =
+  pub passed-no : (a : ℕ) → a ≡ tripStampsAt lay → (getD w (a + t) 0 ≡ stamp → ⊥) → false ≡ passedOver T Q stamp t o dep b
+  passed-no a q n =
       sym (ap (λ (x : Bool). x && not (ltb dep (getD w (boardedDeparturesAt lay + t) 0) || (eqb dep (getD w (boardedDeparturesAt lay + t) 0) && ltb o (getD w (boardedOffsetsAt lay + t) 0))))
-      (ne-eqb (getD w (tripStampsAt lay + t) 0) stamp n)) ∙ passed-as
+      (ne-eqb (getD w (tripStampsAt lay + t) 0) stamp (λ e. n (read-at w t a (tripStampsAt lay) q ∙ e)))) ∙ passed-as
 
-  pub passed-yes : (tie better : Bool) → getD w (tripStampsAt lay + t) 0 ≡ stamp
-      → tie ≡ (eqb dep (getD w (tripStampsAt lay + t + lay .trips * 2) 0) && ltb o (getD w (tripStampsAt lay + t + lay .trips) 0))
-      → better ≡ (ltb dep (getD w (tripStampsAt lay + t + lay .trips * 2) 0) || tie) → not better ≡ passedOver T Q stamp t o dep b
-  passed-yes tie better e et eb =
-      let x : tripStampsAt lay + t + lay .trips ≡ boardedOffsetsAt lay + t = omega arith in
-      let y : tripStampsAt lay + t + lay .trips * 2 ≡ boardedDeparturesAt lay + t = omega arith in
-      ap not (eb ∙ ap (λ (z : Bool). ltb dep (getD w (tripStampsAt lay + t + lay .trips * 2) 0) || z) et
-      ∙ ap₂ (λ (i j : ℕ). ltb dep (getD w i 0) || (eqb dep (getD w i 0) && ltb o (getD w j 0))) y x)
+  pub passed-yes : (a i j : ℕ) → a ≡ tripStampsAt lay → i ≡ boardedOffsetsAt lay → j ≡ boardedDeparturesAt lay → (tie better : Bool) → getD w (a + t) 0 ≡ stamp
+      → tie ≡ (eqb dep (getD w (j + t) 0) && ltb o (getD w (i + t) 0)) → better ≡ (ltb dep (getD w (j + t) 0) || tie) → not better ≡ passedOver T Q stamp t o dep b
+  passed-yes a i j q x y tie better e et eb =
+      ap not (eb ∙ ap (λ (z : Bool). ltb dep (getD w (j + t) 0) || z) et
+      ∙ ap₂ (λ (d k : ℕ). ltb dep (getD w (d + t) 0) || (eqb dep (getD w (d + t) 0) && ltb o (getD w (k + t) 0))) y x)
       ∙ sym (ap (λ (z : Bool). z && not (ltb dep (getD w (boardedDeparturesAt lay + t) 0) || (eqb dep (getD w (boardedDeparturesAt lay + t) 0) && ltb o (getD w (boardedOffsetsAt lay + t) 0))))
-      (eq-eqb (getD w (tripStampsAt lay + t) 0) stamp e)) ∙ passed-as
+      (eq-eqb (getD w (tripStampsAt lay + t) 0) stamp (sym (read-at w t a (tripStampsAt lay) q) ∙ e))) ∙ passed-as
 
 -- the stores by cases
 module _ (lay : Lay) (stamp l t o : ℕ) (w : List ℕ) where
-  pub lowered-no : getD w (leastAt lay + t) 0 ≤ o → w ≡ lowered lay t o w
-  lowered-no h = sym (ap (λ (b : Bool). cond b (set w (leastAt lay + t) o) w) (le-ltb o (getD w (leastAt lay + t) 0) h))
+  pub lowered-no : (a : ℕ) → a ≡ leastAt lay → getD w (a + t) 0 ≤ o → w ≡ lowered lay t o w
+  lowered-no a q h =
+      sym (ap (λ (b : Bool). cond b (set w (leastAt lay + t) o) w) (le-ltb o (getD w (leastAt lay + t) 0) (omega (arith, h, read-at w t a (leastAt lay) q))))
 
-  pub lowered-yes : o < getD w (leastAt lay + t) 0 → set w (leastAt lay + t) o ≡ lowered lay t o w
-  lowered-yes h = sym (ap (λ (b : Bool). cond b (set w (leastAt lay + t) o) w) (lt-ltb o (getD w (leastAt lay + t) 0) h))
+  pub lowered-yes : (a : ℕ) → a ≡ leastAt lay → o < getD w (a + t) 0 → set w (a + t) o ≡ lowered lay t o w
+  lowered-yes a q h =
+      ap (λ (x : ℕ). set w (x + t) o) q
+      ∙ sym (ap (λ (b : Bool). cond b (set w (leastAt lay + t) o) w) (lt-ltb o (getD w (leastAt lay + t) 0) (omega (arith, h, read-at w t a (leastAt lay) q))))
 
   pub listed-no : (pr : Bool) → pr ≡ false → w ≡ listed lay stamp pr l t o w
   listed-no pr e = sym (ap (λ (b : Bool). listed lay stamp b l t o w) e)
 
-  pub listed-seen : (pr : Bool) (x : List ℕ) → pr ≡ true → getD w (tripStampsAt lay + t) 0 ≡ stamp → x ≡ lowered lay t o w → x ≡ listed lay stamp pr l t o w
-  listed-seen pr x e f g =
-      g ∙ sym (ap₂ (λ (a b : Bool). cond a (cond b (lowered lay t o w) (linked lay stamp l t o w)) w) e (eq-eqb (getD w (tripStampsAt lay + t) 0) stamp f))
+  pub listed-seen : (pr : Bool) (x : List ℕ) (a : ℕ) → a ≡ tripStampsAt lay → pr ≡ true → getD w (a + t) 0 ≡ stamp → x ≡ lowered lay t o w → x ≡ listed lay stamp pr l t o w
+  listed-seen pr x a q e f g =
+      g ∙ sym (ap₂ (λ (y b : Bool). cond y (cond b (lowered lay t o w) (linked lay stamp l t o w)) w) e
+      (eq-eqb (getD w (tripStampsAt lay + t) 0) stamp (sym (read-at w t a (tripStampsAt lay) q) ∙ f)))
 
-  pub listed-new : (pr : Bool) (x : List ℕ) → pr ≡ true → (getD w (tripStampsAt lay + t) 0 ≡ stamp → ⊥) → x ≡ linked lay stamp l t o w → x ≡ listed lay stamp pr l t o w
-  listed-new pr x e f g =
-      g ∙ sym (ap₂ (λ (a b : Bool). cond a (cond b (lowered lay t o w) (linked lay stamp l t o w)) w) e (ne-eqb (getD w (tripStampsAt lay + t) 0) stamp f))
+  pub listed-new : (pr : Bool) (x : List ℕ) (a : ℕ) → a ≡ tripStampsAt lay → pr ≡ true → (getD w (a + t) 0 ≡ stamp → ⊥) → x ≡ linked lay stamp l t o w → x ≡ listed lay stamp pr l t o w
+  listed-new pr x a q e f g =
+      g ∙ sym (ap₂ (λ (y b : Bool). cond y (cond b (lowered lay t o w) (linked lay stamp l t o w)) w) e
+      (ne-eqb (getD w (tripStampsAt lay + t) 0) stamp (λ z. f (read-at w t a (tripStampsAt lay) q ∙ z))))
 
--- a sum of places
-pub linked-as : (lay : Lay) (stamp l t o f : ℕ) (w : List ℕ) → f ≡ chainFirst lay stamp w l
-    → set (set (set (set w (linksAt lay + t) f) (linksAt lay + t + lay .trips) o) (lineStampsAt lay + l + lay .lines) (t + 1)) (lineStampsAt lay + l) stamp ≡ linked lay stamp l t o w
-linked-as lay stamp l t o f w e =
-    let a : linksAt lay + t + lay .trips ≡ leastAt lay + t = omega arith in
-    let b : lineStampsAt lay + l + lay .lines ≡ headsAt lay + l = omega arith in
-    ap (λ (x : ℕ). set (set (set (set w (linksAt lay + t) x) (linksAt lay + t + lay .trips) o) (lineStampsAt lay + l + lay .lines) (t + 1)) (lineStampsAt lay + l) stamp) e
-    ∙ ap₂ (λ (x y : ℕ). set (set (set (set w (linksAt lay + t) (chainFirst lay stamp w l)) x o) y (t + 1)) (lineStampsAt lay + l) stamp) a b
+-- the stores of a function, at the starts that it read
+pub linked-as : (lay : Lay) (stamp l t o f a h n m : ℕ) (w : List ℕ) → a ≡ lineStampsAt lay → h ≡ headsAt lay → n ≡ linksAt lay → m ≡ leastAt lay → f ≡ chainFirst lay stamp w l
+    → set (set (set (set w (n + t) f) (m + t) o) (h + l) (t + 1)) (a + l) stamp ≡ linked lay stamp l t o w
+linked-as lay stamp l t o f a h n m w ea eh en em ef =
+    ap₂ (λ (x y : ℕ). set (set (set (set w (x + t) y) (m + t) o) (h + l) (t + 1)) (a + l) stamp) en ef
+    ∙ ap₂ (λ (x y : ℕ). set (set (set (set w (linksAt lay + t) (chainFirst lay stamp w l)) (x + t) o) (y + l) (t + 1)) (a + l) stamp) em eh
+    ∙ ap (λ (x : ℕ). set (set (set (set w (linksAt lay + t) (chainFirst lay stamp w l)) (leastAt lay + t) o) (headsAt lay + l) (t + 1)) (x + l) stamp) ea
 
-pub stamped-as : (lay : Lay) (stamp t o dep : ℕ) (w : List ℕ)
-    → set (set (set w (tripStampsAt lay + t) stamp) (tripStampsAt lay + t + lay .trips) o) (tripStampsAt lay + t + lay .trips + lay .trips) dep ≡ stampedAs lay stamp t o dep w
-stamped-as lay stamp t o dep w =
-    let a : tripStampsAt lay + t + lay .trips ≡ boardedOffsetsAt lay + t = omega arith in
-    let b : tripStampsAt lay + t + lay .trips + lay .trips ≡ boardedDeparturesAt lay + t = omega arith in
-    ap₂ (λ (x y : ℕ). set (set (set w (tripStampsAt lay + t) stamp) x o) y dep) a b
+pub stamped-as : (lay : Lay) (stamp t o dep a i j : ℕ) (w : List ℕ) → a ≡ tripStampsAt lay → i ≡ boardedOffsetsAt lay → j ≡ boardedDeparturesAt lay
+    → set (set (set w (a + t) stamp) (i + t) o) (j + t) dep ≡ stampedAs lay stamp t o dep w
+stamped-as lay stamp t o dep a i j w ea ei ej =
+    ap (λ (x : ℕ). set (set (set w (x + t) stamp) (i + t) o) (j + t) dep) ea
+    ∙ ap₂ (λ (x y : ℕ). set (set (set w (tripStampsAt lay + t) stamp) (x + t) o) (y + t) dep) ei ej
 
 pub never : false ≡ true → ⊥
 never e = let z : one false ≡ one true = ap one e in omega (arith, z)

@@ -41,7 +41,7 @@ fn prunable(lay: Lay, built: &[u32], adj: Found, trip: usize, work: &[u32]) -> b
     if lay.lines <= line {
         return false;
     }
-    let at = lay.stops * 5 + lay.trips * 2 + 128 + line;
+    let at = query_types::fifo_at(lay) + line;
     door::both(undelayed(adj), words::field(work, at) == 1)
 }
 
@@ -50,11 +50,11 @@ fn first_of(lay: Lay, stamp: u32, line: usize, work: &[u32]) -> u32
     requires { ⌜ Sized lay (length (now work)) (lay .stops * 104) (lay .stops * 13) ⌝ ∗ ⌜ line < lay .lines ⌝ }
     ensures { λ r. ⌜ r ≡ chainFirst lay stamp (now (work .entry)) line ⌝ }
 {
-    let at = lay.stops * 5 + lay.trips * 6 + lay.lines + 128 + line;
+    let at = query_types::line_stamps_at(lay) + line;
     if work[at] != stamp {
         return 0;
     }
-    work[at + lay.lines]
+    work[query_types::heads_at(lay) + line]
 }
 
 // Does a trip stand before position `p`, and was it boarded at this offset or before?
@@ -62,11 +62,8 @@ fn is_before(lay: Lay, trip: usize, p: usize, off: usize, work: &[u32]) -> bool
     requires { ⌜ Sized lay (length (now work)) (lay .stops * 104) (lay .stops * 13) ⌝ ∗ ⌜ trip < lay .trips ⌝ }
     ensures { λ r. ⌜ r ≡ before lay (now (work .entry)) p off trip ⌝ }
 {
-    let place = words::field(work, lay.stops * 5 + lay.trips + 128 + trip);
-    let least = words::field(
-        work,
-        lay.stops * 5 + lay.trips * 7 + lay.lines * 3 + 128 + trip,
-    );
+    let place = words::field(work, query_types::positions_at(lay) + trip);
+    let least = words::field(work, query_types::least_at(lay) + trip);
     door::both(place < p, least <= off)
 }
 
@@ -75,7 +72,7 @@ fn some_before(lay: Lay, first: usize, p: usize, off: usize, work: &[u32]) -> bo
     requires { ⌜ Sized lay (length (now work)) (lay .stops * 104) (lay .stops * 13) ⌝ ∗ ⌜ Inside lay (chainFrom lay (now work) (lay .trips) first) ⌝ }
     ensures { λ r. ⌜ r ≡ someBefore lay (now (work .entry)) p off (chainFrom lay (now (work .entry)) (lay .trips) first) ⌝ }
 {
-    let links = lay.stops * 5 + lay.trips * 6 + lay.lines * 3 + 128;
+    let links = query_types::links_at(lay);
     let mut h = first;
     let mut k: usize = 0;
     while k < lay.trips {
@@ -100,7 +97,7 @@ fn dominated(lay: Lay, stamp: u32, line: usize, trip: usize, off: usize, work: &
     ensures { λ r. ⌜ ((T : Tables) (Q : Query) (c : Counts) (built : List ℕ) (b : Boardings) → Agrees T lay c built (now (work .entry))
         → Books lay stamp T Q (now (work .entry)) b → line ≡ lineAt T trip → r ≡ isDominated T Q trip off (b .lineBoards)) ⌝ }
 {
-    let p = words::field(work, lay.stops * 5 + lay.trips + 128 + trip);
+    let p = words::field(work, query_types::positions_at(lay) + trip);
     let first = first_of(lay, stamp, line, work) as usize;
     some_before(lay, first, p, off, work)
 }
@@ -135,12 +132,12 @@ pub fn passed_over(lay: Lay, stamp: u32, trip: usize, off: u32, dep: u32, work: 
     ensures { λ r. ⌜ ((T : Tables) (Q : Query) (b : Boardings) → Books lay stamp T Q (now (work .entry)) b → r
         ≡ passedOver T Q stamp trip off dep b) ⌝ }
 {
-    let at = lay.stops * 5 + lay.trips * 3 + lay.lines + 128 + trip;
+    let at = query_types::trip_stamps_at(lay) + trip;
     if work[at] != stamp {
         return false;
     }
-    let o = work[at + lay.trips];
-    let d = work[at + lay.trips * 2];
+    let o = work[query_types::boarded_offsets_at(lay) + trip];
+    let d = work[query_types::boarded_departures_at(lay) + trip];
     let tie = door::both(dep == d, off < o);
     !door::either(dep < d, tie)
 }
@@ -150,10 +147,10 @@ fn link(lay: Lay, stamp: u32, line: usize, trip: usize, off: u32, work: &mut [u3
     requires { ⌜ Sized lay (length (now work)) (lay .stops * 104) (lay .stops * 13) ⌝ ∗ ⌜ line < lay .lines ⌝ ∗ ⌜ trip < lay .trips ⌝ }
     ensures { λ _. ⌜ now (work .exit) ≡ linked lay stamp line trip off (now (work .entry)) ⌝ }
 {
-    let at = lay.stops * 5 + lay.trips * 6 + lay.lines + 128 + line;
-    let head = at + lay.lines;
-    let next = lay.stops * 5 + lay.trips * 6 + lay.lines * 3 + 128 + trip;
-    let least = next + lay.trips;
+    let at = query_types::line_stamps_at(lay) + line;
+    let head = query_types::heads_at(lay) + line;
+    let next = query_types::links_at(lay) + trip;
+    let least = query_types::least_at(lay) + trip;
     let first = first_of(lay, stamp, line, work);
     work[next] = first;
     work[least] = off;
@@ -166,7 +163,7 @@ fn lower(lay: Lay, trip: usize, off: u32, work: &mut [u32])
     requires { ⌜ Sized lay (length (now work)) (lay .stops * 104) (lay .stops * 13) ⌝ ∗ ⌜ trip < lay .trips ⌝ }
     ensures { λ _. ⌜ now (work .exit) ≡ lowered lay trip off (now (work .entry)) ⌝ }
 {
-    let least = lay.stops * 5 + lay.trips * 7 + lay.lines * 3 + 128 + trip;
+    let least = query_types::least_at(lay) + trip;
     if work[least] <= off {
         return;
     }
@@ -183,7 +180,7 @@ fn list(lay: Lay, stamp: u32, prunes: bool, line: usize, trip: usize, off: u32, 
     if !prunes {
         return;
     }
-    let at = lay.stops * 5 + lay.trips * 3 + lay.lines + 128 + trip;
+    let at = query_types::trip_stamps_at(lay) + trip;
     if work[at] == stamp {
         lower(lay, trip, off, work);
         return;
@@ -196,9 +193,9 @@ fn stamp_trip(lay: Lay, stamp: u32, trip: usize, off: u32, dep: u32, work: &mut 
     requires { ⌜ Sized lay (length (now work)) (lay .stops * 104) (lay .stops * 13) ⌝ ∗ ⌜ trip < lay .trips ⌝ }
     ensures { λ _. ⌜ now (work .exit) ≡ stampedAs lay stamp trip off dep (now (work .entry)) ⌝ }
 {
-    let at = lay.stops * 5 + lay.trips * 3 + lay.lines + 128 + trip;
-    let offset = at + lay.trips;
-    let departure = offset + lay.trips;
+    let at = query_types::trip_stamps_at(lay) + trip;
+    let offset = query_types::boarded_offsets_at(lay) + trip;
+    let departure = query_types::boarded_departures_at(lay) + trip;
     work[at] = stamp;
     work[offset] = off;
     work[departure] = dep;

@@ -98,7 +98,7 @@ fn search(
         (now (query .entry)))) (length (now («queue_a» .entry)) / 4) (layOf n)
         (memory (now (work .exit)) (now (labels .exit)) (now («label_distances» .exit)) h) ⌝ }
 {
-    let lay = search_begin::lay_of(n);
+    let lay = query_types::lay_for(n.timetable, n.lines);
     let net = search_begin::net_of(n, tables, built, distances, query);
     let off = words::field(query, 6) == 1;
     let flagged = in_use(rust, n, tables, built, transfers, patterns, net, off);

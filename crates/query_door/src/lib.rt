@@ -35,7 +35,7 @@ pub fn work_size(n: QueryCounts) -> usize
     requires { ⌜ Limits n ⌝ }
     ensures { λ r. ⌜ r ≡ workSizeOf n ⌝ }
 {
-    n.timetable.stops * 5 + n.timetable.trips * 8 + n.lines * 3 + 128
+    query_types::work_size(query_types::lay_for(n.timetable, n.lines))
 }
 
 // Question 1.

@@ -1,6 +1,7 @@
 -- The workspace of a query, section after section, and how long it is. Definitions only.
 -- Nothing else says where a section begins: the code reads these starts by functions of the same names, and the call `work_size` answers the size.
 use Prim.Native.Nat.{ℕ, _+_, _*_, _≤_}
+use Rattle.tables.specs.declared.Counts.{Counts}
 use Rattle.query_types.specs.declared.Lay.{Lay}
 use Rattle.query_types.specs.declared.QueryCounts.{QueryCounts}
 
@@ -59,16 +60,19 @@ leastAt lay = lay .stops * 5 + lay .trips * 7 + lay .lines * 3 + 128
 abbrev pub workSize : Lay → ℕ
 workSize lay = lay .stops * 5 + lay .trips * 8 + lay .lines * 3 + 128
 
--- the layout for these counts: the first list is filled by a round's rides, the other by its walks
-abbrev pub layOf : QueryCounts → Lay
-layOf n =
+-- the layout for a timetable of these counts and so many lines: the first list is filled by a round's rides, the other by its walks
+abbrev pub layFor : Counts → ℕ → Lay
+layFor c lines =
     record {
-      stops = n .timetable .stops;
-      trips = n .timetable .trips;
-      lines = n .lines;
-      list = n .timetable .stops * 2 + n .timetable .trips;
-      other = n .timetable .stops * 3 + n .timetable .trips + 64;
+      stops = c .stops;
+      trips = c .trips;
+      lines = lines;
+      list = c .stops * 2 + c .trips;
+      other = c .stops * 3 + c .trips + 64;
     }
+
+abbrev pub layOf : QueryCounts → Lay
+layOf n = layFor (n .timetable) (n .lines)
 
 abbrev pub workSizeOf : QueryCounts → ℕ
 workSizeOf n = workSize (layOf n)

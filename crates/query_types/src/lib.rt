@@ -4,8 +4,9 @@
 // Proves: each section begins where Layout says.
 // Assumes nothing.
 ghost use mathlib.Core.Path.{_≡_};
+ghost use Prim.Native.Nat.{_≤_};
 ghost use Rattle.query_types.specs.Layout.{reachAt, restAt, positionsAt, fifoAt, eventsAt, tripStampsAt, boardedOffsetsAt};
-ghost use Rattle.query_types.specs.Layout.{boardedDeparturesAt, lineStampsAt, headsAt, linksAt, leastAt, workSize, Few};
+ghost use Rattle.query_types.specs.Layout.{boardedDeparturesAt, lineStampsAt, headsAt, linksAt, leastAt, workSize, layFor, Few};
 use cell_bitset::CellBitSet;
 use delay_rows::Found;
 use tables::Counts;
@@ -134,6 +135,20 @@ pub struct StopScan {
     pub stop: u32,
     pub after: u32,
     pub has_freq: bool,
+}
+
+// The layout for a timetable of these counts and so many lines.
+pub fn lay_for(c: Counts, lines: usize) -> Lay
+    requires { ⌜ (c .stops ≤ 4096) × (c .trips ≤ 4096) ⌝ }
+    ensures { λ r. ⌜ r ≡ layFor c lines ⌝ }
+{
+    Lay {
+        stops: c.stops,
+        trips: c.trips,
+        lines: lines,
+        list: c.stops * 2 + c.trips,
+        other: c.stops * 3 + c.trips + 64,
+    }
 }
 
 // Where each trip's segment reach begins.

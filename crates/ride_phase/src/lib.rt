@@ -162,9 +162,7 @@ fn marked(n: QueryCounts, built: &[u32], x: usize) -> bool
     requires { ⌜ Limits n ⌝ ∗ ⌜ marksAt n + n .timetable .stops ≤ length (now built) ⌝ ∗ ⌜ x < n .timetable .stops ⌝ }
     ensures { λ r. ⌜ r ≡ eqb (getD (now (built .entry)) (marksAt n + x) 0) 1 ⌝ }
 {
-    let c = n.timetable;
-    let at = c.trips + n.lines * 2 + n.entries + c.stops * 2 + n.departures * 2 + x;
-    words::field(built, at) == 1
+    words::field(built, query_input::marks_at(n) + x) == 1
 }
 
 // The earliest scheduled departure that a delay may bring to `after` or later.

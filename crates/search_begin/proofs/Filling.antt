@@ -23,6 +23,7 @@ use Rattle.words.specs.Filled.{Filled}
 use Rattle.search_begin.specs.Fill.{newHead, Fresh, egressRowFrom, egressOf, EgressRows, Egressed}
 use Rattle.words.proofs.Filling.{same-or}
 use Rattle.search_state.proofs.Part.{tab-one, part-same}
+use Rattle.words.proofs.Filling.{zero-at}
 
 -- zeros are empty labels
 no-label : (l : List ℕ) (m : List Float) (k : ℕ) → getD l (8 * k) 0 ≡ 0 → loaded l m k ≡ Empty
@@ -38,11 +39,6 @@ no-labels l m n e =
 none-of : (w : List ℕ) (a : ℕ) → part w a 0 ≡ []
 unfolding part
 none-of w a = refl
-
-zero-at : (n i : ℕ) → getD (replicate {A = ℕ} n 0) i 0 ≡ 0
-zero-at zero i = refl
-zero-at (suc n) zero = refl
-zero-at (suc n) (suc i) = zero-at n i
 
 -- and each is the row of an empty label
 pub no-row : (l : List ℕ) (m : List Float) (n : ℕ) → l ≡ replicate (n * 8) 0 → m ≡ replicate n noDistance → Written n l m

@@ -50,7 +50,7 @@ fn reset(lay: Lay, work: &mut [u32], labels: &mut [u32], label_distances: &mut [
         ∗ ⌜ now («label_distances» .exit) ≡ replicate (length (now («label_distances» .entry))) noDistance ⌝ }
 {
     zero_all(work, labels, label_distances);
-    let reach = lay.stops * 2;
+    let reach = query_types::reach_at(lay);
     words::fill(work, 0, lay.stops, 4294967295);
     words::fill(work, reach, reach + lay.trips, 4294967295);
     Head {
@@ -70,7 +70,7 @@ fn put_egress(lay: Lay, query: &[u32], at: usize, work: &mut [u32])
     ensures { λ _. ⌜ now (work .exit) ≡ set (now (work .entry)) (restAt lay + getD (now (query .entry)) at 0)
         (getD (now (query .entry)) (at + 1) 0 + 1) ⌝ }
 {
-    let i = lay.stops * 4 + lay.trips + 128 + words::field(query, at);
+    let i = query_types::rest_at(lay) + words::field(query, at);
     let d = query[at + 1];
     work[i] = d + 1;
 }
@@ -92,7 +92,7 @@ fn fill_egress(lay: Lay, query: &[u32], first: usize, n: usize, work: &mut [u32]
     requires { ⌜ WorkSized lay (length (now work)) ⌝ ∗ ⌜ EgressRows lay (now query) first n ⌝ }
     ensures { λ _. ⌜ Egressed (egressOf (now (query .entry)) first n) lay (now (work .entry)) (now (work .exit)) ⌝ }
 {
-    let rest = lay.stops * 4 + lay.trips + 128;
+    let rest = query_types::rest_at(lay);
     words::clear_part(work, rest, rest + lay.stops);
     put_egresses(lay, query, first, n, work);
 }
@@ -101,20 +101,6 @@ fn fill_egress(lay: Lay, query: &[u32], first: usize, n: usize, work: &mut [u32]
 const MARGIN_CAP: u32 = 21600;
 
 const LINE_SCAN: u32 = 64;
-
-// Where the sections of the working numbers begin.
-pub fn lay_of(n: QueryCounts) -> Lay
-    requires { ⌜ Limits n ⌝ }
-    ensures { λ r. ⌜ r ≡ layOf n ⌝ }
-{
-    Lay {
-        stops: n.timetable.stops,
-        trips: n.timetable.trips,
-        lines: n.lines,
-        list: n.timetable.stops * 2 + n.timetable.trips,
-        other: n.timetable.stops * 3 + n.timetable.trips + 64,
-    }
-}
 
 // The same with the two lists exchanged.
 fn turn(lay: Lay) -> Lay
@@ -160,7 +146,7 @@ pub fn net_of(
         patterns: n.patterns,
         target,
         runs: query_input::transfer_runs_at(n),
-        events: c.stops * 5 + c.trips * 2 + n.lines + 128,
+        events: query_types::events_at(query_types::lay_for(c, n.lines)),
     }
 }
 
@@ -171,7 +157,7 @@ fn put_positions(n: QueryCounts, built: &[u32], lay: Lay, work: &mut [u32])
         (positionIn (lineTripsIn (lineRuns (now (built .entry)) n) (lineEntries (now (built .entry)) n)) (n .lines)) (now (work .entry))
         (now (work .exit)) ⌝ }
 {
-    let a = lay.stops * 5 + lay.trips + 128;
+    let a = query_types::positions_at(lay);
     let b = a + lay.trips;
     let runs = query_input::line_runs(built, n);
     let entries = query_input::line_entries(built, n);
@@ -185,7 +171,7 @@ fn put_fifo(n: QueryCounts, tables: &[u32], built: &[u32], lay: Lay, work: &mut 
         (fifoOf (timetable (now (tables .entry)) (n .timetable)) (lineRuns (now (built .entry)) n) (lineEntries (now (built .entry)) n))
         (now (work .entry)) (now (work .exit)) ⌝ }
 {
-    let a = lay.stops * 5 + lay.trips * 2 + 128;
+    let a = query_types::fifo_at(lay);
     let b = a + lay.lines;
     let runs = query_input::line_runs(built, n);
     let entries = query_input::line_entries(built, n);
@@ -199,7 +185,7 @@ fn put_events(n: QueryCounts, tables: &[u32], lay: Lay, work: &mut [u32])
         (now (work .exit)) ⌝ }
 {
     let c = n.timetable;
-    let a = lay.stops * 5 + lay.trips * 2 + lay.lines + 128;
+    let a = query_types::events_at(lay);
     let trips = lay.trips;
     let mut before: usize = 0;
     let mut i: usize = 0;

@@ -12,6 +12,9 @@ use lib.Seq.{length-take-le, getD-take, getD-drop, drop-set-add, drop-set-lt, ta
 use borrow.Author.Tests.{eq-eqb, ne-eqb}
 use Rattle.loops.proofs.Count.{one-le}
 use Rattle.words.proofs.Filling.{all-same}
+use Rattle.query_types.specs.declared.Lay.{Lay}
+use Rattle.query_types.specs.Layout.{Few}
+use Rattle.search_state.specs.Places.{WorkSized}
 
 pub tab-one : {A : Type 0} (v : A) (i n : ℕ) → tabFrom (λ k. v) i n ≡ replicate n v
 unfolding tabFrom
@@ -79,3 +82,7 @@ unfolding tally
 tally-set x [] s h n = absurd (omega arith)
 tally-set x (y ∷ l) zero h n = rw (ne-eqb y x n, eq-eqb x x refl) (omega arith)
 tally-set x (y ∷ l) (suc s) h n = omega (arith, tally-set x l s (omega arith) n)
+
+-- the counts of a workspace that is so long are few
+pub few-of : {lay : Lay} {n : ℕ} → WorkSized lay n → Few lay
+few-of s = record { stops = s .stops; trips = s .trips; lines = s .lines }

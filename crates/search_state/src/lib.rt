@@ -82,7 +82,7 @@ fn improve(
         (memory (now (work .entry)) (now (labels .entry)) (now («label_distances» .entry)) h)
         (memory (now (work .exit)) (now (labels .exit)) (now («label_distances» .exit)) x) ⌝ }
 {
-    let at = lay.stops * 4 + lay.trips + 128 + s;
+    let at = query_types::rest_at(lay) + s;
     let best = best_after(work[at], v, h.best);
     let row = 13 * s + (stamp - 1) as usize;
     let count = mark(lay, stamp, s, v, work, h.count);
@@ -149,7 +149,7 @@ fn enqueue(lay: Lay, plain: bool, seg: Seg, work: &mut [u32], queue: &mut [u32],
         → QueueStep lay stamp (λ T Q. noWindows T (seg .trip) ≡ plain) (λ T Q. enqueued T Q (seg .trip) (seg .offset) (seg .stop) (seg .shift))
         (memory (now (work .entry)) l m h) (memory (now (work .exit)) l m x) (now (queue .entry)) (now (queue .exit))) ⌝ }
 {
-    let at = lay.stops * 2 + seg.trip as usize;
+    let at = query_types::reach_at(lay) + seg.trip as usize;
     let offset = seg.offset;
     let queued = h.queued;
     if door::both(plain, work[at] <= offset) {
@@ -201,7 +201,7 @@ pub fn set_out(
     let v = start + duration;
     let s = stop as usize;
     let count = h.count;
-    let at = lay.stops * 4 + lay.trips + 128 + s;
+    let at = query_types::rest_at(lay) + s;
     let best = best_after(work[at], v, h.best);
     if work[s] <= v {
         return Head {

@@ -19,6 +19,7 @@ use Rattle.target_resolving.specs.declared.Tried.{Tried}
 use Rattle.target_resolving.specs.declared.Tried.the-variants.{Next, Stop, Take}
 use Rattle.target_resolving.specs.declared.Resolved.{Resolved}
 use Rattle.target_resolving.specs.declared.Resolved.the-variants.{Unresolved, Trip}
+use Rattle.query_types.specs.Layout.{positionsAt, fifoAt, layFor}
 use Rattle.query_types.specs.declared.Lined.{Lined}
 
 -- k places of a line from p on stand in a slice from `from` on
@@ -62,7 +63,7 @@ pub record Names (e : Transfer) (target off : ℕ) : Type 0 where
 -- the positions and the FIFO flags
 abbrev pub linedOf : Counts → ℕ → Lined
 linedOf c lines =
-    record { lines = lines; runs = c .trips; entries = c .trips + lines * 2; positions = c .stops * 5 + c .trips + 128; fifo = c .stops * 5 + c .trips * 2 + 128 }
+    record { lines = lines; runs = c .trips; entries = c .trips + lines * 2; positions = positionsAt (layFor c lines); fifo = fifoAt (layFor c lines) }
 
 -- the run of line l: its first entry, how many
 abbrev pub lineRunFirst : Lined → List ℕ → ℕ → ℕ

@@ -347,11 +347,14 @@ pub fn line_tables(c: Counts, lines: usize) -> Lined
     requires { ⌜ CountsOk c ⌝ ∗ ⌜ lines ≤ 4096 ⌝ }
     ensures { λ r. ⌜ r ≡ linedOf c lines ⌝ }
 {
+    let lay = query_types::lay_for(c, lines);
+    let positions = query_types::positions_at(lay);
+    let fifo = query_types::fifo_at(lay);
     Lined {
-        lines: lines,
+        lines,
         runs: c.trips,
         entries: c.trips + lines * 2,
-        positions: c.stops * 5 + c.trips + 128,
-        fifo: c.stops * 5 + c.trips * 2 + 128,
+        positions,
+        fifo,
     }
 }

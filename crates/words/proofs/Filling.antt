@@ -47,3 +47,9 @@ pub cleared : (s : List ℕ) (n i : ℕ) → ((k : ℕ) → k < i → getD s k 0
 cleared s n i h u e =
     let z : ℕ = 0 in
     ext-getD 0 s (replicate n z) (e ∙ sym (length-replicate n z)) (λ k x. h k (omega arith) ∙ sym (getD-replicate n k z 0 (omega arith)))
+
+-- a number of a list of zeros
+pub zero-at : (n i : ℕ) → getD (replicate {A = ℕ} n 0) i 0 ≡ 0
+zero-at zero i = refl
+zero-at (suc n) zero = refl
+zero-at (suc n) (suc i) = zero-at n i

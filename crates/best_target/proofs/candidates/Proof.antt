@@ -1,5 +1,5 @@
 use Rattle.loops.specs.Count.{tabFrom}
-use Rattle.best_target.proofs.Laws.{rowsAhead, rows-begin, rows-put, rows-pass, rows-take, rows-end, put-zeros}
+use Rattle.best_target.proofs.Laws.{rowsAhead, rows-begin, rows-put, rows-pass, rows-take, rows-end, put-zeros, zeroed}
 use Rattle.best_target.specs.Totals.{Labelled, candidatesIn, ZeroFrom}
 use Rattle.arc_flags.specs.Flags.{egressRows}
 use Rattle.model.specs.Search.{Arrivals, candidatesFrom}
@@ -23,12 +23,12 @@ Inv-loop labels label-distances stops egress top slack rounds out₀ last₀ m�
 abbrev μ-loop : tie.MeasureT-loop
 μ-loop labels label-distances stops egress top slack rounds out₀ last₀ m₀ row₀ out last m row = rounds + 1 - row
 
-clear-requires : tie.Need-clear-requires Inv-loop μ-loop
-clear-requires c κs = search needs
+clear-words-requires : tie.Need-clear-words-requires Inv-loop μ-loop
+clear-words-requires c κs = search needs
 
 loop-holds : tie.Need-loop-holds Inv-loop μ-loop
 unfolding tabFrom
-loop-holds c = let s = c .before .before .before .before .before .before .before .before in (omega arith, omega arith, omega arith, c .before .before .clear .ensures, λ T Q a g e d. rows-begin T Q a (s .args .top) (suc (s .args .rounds)) never)
+loop-holds c = let s = c .before .before .before .before .before .before .before .before in (omega arith, omega arith, omega arith, zeroed (length (now (s .args .out))) (c .before .before .clear-words .ensures), λ T Q a g e d. rows-begin T Q a (s .args .top) (suc (s .args .rounds)) never)
 
 row-target-requires : tie.Need-row-target-requires Inv-loop μ-loop
 row-target-requires c κs = let s = c .before .before .before .before .before .before .before .before .before .before in (s .pre .0, (s .pre .1 .0, omega (arith, c .loop-test .taken, s .pre .1 .1 .0)))
@@ -72,7 +72,7 @@ candidates-spec =
     (tie.spec
     Inv-loop
     μ-loop
-    clear-requires
+    clear-words-requires
     loop-holds
     row-target-requires
     taken-requires

@@ -1,52 +1,31 @@
 use denote.Ref.{now}
 use native.Mathlib.Omega.{arith}
 use lib.ListN.{length-set}
-use Rattle.line_pruning.proofs.Reading.{linked-as}
+use Rattle.line_pruning.proofs.Reading.{few, linked-as}
 use borrow.Author.Needs.{needs}
 use Rattle.line_pruning.proofs.link.Statement.{statement}
 use Rattle.line_pruning.proofs.link.Tie as tie
 
-mul-at : tie.Need-mul-at
-mul-at c = search needs
-
-mul-at-2 : tie.Need-mul-at-2
-mul-at-2 c = search needs
+line-stamps-at-requires : tie.Need-line-stamps-at-requires
+line-stamps-at-requires c κs = few (c .before .pre .0)
 
 add-at : tie.Need-add-at
 add-at c = search needs
 
-add-at-2 : tie.Need-add-at-2
-add-at-2 c = search needs
-
-add-at-3 : tie.Need-add-at-3
-add-at-3 c = search needs
-
-add-at-4 : tie.Need-add-at-4
-add-at-4 c = search needs
+heads-at-requires : tie.Need-heads-at-requires
+heads-at-requires c κs = few (c .before .before .pre .0)
 
 add-head : tie.Need-add-head
 add-head c = search needs
 
-mul-next : tie.Need-mul-next
-mul-next c = search needs
-
-mul-next-2 : tie.Need-mul-next-2
-mul-next-2 c = search needs
+links-at-requires : tie.Need-links-at-requires
+links-at-requires c κs = few (c .before .before .before .pre .0)
 
 add-next : tie.Need-add-next
 add-next c = search needs
 
-mul-next-3 : tie.Need-mul-next-3
-mul-next-3 c = search needs
-
-add-next-2 : tie.Need-add-next-2
-add-next-2 c = search needs
-
-add-next-3 : tie.Need-add-next-3
-add-next-3 c = search needs
-
-add-next-4 : tie.Need-add-next-4
-add-next-4 c = search needs
+least-at-requires : tie.Need-least-at-requires
+least-at-requires c κs = few (c .before .before .before .before .pre .0)
 
 add-least : tie.Need-add-least
 add-least c = search needs
@@ -64,7 +43,7 @@ mul-work-2 : tie.Need-mul-work-2
 mul-work-2 c = search needs
 
 slice-write-work-2 : tie.Need-slice-write-work-2
-slice-write-work-2 c = let s = c .before .before .before .before .before .before .before .before .before .before .before in simp length-set (omega (arith, s .pre .0 .sections .words, s .pre .1 .0, s .pre .1 .1))
+slice-write-work-2 c = let s = c .before .before .before .before .before .before .before in simp length-set (omega (arith, s .pre .0 .sections .words, s .pre .1 .0, s .pre .1 .1, c .before .before .least-at .ensures))
 
 cast-work : tie.Need-cast-work
 cast-work c = search needs
@@ -76,38 +55,31 @@ mul-work-3 : tie.Need-mul-work-3
 mul-work-3 c = search needs
 
 slice-write-work-3 : tie.Need-slice-write-work-3
-slice-write-work-3 c = let s = c .before .before .before .before .before .before .before .before .before .before .before in simp length-set (omega (arith, s .pre .0 .sections .words, s .pre .1 .0, s .pre .1 .1))
+slice-write-work-3 c = let s = c .before .before .before .before .before .before .before in simp length-set (omega (arith, s .pre .0 .sections .words, s .pre .1 .0, s .pre .1 .1, c .before .before .before .before .heads-at .ensures))
 
 mul-work-4 : tie.Need-mul-work-4
 mul-work-4 c = search needs
 
 slice-write-work-4 : tie.Need-slice-write-work-4
-slice-write-work-4 c = let s = c .before .before .before .before .before .before .before .before .before .before .before in simp length-set (omega (arith, s .pre .0 .sections .words, s .pre .1 .0, s .pre .1 .1))
+slice-write-work-4 c = let s = c .before .before .before .before .before .before .before in simp length-set (omega (arith, s .pre .0 .sections .words, s .pre .1 .0, s .pre .1 .1, c .before .before .before .before .before .line-stamps-at .ensures))
 
 same-length : tie.Need-same-length
 same-length c = search needs
 
 returns : tie.Need-returns
-returns c = let s = c .before .before .before .before .before .before .before .before .before .before .before .args in linked-as (s .lay) (s .stamp) (s .line) (s .trip) (s .off) (c .first-of .result) (now (s .work)) (c .first-of .ensures)
+returns c = let s = c .before .before .before .before .before .before .before .args in linked-as (s .lay) (s .stamp) (s .line) (s .trip) (s .off) (c .first-of .result) _ _ _ _ (now (s .work)) (c .before .before .before .before .before .line-stamps-at .ensures) (c .before .before .before .before .heads-at .ensures) (c .before .before .before .links-at .ensures) (c .before .before .least-at .ensures) (c .first-of .ensures)
 
 pub link-spec : {M : Type 1} → statement M
 link-spec =
     tie.close
     (tie.spec
-    mul-at
-    mul-at-2
+    line-stamps-at-requires
     add-at
-    add-at-2
-    add-at-3
-    add-at-4
+    heads-at-requires
     add-head
-    mul-next
-    mul-next-2
+    links-at-requires
     add-next
-    mul-next-3
-    add-next-2
-    add-next-3
-    add-next-4
+    least-at-requires
     add-least
     first-of-requires
     mul-work

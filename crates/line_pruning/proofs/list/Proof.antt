@@ -1,6 +1,6 @@
 use denote.Ref.{now}
 use borrow.Author.Tests.{not-true, not-false}
-use Rattle.line_pruning.proofs.Reading.{listed-no, listed-seen, listed-new}
+use Rattle.line_pruning.proofs.Reading.{few, listed-no, listed-seen, listed-new}
 use borrow.Author.Needs.{needs}
 use Rattle.line_pruning.proofs.list.Statement.{statement}
 use Rattle.line_pruning.proofs.list.Tie as tie
@@ -8,23 +8,11 @@ use Rattle.line_pruning.proofs.list.Tie as tie
 returns : tie.Need-returns
 returns c = let s = c .before .before in listed-no (s .args .lay) (s .args .stamp) (s .args .line) (s .args .trip) (s .args .off) (now (s .args .work)) (s .args .prunes) (not-true _ (c .if1 .taken))
 
-mul-at : tie.Need-mul-at
-mul-at c = search needs
-
-mul-at-2 : tie.Need-mul-at-2
-mul-at-2 c = search needs
+trip-stamps-at-requires : tie.Need-trip-stamps-at-requires
+trip-stamps-at-requires c κs = few (c .before .before .pre .0)
 
 add-at : tie.Need-add-at
 add-at c = search needs
-
-add-at-2 : tie.Need-add-at-2
-add-at-2 c = search needs
-
-add-at-3 : tie.Need-add-at-3
-add-at-3 c = search needs
-
-add-at-4 : tie.Need-add-at-4
-add-at-4 c = search needs
 
 mul-if2 : tie.Need-mul-if2
 mul-if2 c = search needs
@@ -39,28 +27,24 @@ same-length : tie.Need-same-length
 same-length c = search needs
 
 returns-2 : tie.Need-returns-2
-returns-2 c = let s = c .before .before .before .before .before .before .before .before .before .before .before in listed-seen (s .args .lay) (s .args .stamp) (s .args .line) (s .args .trip) (s .args .off) (now (s .args .work)) (s .args .prunes) _ (not-false _ (c .before .before .before .before .before .before .before .before .before .if1 .left)) (c .before .before .before .before .if2 .taken) (c .before .before .lower .ensures)
+returns-2 c = let s = c .before .before .before .before .before .before .before .before .before in listed-seen (s .args .lay) (s .args .stamp) (s .args .line) (s .args .trip) (s .args .off) (now (s .args .work)) (s .args .prunes) _ _ (c .before .before .before .before .before .before .trip-stamps-at .ensures) (not-false _ (c .before .before .before .before .before .before .before .if1 .left)) (c .before .before .before .before .if2 .taken) (c .before .before .lower .ensures)
 
 link-requires : tie.Need-link-requires
-link-requires c κs = let s = c .before .before .before .before .before .before .before .before in (s .pre .0, (s .pre .1 .0 (not-false _ (c .before .before .before .before .before .before .if1 .left)), s .pre .1 .1))
+link-requires c κs = let s = c .before .before .before .before .before .before in (s .pre .0, (s .pre .1 .0 (not-false _ (c .before .before .before .before .if1 .left)), s .pre .1 .1))
 
 same-length-2 : tie.Need-same-length-2
 same-length-2 c = search needs
 
 returns-3 : tie.Need-returns-3
-returns-3 c = let s = c .before .before .before .before .before .before .before .before .before .before .before in listed-new (s .args .lay) (s .args .stamp) (s .args .line) (s .args .trip) (s .args .off) (now (s .args .work)) (s .args .prunes) _ (not-false _ (c .before .before .before .before .before .before .before .before .before .if1 .left)) (c .before .before .before .before .if2 .left) (c .before .before .link .ensures)
+returns-3 c = let s = c .before .before .before .before .before .before .before .before .before in listed-new (s .args .lay) (s .args .stamp) (s .args .line) (s .args .trip) (s .args .off) (now (s .args .work)) (s .args .prunes) _ _ (c .before .before .before .before .before .before .trip-stamps-at .ensures) (not-false _ (c .before .before .before .before .before .before .before .if1 .left)) (c .before .before .before .before .if2 .left) (c .before .before .link .ensures)
 
 pub list-spec : {M : Type 1} → statement M
 list-spec =
     tie.close
     (tie.spec
     returns
-    mul-at
-    mul-at-2
+    trip-stamps-at-requires
     add-at
-    add-at-2
-    add-at-3
-    add-at-4
     mul-if2
     slice-read-if2
     lower-requires

@@ -1,29 +1,14 @@
 use denote.Ref.{now}
-use Rattle.line_pruning.proofs.Reading.{lowered-no, lowered-yes}
+use Rattle.line_pruning.proofs.Reading.{few, lowered-no, lowered-yes}
 use borrow.Author.Needs.{needs}
 use Rattle.line_pruning.proofs.lower.Statement.{statement}
 use Rattle.line_pruning.proofs.lower.Tie as tie
 
-mul-least : tie.Need-mul-least
-mul-least c = search needs
-
-mul-least-2 : tie.Need-mul-least-2
-mul-least-2 c = search needs
+least-at-requires : tie.Need-least-at-requires
+least-at-requires c κs = few (c .before .pre .0)
 
 add-least : tie.Need-add-least
 add-least c = search needs
-
-mul-least-3 : tie.Need-mul-least-3
-mul-least-3 c = search needs
-
-add-least-2 : tie.Need-add-least-2
-add-least-2 c = search needs
-
-add-least-3 : tie.Need-add-least-3
-add-least-3 c = search needs
-
-add-least-4 : tie.Need-add-least-4
-add-least-4 c = search needs
 
 mul-if1 : tie.Need-mul-if1
 mul-if1 c = search needs
@@ -32,7 +17,7 @@ slice-read-if1 : tie.Need-slice-read-if1
 slice-read-if1 c = search needs
 
 returns : tie.Need-returns
-returns c = let s = c .before .before .before .before .before .args in lowered-no (s .lay) 0 0 (s .trip) (s .off) (now (s .work)) (c .if1 .taken)
+returns c = let s = c .before .before .before .before .args in lowered-no (s .lay) 0 0 (s .trip) (s .off) (now (s .work)) _ (c .before .before .least-at .ensures) (c .if1 .taken)
 
 mul-work : tie.Need-mul-work
 mul-work c = search needs
@@ -44,19 +29,14 @@ same-length : tie.Need-same-length
 same-length c = search needs
 
 returns-2 : tie.Need-returns-2
-returns-2 c = let s = c .before .before .before .before .before .args in lowered-yes (s .lay) 0 0 (s .trip) (s .off) (now (s .work)) (c .if1 .left)
+returns-2 c = let s = c .before .before .before .before .args in lowered-yes (s .lay) 0 0 (s .trip) (s .off) (now (s .work)) _ (c .before .before .least-at .ensures) (c .if1 .left)
 
 pub lower-spec : {M : Type 1} → statement M
 lower-spec =
     tie.close
     (tie.spec
-    mul-least
-    mul-least-2
+    least-at-requires
     add-least
-    mul-least-3
-    add-least-2
-    add-least-3
-    add-least-4
     mul-if1
     slice-read-if1
     returns

@@ -1,26 +1,14 @@
 use denote.Ref.{now}
-use Rattle.line_pruning.proofs.Reading.{passed-no, passed-yes}
+use Rattle.line_pruning.proofs.Reading.{few, passed-no, passed-yes}
 use borrow.Author.Needs.{needs}
 use Rattle.line_pruning.proofs.passed_over.Statement.{statement}
 use Rattle.line_pruning.proofs.passed_over.Tie as tie
 
-mul-at : tie.Need-mul-at
-mul-at c = search needs
-
-mul-at-2 : tie.Need-mul-at-2
-mul-at-2 c = search needs
+trip-stamps-at-requires : tie.Need-trip-stamps-at-requires
+trip-stamps-at-requires c κs = few (c .before .pre .0)
 
 add-at : tie.Need-add-at
 add-at c = search needs
-
-add-at-2 : tie.Need-add-at-2
-add-at-2 c = search needs
-
-add-at-3 : tie.Need-add-at-3
-add-at-3 c = search needs
-
-add-at-4 : tie.Need-add-at-4
-add-at-4 c = search needs
 
 mul-if1 : tie.Need-mul-if1
 mul-if1 c = search needs
@@ -29,7 +17,10 @@ shared-slice-read-if1 : tie.Need-shared-slice-read-if1
 shared-slice-read-if1 c = search needs
 
 returns : tie.Need-returns
-returns c = let s = c .before .before .before .before .before .before in λ T Q b bk. passed-no T Q (s .args .lay) (s .args .stamp) (now (s .args .work)) b bk (s .args .trip) (s .args .off) (s .args .dep) (s .pre .1) (c .if1 .taken)
+returns c = let s = c .before .before .before .before in λ T Q b bk. passed-no T Q (s .args .lay) (s .args .stamp) (now (s .args .work)) b bk (s .args .trip) (s .args .off) (s .args .dep) (s .pre .1) _ (c .before .before .trip-stamps-at .ensures) (c .if1 .taken)
+
+boarded-offsets-at-requires : tie.Need-boarded-offsets-at-requires
+boarded-offsets-at-requires c κs = few (c .before .before .before .before .pre .0)
 
 add-o : tie.Need-add-o
 add-o c = search needs
@@ -40,14 +31,14 @@ mul-o c = search needs
 shared-slice-read-o : tie.Need-shared-slice-read-o
 shared-slice-read-o c = search needs
 
-mul-d : tie.Need-mul-d
-mul-d c = search needs
+boarded-departures-at-requires : tie.Need-boarded-departures-at-requires
+boarded-departures-at-requires c κs = few (c .before .before .before .before .before .before .pre .0)
 
 add-d : tie.Need-add-d
 add-d c = search needs
 
-mul-d-2 : tie.Need-mul-d-2
-mul-d-2 c = search needs
+mul-d : tie.Need-mul-d
+mul-d c = search needs
 
 shared-slice-read-d : tie.Need-shared-slice-read-d
 shared-slice-read-d c = search needs
@@ -59,27 +50,24 @@ either-requires : tie.Need-either-requires
 either-requires c κs = search needs
 
 returns-2 : tie.Need-returns-2
-returns-2 c = let s = c .before .before .before .before .before .before .before .before .before .before .before .before in λ T Q b bk. passed-yes T Q (s .args .lay) (s .args .stamp) (now (s .args .work)) b bk (s .args .trip) (s .args .off) (s .args .dep) (s .pre .1) _ _ (c .before .before .before .before .before .before .if1 .left) (c .before .both .ensures) (c .either .ensures)
+returns-2 c = let s = c .before .before .before .before .before .before .before .before .before .before in λ T Q b bk. passed-yes T Q (s .args .lay) (s .args .stamp) (now (s .args .work)) b bk (s .args .trip) (s .args .off) (s .args .dep) (s .pre .1) _ _ _ (c .before .before .before .before .before .before .before .before .trip-stamps-at .ensures) (c .before .before .before .before .before .boarded-offsets-at .ensures) (c .before .before .before .boarded-departures-at .ensures) _ _ (c .before .before .before .before .before .before .if1 .left) (c .before .both .ensures) (c .either .ensures)
 
 pub passed-over-spec : {M : Type 1} → statement M
 passed-over-spec =
     tie.close
     (tie.spec
-    mul-at
-    mul-at-2
+    trip-stamps-at-requires
     add-at
-    add-at-2
-    add-at-3
-    add-at-4
     mul-if1
     shared-slice-read-if1
     returns
+    boarded-offsets-at-requires
     add-o
     mul-o
     shared-slice-read-o
-    mul-d
+    boarded-departures-at-requires
     add-d
-    mul-d-2
+    mul-d
     shared-slice-read-d
     both-requires
     either-requires

@@ -1,7 +1,8 @@
 use denote.Ref.{now}
+use mathlib.Core.Path.{_∙_}
 use native.Mathlib.Omega.{arith}
 use Rattle.trip_boarding.specs.Reads.{hitOf}
-use Rattle.line_pruning.proofs.Reading.{prunable-past, prunable-known, never}
+use Rattle.line_pruning.proofs.Reading.{few, read-at, prunable-past, prunable-known, never}
 use borrow.Author.Needs.{needs}
 use Rattle.line_pruning.proofs.prunable.Statement.{statement}
 use Rattle.line_pruning.proofs.prunable.Tie as tie
@@ -12,20 +13,11 @@ field-requires c κs = search needs
 returns : tie.Need-returns
 returns c = let s = c .before .before .before .before .before in (λ e. absurd (never e), λ T Q k ag. prunable-past T Q (s .args .lay) k (now (s .args .built)) (now (s .args .work)) (hitOf (s .args .adj)) (s .args .trip) _ ag (s .pre .1 .1) (c .before .before .field .ensures .0) (c .if1 .taken))
 
-mul-at : tie.Need-mul-at
-mul-at c = search needs
-
-mul-at-2 : tie.Need-mul-at-2
-mul-at-2 c = search needs
+fifo-at-requires : tie.Need-fifo-at-requires
+fifo-at-requires c κs = few (c .before .before .before .before .before .pre .0)
 
 add-at : tie.Need-add-at
 add-at c = search needs
-
-add-at-2 : tie.Need-add-at-2
-add-at-2 c = search needs
-
-add-at-3 : tie.Need-add-at-3
-add-at-3 c = search needs
 
 undelayed-requires : tie.Need-undelayed-requires
 undelayed-requires c κs = search needs
@@ -37,7 +29,7 @@ both-requires : tie.Need-both-requires
 both-requires c κs = search needs
 
 returns-2 : tie.Need-returns-2
-returns-2 c = let s = c .before .before .before .before .before .before .before .before .before .before in (λ e. omega (arith, c .before .before .before .before .before .before .before .field .ensures .0, c .before .before .before .before .before .if1 .left), λ T Q k ag. prunable-known T Q (s .args .lay) k (now (s .args .built)) (now (s .args .work)) (hitOf (s .args .adj)) (s .args .trip) (c .before .before .before .before .before .before .before .field .result) ag (s .pre .1 .1) (c .before .before .before .before .before .before .before .field .ensures .0) (c .before .before .before .before .before .if1 .left) _ _ _ (c .both .ensures) (c .before .before .undelayed .ensures) (c .before .field2 .ensures .0))
+returns-2 c = let s = c .before .before .before .before .before .before .before .before .before in (λ e. omega (arith, c .before .before .before .before .before .before .field .ensures .0, c .before .before .before .before .if1 .left), λ T Q k ag. prunable-known T Q (s .args .lay) k (now (s .args .built)) (now (s .args .work)) (hitOf (s .args .adj)) (s .args .trip) (c .before .before .before .before .before .before .field .result) ag (s .pre .1 .1) (c .before .before .before .before .before .before .field .ensures .0) (c .before .before .before .before .if1 .left) _ _ _ (c .both .ensures) (c .before .before .undelayed .ensures) (c .before .field2 .ensures .0 ∙ read-at (now (s .args .work)) (c .before .before .before .before .before .before .field .result) _ _ (c .before .before .before .fifo-at .ensures)))
 
 pub prunable-spec : {M : Type 1} → statement M
 prunable-spec =
@@ -45,11 +37,8 @@ prunable-spec =
     (tie.spec
     field-requires
     returns
-    mul-at
-    mul-at-2
+    fifo-at-requires
     add-at
-    add-at-2
-    add-at-3
     undelayed-requires
     field-requires-2
     both-requires

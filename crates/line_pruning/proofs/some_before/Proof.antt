@@ -1,9 +1,8 @@
-use borrow.Author.Needs.{needs}
 use denote.Ref.{now}
 use mathlib.Core.Path.{sym, _∙_}
 use native.Mathlib.Omega.{arith}
 use Prim.Native.Nat.{_-_, _≤_}
-use Rattle.line_pruning.proofs.Reading.{Walking, walking-start, walking-none, walking-below, walking-yes, walking-next, walking-end}
+use Rattle.line_pruning.proofs.Reading.{few, read-at, Walking, walking-start, walking-none, walking-below, walking-yes, walking-next, walking-end}
 use Rattle.line_pruning.proofs.some_before.Statement.{statement}
 use Rattle.line_pruning.proofs.some_before.Tie as tie
 
@@ -13,59 +12,44 @@ Inv-loop lay first p off work links h₀ k₀ h k = (k ≤ lay .trips) × Walkin
 abbrev μ-loop : tie.MeasureT-loop
 μ-loop lay first p off work links h₀ k₀ h k = lay .trips - k
 
-mul-links : tie.Need-mul-links Inv-loop μ-loop
-mul-links c = search needs
-
-mul-links-2 : tie.Need-mul-links-2 Inv-loop μ-loop
-mul-links-2 c = search needs
-
-add-links : tie.Need-add-links Inv-loop μ-loop
-add-links c = search needs
-
-mul-links-3 : tie.Need-mul-links-3 Inv-loop μ-loop
-mul-links-3 c = search needs
-
-add-links-2 : tie.Need-add-links-2 Inv-loop μ-loop
-add-links-2 c = search needs
-
-add-links-3 : tie.Need-add-links-3 Inv-loop μ-loop
-add-links-3 c = search needs
+links-at-requires : tie.Need-links-at-requires Inv-loop μ-loop
+links-at-requires c κs = few (c .before .pre .0)
 
 loop-holds : tie.Need-loop-holds Inv-loop μ-loop
-loop-holds c = let s = c .before .before .before .before in (omega arith, walking-start (s .args .lay) (now (s .args .work)) (s .args .p) (s .args .off) (s .args .first) (s .pre .1))
+loop-holds c = let s = c .before .before in (omega arith, walking-start (s .args .lay) (now (s .args .work)) (s .args .p) (s .args .off) (s .args .first) (s .pre .1))
 
 returns : tie.Need-returns Inv-loop μ-loop
-returns c = let s = c .before .before .before .before .before .before .before .before in let v = c .before .before .before .loop in walking-none (s .args .lay) (now (s .args .work)) (s .args .p) (s .args .off) (s .args .first) (v .k) (v .h) (v .inv .1) (c .if2 .taken)
+returns c = let s = c .before .before .before .before .before .before in let v = c .before .before .before .loop in walking-none (s .args .lay) (now (s .args .work)) (s .args .p) (s .args .off) (s .args .first) (v .k) (v .h) (v .inv .1) (c .if2 .taken)
 
 sub-is-before : tie.Need-sub-is-before Inv-loop μ-loop
 sub-is-before c = omega (arith, c .if2 .left)
 
 is-before-requires : tie.Need-is-before-requires Inv-loop μ-loop
-is-before-requires c κs = let s = c .before .before .before .before .before .before .before .before in let v = c .before .before .before .loop in (s .pre .0, walking-below (s .args .lay) (now (s .args .work)) (s .args .p) (s .args .off) (s .args .first) (v .k) (v .h) (v .inv .1) (c .before .if1 .taken) (c .if2 .left))
+is-before-requires c κs = let s = c .before .before .before .before .before .before in let v = c .before .before .before .loop in (s .pre .0, walking-below (s .args .lay) (now (s .args .work)) (s .args .p) (s .args .off) (s .args .first) (v .k) (v .h) (v .inv .1) (c .before .if1 .taken) (c .if2 .left))
 
 returns-2 : tie.Need-returns-2 Inv-loop μ-loop
-returns-2 c = let s = c .before .before .before .before .before .before .before .before .before .before in let v = c .before .before .before .before .before .loop in walking-yes (s .args .lay) (now (s .args .work)) (s .args .p) (s .args .off) (s .args .first) (v .k) (v .h) (v .inv .1) (c .before .before .before .if1 .taken) (c .before .before .if2 .left) (sym (c .before .is-before .ensures) ∙ c .if3 .taken)
+returns-2 c = let s = c .before .before .before .before .before .before .before .before in let v = c .before .before .before .before .before .loop in walking-yes (s .args .lay) (now (s .args .work)) (s .args .p) (s .args .off) (s .args .first) (v .k) (v .h) (v .inv .1) (c .before .before .before .if1 .taken) (c .before .before .if2 .left) (sym (c .before .is-before .ensures) ∙ c .if3 .taken)
 
 sub-field : tie.Need-sub-field Inv-loop μ-loop
 sub-field c = omega (arith, c .before .before .if2 .left)
 
 add-field : tie.Need-add-field Inv-loop μ-loop
-add-field c = let s = c .before .before .before .before .before .before .before .before .before .before in let v = c .before .before .before .before .before .loop in let u = walking-below (s .args .lay) (now (s .args .work)) (s .args .p) (s .args .off) (s .args .first) (v .k) (v .h) (v .inv .1) (c .before .before .before .if1 .taken) (c .before .before .if2 .left) in omega (arith, u, s .pre .0 .sections .stops, s .pre .0 .sections .trips, s .pre .0 .sections .lines)
+add-field c = let s = c .before .before .before .before .before .before .before .before in let v = c .before .before .before .before .before .loop in let u = walking-below (s .args .lay) (now (s .args .work)) (s .args .p) (s .args .off) (s .args .first) (v .k) (v .h) (v .inv .1) (c .before .before .before .if1 .taken) (c .before .before .if2 .left) in omega (arith, u, c .before .before .before .before .before .before .links-at .ensures, s .pre .0 .sections .stops, s .pre .0 .sections .trips, s .pre .0 .sections .lines)
 
 field-requires : tie.Need-field-requires Inv-loop μ-loop
-field-requires c κs = let s = c .before .before .before .before .before .before .before .before .before .before in let v = c .before .before .before .before .before .loop in let u = walking-below (s .args .lay) (now (s .args .work)) (s .args .p) (s .args .off) (s .args .first) (v .k) (v .h) (v .inv .1) (c .before .before .before .if1 .taken) (c .before .before .if2 .left) in omega (arith, u, s .pre .0 .sections .words)
+field-requires c κs = let s = c .before .before .before .before .before .before .before .before in let v = c .before .before .before .before .before .loop in let u = walking-below (s .args .lay) (now (s .args .work)) (s .args .p) (s .args .off) (s .args .first) (v .k) (v .h) (v .inv .1) (c .before .before .before .if1 .taken) (c .before .before .if2 .left) in omega (arith, u, c .before .before .before .before .before .before .links-at .ensures, s .pre .0 .sections .words)
 
 add-k : tie.Need-add-k Inv-loop μ-loop
-add-k c = let s = c .before .before .before .before .before .before .before .before .before .before .before in omega (arith, s .pre .0 .sections .trips, c .before .before .before .before .if1 .taken)
+add-k c = let s = c .before .before .before .before .before .before .before .before .before in omega (arith, s .pre .0 .sections .trips, c .before .before .before .before .if1 .taken)
 
 loop-less : tie.Need-loop-less Inv-loop μ-loop
 loop-less c = omega (arith, c .before .before .before .before .if1 .taken)
 
 loop-again : tie.Need-loop-again Inv-loop μ-loop
-loop-again c = let s = c .before .before .before .before .before .before .before .before .before .before .before in let v = c .before .before .before .before .before .before .loop in (omega (arith, c .before .before .before .before .if1 .taken), walking-next (s .args .lay) (now (s .args .work)) (s .args .p) (s .args .off) (s .args .first) (v .k) (v .h) (v .inv .1) (c .before .before .before .before .if1 .taken) (c .before .before .before .if2 .left) _ (sym (c .before .before .is-before .ensures) ∙ c .before .if3 .left) (c .field .ensures .0))
+loop-again c = let s = c .before .before .before .before .before .before .before .before .before in let v = c .before .before .before .before .before .before .loop in (omega (arith, c .before .before .before .before .if1 .taken), walking-next (s .args .lay) (now (s .args .work)) (s .args .p) (s .args .off) (s .args .first) (v .k) (v .h) (v .inv .1) (c .before .before .before .before .if1 .taken) (c .before .before .before .if2 .left) _ (sym (c .before .before .is-before .ensures) ∙ c .before .if3 .left) (c .field .ensures .0 ∙ read-at (now (s .args .work)) (v .h - 1) _ _ (c .before .before .before .before .before .before .before .links-at .ensures)))
 
 returns-3 : tie.Need-returns-3 Inv-loop μ-loop
-returns-3 c = let s = c .before .before .before .before .before .before .before in let v = c .before .before .loop in walking-end (s .args .lay) (now (s .args .work)) (s .args .p) (s .args .off) (s .args .first) (v .k) (v .h) (v .inv .1) (c .if1 .left)
+returns-3 c = let s = c .before .before .before .before .before in let v = c .before .before .loop in walking-end (s .args .lay) (now (s .args .work)) (s .args .p) (s .args .off) (s .args .first) (v .k) (v .h) (v .inv .1) (c .if1 .left)
 
 pub some-before-spec : {M : Type 1} → statement M
 some-before-spec =
@@ -73,12 +57,7 @@ some-before-spec =
     (tie.spec
     Inv-loop
     μ-loop
-    mul-links
-    mul-links-2
-    add-links
-    mul-links-3
-    add-links-2
-    add-links-3
+    links-at-requires
     loop-holds
     returns
     sub-is-before

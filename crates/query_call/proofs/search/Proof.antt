@@ -8,8 +8,8 @@ use borrow.Author.Needs.{needs}
 use Rattle.query_call.proofs.search.Statement.{statement}
 use Rattle.query_call.proofs.search.Tie as tie
 
-lay-of-requires : tie.Need-lay-of-requires
-lay-of-requires c κs = c .before .before .before .before .before .before .before .before .before .before .before .pre .admitted .limits
+lay-for-requires : tie.Need-lay-for-requires
+lay-for-requires c κs = let k = c .before .before .before .before .before .before .before .before .before .before .before .pre .admitted .limits .counts in (k .stops, k .trips)
 
 net-of-requires : tie.Need-net-of-requires
 net-of-requires c κs = askable (c .before .before .before .before .before .before .before .before .before .before .before .before .pre .admitted)
@@ -21,7 +21,7 @@ in-use-requires : tie.Need-in-use-requires
 in-use-requires c κs = flagging (c .before .before .before .before .before .before .before .before .before .before .before .before .before .before .pre .admitted)
 
 begin-requires : tie.Need-begin-requires
-begin-requires c κs = let A = c .before .before .before .before .before .before .before .before .before .before .before .before .before .before .before .before .before .before .pre .admitted in (askable A, (c .before .before .before .before .before .before .lay-of .ensures, sized-at A (c .before .before .before .before .before .before .lay-of .ensures)))
+begin-requires c κs = let A = c .before .before .before .before .before .before .before .before .before .before .before .before .before .before .before .before .before .before .pre .admitted in (askable A, (c .before .before .before .before .before .before .lay-for .ensures, sized-at A (c .before .before .before .before .before .before .lay-for .ensures)))
 
 shared-slice-read-change : tie.Need-shared-slice-read-change
 shared-slice-read-change c = omega (arith, c .before .before .before .before .before .before .before .before .before .before .before .before .before .before .before .before .before .before .before .before .before .before .before .before .before .before .pre .admitted .sized .queryIs)
@@ -45,13 +45,13 @@ same-length-5 : tie.Need-same-length-5
 same-length-5 c = search needs
 
 returns : tie.Need-returns
-returns c = let s = c .before .before .before .before .before .before .before .before .before .before .before .before .before .before .before .before .before .before .before .before .before .before .before .before .before .before .before .before .before .before .before .before .before .before .before .before .before .before .before .before .before .before in let A = s .pre .admitted in ended (s .args .rust) (c .before .before .before .before .before .before .before .before .before .before .rounds .ensures) (c .before .before .before .before .before .before .before .before .before .before .before .before .before .before .before .before .before .before .before .before .before .before .before .before .before .before .before .in-use .ensures (now (s .args .distances)) (now (s .args .query)) (c .before .before .before .before .before .before .before .before .before .before .before .before .before .before .before .before .before .before .before .before .before .before .before .before .before .before .before .before .before .net-of .ensures _ _ A (lends A)) (ap (λ (v : ℕ). eqb v 1) (sym (c .before .before .before .before .before .before .before .before .before .before .before .before .before .before .before .before .before .before .before .before .before .before .before .before .before .before .before .before .field .ensures .0)))) (c .before .before .before .before .before .before .before .before .before .before .before .before .before .before .before .before .before .before .before .before .before .before .before .before .before .before .before .before .before .before .lay-of .ensures)
+returns c = let s = c .before .before .before .before .before .before .before .before .before .before .before .before .before .before .before .before .before .before .before .before .before .before .before .before .before .before .before .before .before .before .before .before .before .before .before .before .before .before .before .before .before .before in let A = s .pre .admitted in ended (s .args .rust) (c .before .before .before .before .before .before .before .before .before .before .rounds .ensures) (c .before .before .before .before .before .before .before .before .before .before .before .before .before .before .before .before .before .before .before .before .before .before .before .before .before .before .before .in-use .ensures (now (s .args .distances)) (now (s .args .query)) (c .before .before .before .before .before .before .before .before .before .before .before .before .before .before .before .before .before .before .before .before .before .before .before .before .before .before .before .before .before .net-of .ensures _ _ A (lends A)) (ap (λ (v : ℕ). eqb v 1) (sym (c .before .before .before .before .before .before .before .before .before .before .before .before .before .before .before .before .before .before .before .before .before .before .before .before .before .before .before .before .field .ensures .0)))) (c .before .before .before .before .before .before .before .before .before .before .before .before .before .before .before .before .before .before .before .before .before .before .before .before .before .before .before .before .before .before .lay-for .ensures)
 
 pub search-spec : {M : Type 1} → statement M
 search-spec =
     tie.close
     (tie.spec
-    lay-of-requires
+    lay-for-requires
     net-of-requires
     field-requires
     in-use-requires

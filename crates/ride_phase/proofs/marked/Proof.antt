@@ -1,51 +1,23 @@
 use Prim.Native.Nat.{ℕ}
 use lib.Dec.{eqb}
 use mathlib.Core.Path.{ap}
-use borrow.Author.Needs.{needs}
+use native.Mathlib.Omega.{arith}
 use Rattle.ride_phase.proofs.marked.Statement.{statement}
 use Rattle.ride_phase.proofs.marked.Tie as tie
 
-mul-at : tie.Need-mul-at
-mul-at c = search needs
+marks-at-requires : tie.Need-marks-at-requires
+marks-at-requires c κs = c .before .pre .0
 
-add-at : tie.Need-add-at
-add-at c = search needs
-
-add-at-2 : tie.Need-add-at-2
-add-at-2 c = search needs
-
-mul-at-2 : tie.Need-mul-at-2
-mul-at-2 c = search needs
-
-add-at-3 : tie.Need-add-at-3
-add-at-3 c = search needs
-
-mul-at-3 : tie.Need-mul-at-3
-mul-at-3 c = search needs
-
-add-at-4 : tie.Need-add-at-4
-add-at-4 c = search needs
-
-add-at-5 : tie.Need-add-at-5
-add-at-5 c = search needs
+add-field : tie.Need-add-field
+add-field c = let a = c .before .before in omega (arith, c .marks-at .ensures .1, a .pre .1 .1, a .pre .0 .counts .stops)
 
 field-requires : tie.Need-field-requires
-field-requires c κs = search needs
+field-requires c κs = let a = c .before .before in omega (arith, c .marks-at .ensures .0, a .pre .1 .0, a .pre .1 .1)
 
 returns : tie.Need-returns
-returns c = ap (λ (k : ℕ). eqb k 1) (c .field .ensures .0)
+returns c = ap (λ (k : ℕ). eqb k 1) (rw (c .before .marks-at .ensures .0) at (c .field .ensures .0))
 
 pub marked-spec : {M : Type 1} → statement M
 marked-spec =
     tie.close
-    (tie.spec
-    mul-at
-    add-at
-    add-at-2
-    mul-at-2
-    add-at-3
-    mul-at-3
-    add-at-4
-    add-at-5
-    field-requires
-    returns)
+    (tie.spec marks-at-requires add-field field-requires returns)

@@ -1,3 +1,6 @@
+use mathlib.Core.Path.{ap, _∙_}
+use Rattle.query_types.specs.declared.Lay.{Lay}
+use Rattle.query_types.specs.Layout.{eventsAt}
 use Rattle.query_input.proofs.Parts.{query-room}
 use denote.Ref.{now}
 use Rattle.search_begin.proofs.Reading.{askable-as, egress-in, egress-read, net-is, sane-of}
@@ -36,23 +39,14 @@ line-tables-requires c κs = let A = askable-as (c .before .before .before .befo
 transfer-runs-at-requires : tie.Need-transfer-runs-at-requires
 transfer-runs-at-requires c κs = let A = askable-as (c .before .before .before .before .before .before .before .before .before .before .before .before .before .before .pre) in A .limits
 
-mul-t20 : tie.Need-mul-t20
-mul-t20 c = search needs
+lay-for-requires : tie.Need-lay-for-requires
+lay-for-requires c κs = let A = askable-as (c .before .before .before .before .before .before .before .before .before .before .before .before .before .before .before .pre) in (A .limits .counts .stops, A .limits .counts .trips)
 
-mul-t21 : tie.Need-mul-t21
-mul-t21 c = search needs
-
-add-t22 : tie.Need-add-t22
-add-t22 c = search needs
-
-add-t23 : tie.Need-add-t23
-add-t23 c = search needs
-
-add-t24 : tie.Need-add-t24
-add-t24 c = search needs
+events-at-requires : tie.Need-events-at-requires
+events-at-requires c κs = let A = askable-as (c .before .before .before .before .before .before .before .before .before .before .before .before .before .before .before .before .pre) in rw (c .lay-for .ensures) (record { stops = A .limits .counts .stops; trips = A .limits .counts .trips; lines = A .limits .lines })
 
 returns : tie.Need-returns
-returns c = λ x l B e. let A = askable-as (c .before .before .before .before .before .before .before .before .before .before .before .before .before .before .before .before .before .before .pre) in net-is (c .before .before .before .before .before .before .before .before .before .before .before .before .before .before .before .before .before .before .args .n) (now (c .before .before .before .before .before .before .before .before .before .before .before .before .before .before .before .before .before .before .args .tables)) (now (c .before .before .before .before .before .before .before .before .before .before .before .before .before .before .before .before .before .before .args .built)) (now (c .before .before .before .before .before .before .before .before .before .before .before .before .before .before .before .before .before .before .args .query)) (now (c .before .before .before .before .before .before .before .before .before .before .before .before .before .before .before .before .before .before .args .distances)) x e (query-room (A .sized)) _ _ _ (c .before .before .before .before .before .before .before .before .before .before .before .before .delay-rows .ensures) (c .before .before .before .before .before .before .before .before .before .before .before .stop-rows .ensures) (c .before .before .before .before .before .before .before .before .before .egress-rows .ensures) _ _ _ _ (c .before .before .before .before .line-tables .ensures) (c .before .before .before .before .before .before .before .before .before .before .rt-margin .ensures) (c .before .before .before .before .before .before .before .target-cells .ensures) (c .before .before .before .transfer-runs-at .ensures .0)
+returns c = λ x l B e. let A = askable-as (c .before .before .before .before .before .before .before .before .before .before .before .before .before .before .before .before .before .pre) in net-is (c .before .before .before .before .before .before .before .before .before .before .before .before .before .before .before .before .before .args .n) (now (c .before .before .before .before .before .before .before .before .before .before .before .before .before .before .before .before .before .args .tables)) (now (c .before .before .before .before .before .before .before .before .before .before .before .before .before .before .before .before .before .args .built)) (now (c .before .before .before .before .before .before .before .before .before .before .before .before .before .before .before .before .before .args .query)) (now (c .before .before .before .before .before .before .before .before .before .before .before .before .before .before .before .before .before .args .distances)) x e (query-room (A .sized)) _ _ _ (c .before .before .before .before .before .before .before .before .before .before .before .delay-rows .ensures) (c .before .before .before .before .before .before .before .before .before .before .stop-rows .ensures) (c .before .before .before .before .before .before .before .before .egress-rows .ensures) _ _ _ _ _ (c .before .before .before .line-tables .ensures) (c .before .before .before .before .before .before .before .before .before .rt-margin .ensures) (c .before .before .before .before .before .before .target-cells .ensures) (c .before .before .transfer-runs-at .ensures .0) (c .events-at .ensures ∙ ap (λ (k : Lay). eventsAt k) (c .before .lay-for .ensures))
 
 pub net-of-spec : {M : Type 1} → statement M
 net-of-spec =
@@ -68,9 +62,6 @@ net-of-spec =
     shared-slice-read-t17
     line-tables-requires
     transfer-runs-at-requires
-    mul-t20
-    mul-t21
-    add-t22
-    add-t23
-    add-t24
+    lay-for-requires
+    events-at-requires
     returns)

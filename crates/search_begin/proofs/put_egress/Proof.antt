@@ -3,24 +3,19 @@ use mathlib.Core.Path.{ap}
 use denote.Ref.{now}
 use lib.ListN.{getD, set}
 use Rattle.query_types.specs.Layout.{restAt}
+use Rattle.search_state.proofs.Part.{few-of}
 use borrow.Author.Needs.{needs}
 use Rattle.search_begin.proofs.put_egress.Statement.{statement}
 use Rattle.search_begin.proofs.put_egress.Tie as tie
 
-mul-i : tie.Need-mul-i
-mul-i c = search needs
-
-add-i : tie.Need-add-i
-add-i c = search needs
-
-add-i-2 : tie.Need-add-i-2
-add-i-2 c = search needs
+rest-at-requires : tie.Need-rest-at-requires
+rest-at-requires c κs = few-of (c .before .before .pre .0)
 
 field-requires : tie.Need-field-requires
 field-requires c κs = search needs
 
-add-i-3 : tie.Need-add-i-3
-add-i-3 c = search needs
+add-i : tie.Need-add-i
+add-i c = search needs
 
 add-d : tie.Need-add-d
 add-d c = search needs
@@ -44,17 +39,15 @@ same-length : tie.Need-same-length
 same-length c = search needs
 
 returns : tie.Need-returns
-returns c = let a = c .before .before .before .before .before .before in let x = a .args in ap (λ (m : ℕ). set (now (x .work)) (restAt (x .lay) + m) (getD (now (x .query)) (x .at + 1) 0 + 1)) (c .before .field .ensures .0)
+returns c = let a = c .before .before .before .before .before in let x = a .args in rw (c .before .before .rest-at .ensures) (ap (λ (m : ℕ). set (now (x .work)) (restAt (x .lay) + m) (getD (now (x .query)) (x .at + 1) 0 + 1)) (c .before .field .ensures .0))
 
 pub put-egress-spec : {M : Type 1} → statement M
 put-egress-spec =
     tie.close
     (tie.spec
-    mul-i
-    add-i
-    add-i-2
+    rest-at-requires
     field-requires
-    add-i-3
+    add-i
     add-d
     mul-d
     shared-slice-read-d

@@ -1,5 +1,6 @@
 use Rattle.query_types.specs.declared.Lay.{Lay}
 use denote.Ref.{now}
+use Rattle.search_state.proofs.Part.{few-of}
 use borrow.Author.Needs.{needs}
 use native.Mathlib.Omega.{arith}
 use mathlib.Core.Path.{ap, refl}
@@ -16,23 +17,11 @@ Inv-loop tables work₀ c a trips before₀ i₀ work before i = Running tables 
 abbrev μ-loop : tie.MeasureT-loop
 μ-loop tables work₀ c a trips before₀ i₀ work before i = trips - i
 
-mul-a : tie.Need-mul-a Inv-loop μ-loop
-mul-a c = omega (arith, c .before .before .before .before .pre .1 .1 .stops)
-
-mul-a-2 : tie.Need-mul-a-2 Inv-loop μ-loop
-mul-a-2 c = omega (arith, c .before .before .before .before .before .pre .1 .1 .trips)
-
-add-a : tie.Need-add-a Inv-loop μ-loop
-add-a c = omega (arith, c .before .before .before .before .before .pre .1 .1 .stops, c .before .before .before .before .before .pre .1 .1 .trips)
-
-add-a-2 : tie.Need-add-a-2 Inv-loop μ-loop
-add-a-2 c = omega (arith, c .before .before .before .before .before .before .pre .1 .1 .stops, c .before .before .before .before .before .before .pre .1 .1 .trips, c .before .before .before .before .before .before .pre .1 .1 .lines)
-
-add-a-3 : tie.Need-add-a-3 Inv-loop μ-loop
-add-a-3 c = omega (arith, c .before .before .before .before .before .before .pre .1 .1 .stops, c .before .before .before .before .before .before .pre .1 .1 .trips, c .before .before .before .before .before .before .pre .1 .1 .lines)
+events-at-requires : tie.Need-events-at-requires Inv-loop μ-loop
+events-at-requires c κs = few-of (c .before .before .before .pre .1 .1)
 
 loop-holds : tie.Need-loop-holds Inv-loop μ-loop
-loop-holds c = running-none (now (c .before .before .before .before .before .before .args .tables)) (c .before .before .before .before .before .before .args .n .timetable) _ (c .before .before .before .before .before .before .args .lay .trips) (now (c .before .before .before .before .before .before .args .work)) (ap (λ (k : Lay). k .trips) (c .before .before .before .before .before .before .pre .1 .0)) (c .before .before .before .before .before .before .pre .0) (omega (arith, c .before .before .before .before .before .before .pre .1 .1 .words))
+loop-holds c = running-none (now (c .before .before .before .before .args .tables)) (c .before .before .before .before .args .n .timetable) _ (c .before .before .before .before .args .lay .trips) (now (c .before .before .before .before .args .work)) (ap (λ (k : Lay). k .trips) (c .before .before .before .before .pre .1 .0)) (c .before .before .before .before .pre .0) (omega (arith, c .events-at .ensures, c .before .before .before .before .pre .1 .1 .words))
 
 cast-work : tie.Need-cast-work Inv-loop μ-loop
 cast-work c = let r = c .before .loop .inv in omega (arith, r .small, r .few, r .trips-are, r .sane .counts .trips)
@@ -65,7 +54,7 @@ same-length : tie.Need-same-length Inv-loop μ-loop
 same-length c = c .before .loop .inv .put .size
 
 returns : tie.Need-returns Inv-loop μ-loop
-returns c = let e = all-of-them _ _ _ refl (c .before .loop .inv .few) (omega arith) in rw e at (c .before .loop .inv .put)
+returns c = let e = all-of-them _ _ _ refl (c .before .loop .inv .few) (omega arith) in rw (c .before .before .events-at .ensures) at (rw e at (c .before .loop .inv .put))
 
 pub put-events-spec : {M : Type 1} → statement M
 put-events-spec =
@@ -73,11 +62,7 @@ put-events-spec =
     (tie.spec
     Inv-loop
     μ-loop
-    mul-a
-    mul-a-2
-    add-a
-    add-a-2
-    add-a-3
+    events-at-requires
     loop-holds
     cast-work
     add-work

@@ -1,22 +1,17 @@
-use Prim.Native.Nat.{_+_, _*_}
+use Prim.Native.Nat.{_+_}
 use Rattle.query_types.specs.declared.Lay.{Lay}
 use denote.Ref.{now}
 use Rattle.search_begin.proofs.Sections.{lines-read, part-long, positions-read, put-part}
 use Rattle.query_input.specs.Lent.{lineEntries, lineRuns}
 use native.Mathlib.Omega.{arith}
 use mathlib.Core.Path.{ap, refl}
+use Rattle.search_state.proofs.Part.{few-of}
 use borrow.Author.Needs.{needs}
 use Rattle.search_begin.proofs.put_positions.Statement.{statement}
 use Rattle.search_begin.proofs.put_positions.Tie as tie
 
-mul-a : tie.Need-mul-a
-mul-a c = search needs
-
-add-a : tie.Need-add-a
-add-a c = search needs
-
-add-a-2 : tie.Need-add-a-2
-add-a-2 c = search needs
+positions-at-requires : tie.Need-positions-at-requires
+positions-at-requires c κs = few-of (c .before .before .pre .1 .1)
 
 add-b : tie.Need-add-b
 add-b c = search needs
@@ -40,21 +35,19 @@ part-line-positions-end : tie.Need-part-line-positions-end
 part-line-positions-end c = search needs
 
 line-positions-requires : tie.Need-line-positions-requires
-line-positions-requires c κs = let e = ap (λ (k : Lay). k .trips) (c .before .before .before .before .before .before .before .before .pre .1 .0) in (lines-read (c .before .before .before .before .before .before .before .before .pre .0 .lines) (c .before .before .line-runs .ensures) (c .before .line-entries .ensures), part-long (c .before .before .before .before .before .before .before .before .args .lay .stops * 5 + c .before .before .before .before .before .before .before .before .args .lay .trips + 128) (c .before .before .before .before .before .before .before .before .args .lay .stops * 5 + c .before .before .before .before .before .before .before .before .args .lay .trips + 128 + c .before .before .before .before .before .before .before .before .args .lay .trips) (c .before .before .before .before .before .before .before .before .args .n .timetable .trips) (now (c .before .before .before .before .before .before .before .before .args .work)) (omega (arith, e)) (omega (arith, c .before .before .before .before .before .before .before .before .pre .1 .1 .words)))
+line-positions-requires c κs = let e = ap (λ (k : Lay). k .trips) (c .before .before .before .before .before .before .before .pre .1 .0) in (lines-read (c .before .before .before .before .before .before .before .pre .0 .lines) (c .before .before .line-runs .ensures) (c .before .line-entries .ensures), part-long (c .before .before .before .before .positions-at .result) (c .before .before .before .before .positions-at .result + c .before .before .before .before .before .before .before .args .lay .trips) (c .before .before .before .before .before .before .before .args .n .timetable .trips) (now (c .before .before .before .before .before .before .before .args .work)) (omega (arith, e)) (omega (arith, c .before .before .before .before .positions-at .ensures, c .before .before .before .before .before .before .before .pre .1 .1 .words)))
 
 same-length : tie.Need-same-length
 same-length c = search needs
 
 returns : tie.Need-returns
-returns c = put-part _ _ (c .before .before .before .before .before .before .before .before .before .before .before .args .lay .trips) _ (now (c .before .before .before .before .before .before .before .before .before .before .before .args .work)) _ refl (omega (arith, c .before .before .before .before .before .before .before .before .before .before .before .pre .1 .1 .words)) (positions-read (c .before .before .before .before .before .before .before .before .before .before .before .args .n .timetable) (c .before .before .before .before .before .before .before .before .before .before .before .args .n .lines) (c .before .before .before .before .before .before .before .before .before .before .before .args .lay .trips) _ _ _ (lineRuns (now (c .before .before .before .before .before .before .before .before .before .before .before .args .built)) (c .before .before .before .before .before .before .before .before .before .before .before .args .n)) (lineEntries (now (c .before .before .before .before .before .before .before .before .before .before .before .args .built)) (c .before .before .before .before .before .before .before .before .before .before .before .args .n)) (c .before .before .line-positions .ensures) (c .before .before .before .before .before .line-runs .ensures) (c .before .before .before .before .line-entries .ensures) (ap (λ (k : Lay). k .trips) (c .before .before .before .before .before .before .before .before .before .before .before .pre .1 .0)))
+returns c = rw (c .before .before .before .before .before .before .before .positions-at .ensures) (put-part _ _ (c .before .before .before .before .before .before .before .before .before .before .args .lay .trips) _ (now (c .before .before .before .before .before .before .before .before .before .before .args .work)) _ refl (omega (arith, c .before .before .before .before .before .before .before .before .before .before .pre .1 .1 .words)) (positions-read (c .before .before .before .before .before .before .before .before .before .before .args .n .timetable) (c .before .before .before .before .before .before .before .before .before .before .args .n .lines) (c .before .before .before .before .before .before .before .before .before .before .args .lay .trips) _ _ _ (lineRuns (now (c .before .before .before .before .before .before .before .before .before .before .args .built)) (c .before .before .before .before .before .before .before .before .before .before .args .n)) (lineEntries (now (c .before .before .before .before .before .before .before .before .before .before .args .built)) (c .before .before .before .before .before .before .before .before .before .before .args .n)) (c .before .before .line-positions .ensures) (c .before .before .before .before .before .line-runs .ensures) (c .before .before .before .before .line-entries .ensures) (ap (λ (k : Lay). k .trips) (c .before .before .before .before .before .before .before .before .before .before .pre .1 .0))))
 
 pub put-positions-spec : {M : Type 1} → statement M
 put-positions-spec =
     tie.close
     (tie.spec
-    mul-a
-    add-a
-    add-a-2
+    positions-at-requires
     add-b
     line-runs-requires
     line-entries-requires

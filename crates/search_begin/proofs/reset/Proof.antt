@@ -5,6 +5,7 @@ use lib.ListN.{replicate}
 use lib.Ieee.{Float}
 use Rattle.label.specs.Label.{noDistance}
 use Rattle.search_begin.proofs.Filling.{fresh}
+use Rattle.search_state.proofs.Part.{few-of}
 use borrow.Author.Needs.{needs}
 use Rattle.search_begin.proofs.reset.Statement.{statement}
 use Rattle.search_begin.proofs.reset.Tie as tie
@@ -12,8 +13,8 @@ use Rattle.search_begin.proofs.reset.Tie as tie
 zero-all-requires : tie.Need-zero-all-requires
 zero-all-requires c κs = search needs
 
-mul-reach : tie.Need-mul-reach
-mul-reach c = search needs
+reach-at-requires : tie.Need-reach-at-requires
+reach-at-requires c κs = few-of (c .before .before .before .before .before .before .before .before .before .before .before .before .before .pre .sections)
 
 fill-requires : tie.Need-fill-requires
 fill-requires c κs = search needs
@@ -34,14 +35,14 @@ same-length-3 : tie.Need-same-length-3
 same-length-3 c = search needs
 
 returns : tie.Need-returns
-returns c = let a = c .before .before .before .before .before .before .before .before .before .before .before .before .before .before .before .before .before .before .before .before .before .before .before in let x = a .args in let z = c .before .before .before .before .before .before .before .before .before .before .before .before .before .before .before .before .zero-all .ensures in (fresh (x .lay) (now (x .work)) _ _ _ _ _ (a .pre .sections) (z .0) (c .before .before .before .before .before .before .before .fill .ensures) (c .before .before .fill2 .ensures) (z .1 .0 ∙ ap (λ (n : ℕ). replicate {A = ℕ} n 0) (a .pre .rows)) (z .1 .1 ∙ ap (λ (n : ℕ). replicate {A = Float} n noDistance) (a .pre .metres)), z .1 .1)
+returns c = let a = c .before .before .before .before .before .before .before .before .before .before .before .before .before .before .before .before .before .before .before .before .before .before .before in let x = a .args in let z = c .before .before .before .before .before .before .before .before .before .before .before .before .before .before .before .before .zero-all .ensures in (fresh (x .lay) (now (x .work)) _ _ _ _ _ (a .pre .sections) (z .0) (c .before .before .before .before .before .before .before .fill .ensures) (rw (c .before .before .before .before .before .before .before .before .before .reach-at .ensures) at (c .before .before .fill2 .ensures)) (z .1 .0 ∙ ap (λ (n : ℕ). replicate {A = ℕ} n 0) (a .pre .rows)) (z .1 .1 ∙ ap (λ (n : ℕ). replicate {A = Float} n noDistance) (a .pre .metres)), z .1 .1)
 
 pub reset-spec : {M : Type 1} → statement M
 reset-spec =
     tie.close
     (tie.spec
     zero-all-requires
-    mul-reach
+    reach-at-requires
     fill-requires
     add-fill
     fill-requires-2

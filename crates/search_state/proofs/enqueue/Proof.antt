@@ -1,12 +1,13 @@
 use denote.Ref.{now}
 use mathlib.Core.Path.{sym, _∙_}
 use Rattle.search_state.proofs.Queue.{queue-not, queue-full, queue-put}
+use Rattle.search_state.proofs.Part.{few-of}
 use borrow.Author.Needs.{needs}
 use Rattle.search_state.proofs.enqueue.Statement.{statement}
 use Rattle.search_state.proofs.enqueue.Tie as tie
 
-mul-at : tie.Need-mul-at
-mul-at c = search needs
+reach-at-requires : tie.Need-reach-at-requires
+reach-at-requires c κs = few-of (c .before .before .pre .0)
 
 cast-at : tie.Need-cast-at
 cast-at c = search needs
@@ -24,10 +25,10 @@ both-requires : tie.Need-both-requires
 both-requires c κs = search needs
 
 returns : tie.Need-returns
-returns c = λ stamp l m ok. let a = c .before .before .before .before .before .before .before in let x = a .args in let g = x .seg in queue-not (x .lay) stamp (now (x .work)) l m (x .h) (now (x .queue)) (x .plain) (g .trip) (g .offset) (g .stop) (g .shift) ok (a .pre .1 .0) (a .pre .1 .1) (sym (c .before .both .ensures) ∙ c .if1 .taken)
+returns c = λ stamp l m ok. let a = c .before .before .before .before .before .before .before in let x = a .args in let g = x .seg in queue-not (x .lay) stamp (now (x .work)) l m (x .h) (now (x .queue)) (x .plain) (g .trip) (g .offset) (g .stop) (g .shift) ok (a .pre .1 .0) (a .pre .1 .1) (sym (rw (c .before .before .before .before .reach-at .ensures) at (c .before .both .ensures)) ∙ c .if1 .taken)
 
 returns-2 : tie.Need-returns-2
-returns-2 c = λ stamp l m ok. let a = c .before .before .before .before .before .before .before .before in let x = a .args in let g = x .seg in queue-full (x .lay) stamp (now (x .work)) l m (x .h) (now (x .queue)) (x .plain) (g .trip) (g .offset) (g .stop) (g .shift) ok (a .pre .1 .0) (a .pre .1 .1) (sym (c .before .before .both .ensures) ∙ c .before .if1 .left) (c .if2 .taken)
+returns-2 c = λ stamp l m ok. let a = c .before .before .before .before .before .before .before .before in let x = a .args in let g = x .seg in queue-full (x .lay) stamp (now (x .work)) l m (x .h) (now (x .queue)) (x .plain) (g .trip) (g .offset) (g .stop) (g .shift) ok (a .pre .1 .0) (a .pre .1 .1) (sym (rw (c .before .before .before .before .before .reach-at .ensures) at (c .before .before .both .ensures)) ∙ c .before .if1 .left) (c .if2 .taken)
 
 put-segment-requires : tie.Need-put-segment-requires
 put-segment-requires c κs = search needs
@@ -45,13 +46,13 @@ same-length-2 : tie.Need-same-length-2
 same-length-2 c = search needs
 
 returns-3 : tie.Need-returns-3
-returns-3 c = λ stamp l m ok. let a = c .before .before .before .before .before .before .before .before .before .before .before .before .before .before .before .before in let x = a .args in let g = x .seg in queue-put (x .lay) stamp (now (x .work)) l m (x .h) (now (x .queue)) (x .plain) (g .trip) (g .offset) (g .stop) (g .shift) ok (a .pre .1 .0) (a .pre .1 .1) _ _ (sym (c .before .before .before .before .before .before .before .before .before .before .both .ensures) ∙ c .before .before .before .before .before .before .before .before .before .if1 .left) (c .before .before .before .before .before .before .before .before .if2 .left) (c .before .before .before .before .before .before .put-segment .ensures) (c .before .before .lower .ensures)
+returns-3 c = λ stamp l m ok. let a = c .before .before .before .before .before .before .before .before .before .before .before .before .before .before .before .before in let x = a .args in let g = x .seg in queue-put (x .lay) stamp (now (x .work)) l m (x .h) (now (x .queue)) (x .plain) (g .trip) (g .offset) (g .stop) (g .shift) ok (a .pre .1 .0) (a .pre .1 .1) _ _ (sym (rw (c .before .before .before .before .before .before .before .before .before .before .before .before .before .reach-at .ensures) at (c .before .before .before .before .before .before .before .before .before .before .both .ensures)) ∙ c .before .before .before .before .before .before .before .before .before .if1 .left) (c .before .before .before .before .before .before .before .before .if2 .left) (c .before .before .before .before .before .before .put-segment .ensures) (rw (c .before .before .before .before .before .before .before .before .before .before .before .before .before .reach-at .ensures) at (c .before .before .lower .ensures))
 
 pub enqueue-spec : {M : Type 1} → statement M
 enqueue-spec =
     tie.close
     (tie.spec
-    mul-at
+    reach-at-requires
     cast-at
     add-at
     mul-both

@@ -1,30 +1,26 @@
 use denote.Ref.{now}
 use mathlib.Core.Path.{refl}
 use Rattle.search_state.proofs.Steps.{improve-is}
+use native.Mathlib.Omega.{arith}
+use Rattle.search_state.proofs.Part.{few-of}
 use borrow.Author.Needs.{needs}
 use Rattle.search_state.proofs.improve.Statement.{statement}
 use Rattle.search_state.proofs.improve.Tie as tie
 
-mul-at : tie.Need-mul-at
-mul-at c = search needs
+rest-at-requires : tie.Need-rest-at-requires
+rest-at-requires c κs = few-of (c .before .before .before .pre .0 .sized .sections)
 
 add-at : tie.Need-add-at
-add-at c = search needs
-
-add-at-2 : tie.Need-add-at-2
-add-at-2 c = search needs
-
-add-at-3 : tie.Need-add-at-3
-add-at-3 c = search needs
+add-at c = let a = c .before .before .before .before in let s = a .pre .0 .sized .sections in omega (arith, c .rest-at .ensures, s .stops, s .trips, a .pre .1 .0)
 
 mul-best-after : tie.Need-mul-best-after
 mul-best-after c = search needs
 
 slice-read-best-after : tie.Need-slice-read-best-after
-slice-read-best-after c = search needs
+slice-read-best-after c = let a = c .before .before .before .before .before in let s = a .pre .0 .sized .sections in omega (arith, c .before .rest-at .ensures, s .words, a .pre .1 .0)
 
 best-after-requires : tie.Need-best-after-requires
-best-after-requires c κs = let a = c .before .before .before .before .before .before in (a .pre .0 .walks .small (a .args .s) (a .pre .1 .0), a .pre .1 .1)
+best-after-requires c κs = let a = c .before .before .before .before .before in (rw (c .before .rest-at .ensures) (a .pre .0 .walks .small (a .args .s) (a .pre .1 .0)), a .pre .1 .1)
 
 mul-row : tie.Need-mul-row
 mul-row c = search needs
@@ -54,16 +50,14 @@ same-length-3 : tie.Need-same-length-3
 same-length-3 c = search needs
 
 returns : tie.Need-returns
-returns c = let a = c .before .before .before .before .before .before .before .before .before .before .before .before .before .before .before .before .before .before in let x = a .args in improve-is (x .lay) (x .stamp) (x .s) (x .v) (x .how) (now (x .work)) (now (x .labels)) (now (x .label-distances)) (x .h) (a .pre .0) (a .pre .1 .0) _ _ _ _ _ _ (c .before .before .before .before .before .before .before .before .before .mark .ensures) refl (c .before .before .before .before .store-label .ensures .0) (c .before .before .before .before .store-label .ensures .1) (c .before .before .before .before .before .before .before .before .before .before .before .best-after .ensures)
+returns c = let a = c .before .before .before .before .before .before .before .before .before .before .before .before .before .before .before .before .before in let x = a .args in improve-is (x .lay) (x .stamp) (x .s) (x .v) (x .how) (now (x .work)) (now (x .labels)) (now (x .label-distances)) (x .h) (a .pre .0) (a .pre .1 .0) _ _ _ _ _ _ (c .before .before .before .before .before .before .before .before .before .mark .ensures) refl (c .before .before .before .before .store-label .ensures .0) (c .before .before .before .before .store-label .ensures .1) (rw (c .before .before .before .before .before .before .before .before .before .before .before .before .before .rest-at .ensures) at (c .before .before .before .before .before .before .before .before .before .before .before .best-after .ensures))
 
 pub improve-spec : {M : Type 1} → statement M
 improve-spec =
     tie.close
     (tie.spec
-    mul-at
+    rest-at-requires
     add-at
-    add-at-2
-    add-at-3
     mul-best-after
     slice-read-best-after
     best-after-requires

@@ -1,6 +1,7 @@
 use denote.Ref.{now}
 use native.Mathlib.Omega.{arith}
 use Rattle.search_state.proofs.Starts.{start-late, start-early}
+use Rattle.search_state.proofs.Part.{few-of}
 use borrow.Author.Needs.{needs}
 use Rattle.search_state.proofs.set_out.Statement.{statement}
 use Rattle.search_state.proofs.set_out.Tie as tie
@@ -8,26 +9,20 @@ use Rattle.search_state.proofs.set_out.Tie as tie
 add-v : tie.Need-add-v
 add-v c = search needs
 
-mul-at : tie.Need-mul-at
-mul-at c = search needs
+rest-at-requires : tie.Need-rest-at-requires
+rest-at-requires c κs = few-of (c .before .before .before .pre .0 .sized .sections)
 
 add-at : tie.Need-add-at
-add-at c = search needs
-
-add-at-2 : tie.Need-add-at-2
-add-at-2 c = search needs
-
-add-at-3 : tie.Need-add-at-3
-add-at-3 c = search needs
+add-at c = let a = c .before .before .before .before in let s = a .pre .0 .sized .sections in omega (arith, c .rest-at .ensures, s .stops, s .trips, a .pre .1 .0)
 
 mul-best-after : tie.Need-mul-best-after
 mul-best-after c = search needs
 
 slice-read-best-after : tie.Need-slice-read-best-after
-slice-read-best-after c = search needs
+slice-read-best-after c = let a = c .before .before .before .before .before in let s = a .pre .0 .sized .sections in omega (arith, c .before .rest-at .ensures, s .words, a .pre .1 .0)
 
 best-after-requires : tie.Need-best-after-requires
-best-after-requires c κs = let a = c .before .before .before .before .before .before in (a .pre .0 .walks .small (a .args .stop) (a .pre .1 .0), a .pre .1 .1)
+best-after-requires c κs = let a = c .before .before .before .before .before in (rw (c .before .rest-at .ensures) (a .pre .0 .walks .small (a .args .stop) (a .pre .1 .0)), a .pre .1 .1)
 
 mul-if1 : tie.Need-mul-if1
 mul-if1 c = search needs
@@ -36,7 +31,7 @@ slice-read-if1 : tie.Need-slice-read-if1
 slice-read-if1 c = search needs
 
 returns : tie.Need-returns
-returns c = let a = c .before .before .before .before .before .before .before .before .before in let x = a .args in start-late (x .lay) (x .start) (x .stop) (x .duration) (x .distance) (now (x .work)) (now (x .labels)) (now (x .label-distances)) (x .h) (a .pre .0) (a .pre .1 .0) _ (c .if1 .taken) (c .before .before .best-after .ensures)
+returns c = let a = c .before .before .before .before .before .before .before .before in let x = a .args in start-late (x .lay) (x .start) (x .stop) (x .duration) (x .distance) (now (x .work)) (now (x .labels)) (now (x .label-distances)) (x .h) (a .pre .0) (a .pre .1 .0) _ (c .if1 .taken) (rw (c .before .before .before .before .rest-at .ensures) at (c .before .before .best-after .ensures))
 
 enter-requires : tie.Need-enter-requires
 enter-requires c κs = search needs
@@ -47,8 +42,8 @@ record-of-requires c κs = search needs
 store-label-requires : tie.Need-store-label-requires
 store-label-requires c κs = search needs
 
-add-t17 : tie.Need-add-t17
-add-t17 c = let a = c .before .before .before .before .before .before .before .before .before .before .before .before .before .before .before .before .before .before .before .before .before in omega (arith, a .pre .0 .room, a .pre .0 .sized .sections .stops)
+add-t16 : tie.Need-add-t16
+add-t16 c = let a = c .before .before .before .before .before .before .before .before .before .before .before .before .before .before .before .before .before .before .before .before in omega (arith, a .pre .0 .room, a .pre .0 .sized .sections .stops)
 
 same-length : tie.Need-same-length
 same-length c = search needs
@@ -60,17 +55,15 @@ same-length-3 : tie.Need-same-length-3
 same-length-3 c = search needs
 
 returns-2 : tie.Need-returns-2
-returns-2 c = let a = c .before .before .before .before .before .before .before .before .before .before .before .before .before .before .before .before .before .before .before .before .before in let x = a .args in start-early (x .lay) (x .start) (x .stop) (x .duration) (x .distance) (now (x .work)) (now (x .labels)) (now (x .label-distances)) (x .h) (a .pre .0) (a .pre .1 .0) _ _ _ _ _ (c .before .before .before .before .before .before .before .before .before .before .before .before .if1 .left) (c .before .before .before .before .before .before .before .before .before .before .before .before .before .before .best-after .ensures) (c .before .before .before .before .before .before .before .before .before .before .enter .ensures) (c .before .before .before .before .before .record-of .ensures) (c .before .before .before .before .store-label .ensures .0) (c .before .before .before .before .store-label .ensures .1)
+returns-2 c = let a = c .before .before .before .before .before .before .before .before .before .before .before .before .before .before .before .before .before .before .before .before in let x = a .args in start-early (x .lay) (x .start) (x .stop) (x .duration) (x .distance) (now (x .work)) (now (x .labels)) (now (x .label-distances)) (x .h) (a .pre .0) (a .pre .1 .0) _ _ _ _ _ (c .before .before .before .before .before .before .before .before .before .before .before .before .if1 .left) (rw (c .before .before .before .before .before .before .before .before .before .before .before .before .before .before .before .before .rest-at .ensures) at (c .before .before .before .before .before .before .before .before .before .before .before .before .before .before .best-after .ensures)) (c .before .before .before .before .before .before .before .before .before .before .enter .ensures) (c .before .before .before .before .before .record-of .ensures) (c .before .before .before .before .store-label .ensures .0) (c .before .before .before .before .store-label .ensures .1)
 
 pub set-out-spec : {M : Type 1} → statement M
 set-out-spec =
     tie.close
     (tie.spec
     add-v
-    mul-at
+    rest-at-requires
     add-at
-    add-at-2
-    add-at-3
     mul-best-after
     slice-read-best-after
     best-after-requires
@@ -80,7 +73,7 @@ set-out-spec =
     enter-requires
     record-of-requires
     store-label-requires
-    add-t17
+    add-t16
     same-length
     same-length-2
     same-length-3
