@@ -133,8 +133,8 @@ SavoikyAnswer savoiky_skipped(uint32_t flags);
  * delay), the trips strictly rising; 4,294,967,295 is an unknown trip, which may repeat at the end. Stop rows of five (delay row,
  * sequence, flags as above, departure delay, arrival delay), strictly rising by delay row, then sequence. Questions 1, 2, 4, 5, 6.
  */
-SavoikyAnswer savoiky_margin(uint32_t trips, uint32_t delay_rows, uint32_t stop_row_count, const uint32_t *rows, size_t rows_len,
-    const uint32_t *stop_rows, size_t stop_rows_len);
+SavoikyAnswer savoiky_margin(uint32_t trips, uint32_t delay_row_count, uint32_t stop_row_count, const uint32_t *delay_rows,
+    size_t delay_rows_len, const uint32_t *stop_rows, size_t stop_rows_len);
 
 /* The answer of delay_at: code 0, and known 1 where the trip has a delay row; or the number of the first no, the rest 0. */
 typedef struct SavoikyDelayAt {
@@ -150,8 +150,8 @@ SAVOIKY_SIZE(SavoikyDelayAt, 24);
 /* What the delay tables say of the stop time of a trip with this sequence number: known 1 where the trip has a delay row. The
  * same questions, and 4 for a trip not below the count.
  */
-SavoikyDelayAt savoiky_delay_at(uint32_t trips, uint32_t delay_rows, uint32_t stop_row_count, const uint32_t *rows,
-    size_t rows_len, const uint32_t *stop_rows, size_t stop_rows_len, uint32_t trip, uint32_t sequence);
+SavoikyDelayAt savoiky_delay_at(uint32_t trips, uint32_t delay_row_count, uint32_t stop_row_count, const uint32_t *delay_rows,
+    size_t delay_rows_len, const uint32_t *stop_rows, size_t stop_rows_len, uint32_t trip, uint32_t sequence);
 
 /* The service second of a clock reading: 3600 hour + 60 minute + second. Question 5: hour at most 47, minute and second at
  * most 59.
@@ -160,7 +160,7 @@ SavoikyAnswer savoiky_service_second(uint32_t hour, uint32_t minute, uint32_t se
 
 /* LABELS: when and how a stop was reached in a round. A stop has 13 rows: row 0 is its access walk, round k writes row k + 1. The
  * label of stop s, row r is record 13 s + r: eight words from 8 (13 s + r) on in `labels` and one f64 at 13 s + r in
- * `distances`. So `labels` has 104 words a stop and `distances` 13. The words, unused ones 0, an unused distance 0.0:
+ * `label_distances`. So `labels` has 104 words a stop and `label_distances` 13. The words, unused ones 0, an unused distance 0.0:
  *   0 empty
  *   1 Access: stop_idx, arrival_s, walk_duration; the distance is the origin's
  *   2 Transit: arrival_s, trip_idx, board_stop, board_off, alight_off, prev_round, time_shift_s
@@ -177,17 +177,18 @@ SavoikyAnswer savoiky_service_second(uint32_t hour, uint32_t minute, uint32_t se
 
 /* Stores an Access label. Question 4: stop and stop_idx below the count of stops. */
 uint32_t savoiky_label_store_access(uint32_t stops, uint32_t stop, uint32_t row, uint32_t stop_idx, uint32_t arrival_s,
-    uint32_t walk_duration, double walk_distance, uint32_t *labels, size_t labels_len, double *distances, size_t distances_len);
+    uint32_t walk_duration, double walk_distance, uint32_t *labels, size_t labels_len, double *label_distances,
+    size_t label_distances_len);
 
 /* Stores a Transit label. Question 4: stop and board_stop below the count of stops. */
 uint32_t savoiky_label_store_transit(uint32_t stops, uint32_t stop, uint32_t row, uint32_t arrival_s, uint32_t trip_idx,
     uint32_t board_stop, uint32_t board_off, uint32_t alight_off, uint32_t prev_round, uint32_t time_shift_s, uint32_t *labels,
-    size_t labels_len, double *distances, size_t distances_len);
+    size_t labels_len, double *label_distances, size_t label_distances_len);
 
 /* Stores a Walk label. Question 4: stop, from_stop and to_stop below the count of stops. */
 uint32_t savoiky_label_store_walk(uint32_t stops, uint32_t stop, uint32_t row, uint32_t arrival_s, uint32_t from_stop,
     uint32_t to_stop, uint32_t duration_s, double distance_m, uint32_t prev_round, uint32_t *labels, size_t labels_len,
-    double *distances, size_t distances_len);
+    double *label_distances, size_t label_distances_len);
 
 /* A label as the tables hold it: the kind, its fields in their order, unused ones 0, and the distance. */
 typedef struct SavoikyLabelRow {
@@ -212,7 +213,7 @@ SAVOIKY_SIZE(SavoikyLabelAnswer, 48);
 
 /* Reads a label. Question 4: stop below the count of stops; the label's own numbers are given as they stand. */
 SavoikyLabelAnswer savoiky_label_load(uint32_t stops, uint32_t stop, uint32_t row, const uint32_t *labels, size_t labels_len,
-    const double *distances, size_t distances_len);
+    const double *label_distances, size_t label_distances_len);
 
 /* THE TIMETABLE, `tables`, is one slice of 6 times + 8 trips + 3 windows + 5 edges + stops words, in this order:
  *   stop times, six words: stop, arrival, departure, sequence (any number), pickup, drop-off (0 to 3; only 1 bars)

@@ -129,21 +129,21 @@ extern "C" {
     pub fn savoiky_effective_departure(departure: u32, trip_delay: u32, flags: u32, departure_delay: u32) -> Answer;
     pub fn savoiky_effective_arrival(arrival: u32, time_shift_s: u32, trip_delay: u32, flags: u32, arrival_delay: u32) -> Answer;
     pub fn savoiky_skipped(flags: u32) -> Answer;
-    pub fn savoiky_margin(trips: u32, delay_rows: u32, stop_row_count: u32, rows: *const u32, rows_len: usize,
+    pub fn savoiky_margin(trips: u32, delay_row_count: u32, stop_row_count: u32, delay_rows: *const u32, delay_rows_len: usize,
         stop_rows: *const u32, stop_rows_len: usize) -> Answer;
-    pub fn savoiky_delay_at(trips: u32, delay_rows: u32, stop_row_count: u32, rows: *const u32, rows_len: usize,
+    pub fn savoiky_delay_at(trips: u32, delay_row_count: u32, stop_row_count: u32, delay_rows: *const u32, delay_rows_len: usize,
         stop_rows: *const u32, stop_rows_len: usize, trip: u32, sequence: u32) -> DelayAt;
     pub fn savoiky_service_second(hour: u32, minute: u32, second: u32) -> Answer;
     pub fn savoiky_label_store_access(stops: u32, stop: u32, row: u32, stop_idx: u32, arrival_s: u32, walk_duration: u32,
-        walk_distance: f64, labels: *mut u32, labels_len: usize, distances: *mut f64, distances_len: usize) -> u32;
+        walk_distance: f64, labels: *mut u32, labels_len: usize, label_distances: *mut f64, label_distances_len: usize) -> u32;
     pub fn savoiky_label_store_transit(stops: u32, stop: u32, row: u32, arrival_s: u32, trip_idx: u32, board_stop: u32,
         board_off: u32, alight_off: u32, prev_round: u32, time_shift_s: u32, labels: *mut u32, labels_len: usize,
-        distances: *mut f64, distances_len: usize) -> u32;
+        label_distances: *mut f64, label_distances_len: usize) -> u32;
     pub fn savoiky_label_store_walk(stops: u32, stop: u32, row: u32, arrival_s: u32, from_stop: u32, to_stop: u32,
-        duration_s: u32, distance_m: f64, prev_round: u32, labels: *mut u32, labels_len: usize, distances: *mut f64,
-        distances_len: usize) -> u32;
-    pub fn savoiky_label_load(stops: u32, stop: u32, row: u32, labels: *const u32, labels_len: usize, distances: *const f64,
-        distances_len: usize) -> LabelAnswer;
+        duration_s: u32, distance_m: f64, prev_round: u32, labels: *mut u32, labels_len: usize, label_distances: *mut f64,
+        label_distances_len: usize) -> u32;
+    pub fn savoiky_label_load(stops: u32, stop: u32, row: u32, labels: *const u32, labels_len: usize, label_distances: *const f64,
+        label_distances_len: usize) -> LabelAnswer;
     pub fn savoiky_sort_stop_departures(stops: u32, trips: u32, times: u32, windows: u32, edges: u32, departures: u32,
         tables: *const u32, tables_len: usize, runs: *const u32, runs_len: usize, rows: *mut u32, rows_len: usize,
         marks: *mut u32, marks_len: usize, work: *mut u64, work_len: usize, other: *mut u64, other_len: usize) -> u32;

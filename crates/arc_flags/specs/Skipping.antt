@@ -1,4 +1,5 @@
--- Which tables and queries agree with patterns, egress rows and transfers as the slices hold them; whether flags skip a row, and counts of such rows. Definitions only.
+-- Which tables and queries agree with patterns, egress rows and transfers as the slices hold them; whether flags skip a row, and counts of such rows.
+-- Definitions only.
 -- Inner: nobody has to believe this.
 use Prim.Native.Nat.{ℕ, _+_, _*_, _/_, _<_, _≤_}
 use mathlib.Core.Path.{_≡_}
@@ -47,7 +48,8 @@ eventRunLength runs e = getD runs (e * 2 + 1) 0
 pub record Transferring (T : Tables) (runs area : List ℕ) : Type 0 where
   pub events : length runs ≡ eventsBefore (T .timetable) (T .timetable .trips) * 2
   pub transfers : (i o : ℕ) → i < T .timetable .trips → o < T .timetable .trip i .count
-      → T .transfers i o ≡ tab (λ k. transferAt area (eventRunFirst runs (eventsBefore (T .timetable) i + o) + k)) (eventRunLength runs (eventsBefore (T .timetable) i + o))
+      → T .transfers i o ≡ tab (λ k. transferAt area (eventRunFirst runs (eventsBefore (T .timetable) i + o) + k))
+      (eventRunLength runs (eventsBefore (T .timetable) i + o))
 
 -- the area has so many rows
 pub record RowsIn (area : List ℕ) (rows : ℕ) : Type 0 where

@@ -56,7 +56,8 @@ fn pattern_bytes(patterns: &[u8], p: usize) -> [u8; 64]
 // Does a pattern hold a target cell? A pattern number past the table counts as holding all.
 pub fn holds_target(patterns: &[u8], count: usize, target: CellBitSet, p: usize) -> bool
     requires { ⌜ PatternsOk (now patterns) count ⌝ }
-    ensures { λ r. ⌜ ((T : Tables) (Q : Query) → Patterned T (now (patterns .entry)) count → target ≡ targetCells T Q → r ≡ holdsTarget T Q p) ⌝ }
+    ensures { λ r. ⌜ ((T : Tables) (Q : Query) → Patterned T (now (patterns .entry)) count → target ≡ targetCells T Q
+        → r ≡ holdsTarget T Q p) ⌝ }
 {
     if count <= p {
         return true;
@@ -70,18 +71,19 @@ pub fn holds_target(patterns: &[u8], count: usize, target: CellBitSet, p: usize)
 }
 
 // Are there target cells and patterns, and are the flags not put off?
-pub fn use_arc_flags(count: usize, target: CellBitSet, off: bool) -> bool
-    ensures { λ r. ⌜ ((T : Tables) (Q : Query) → T .patterns ≡ count → Q .flagsOff ≡ off → target ≡ targetCells T Q → r ≡ useArcFlags T Q) ⌝ }
+pub fn use_arc_flags(count: usize, target: CellBitSet, flags_off: bool) -> bool
+    ensures { λ r. ⌜ ((T : Tables) (Q : Query) → T .patterns ≡ count → Q .flagsOff ≡ «flags_off» → target ≡ targetCells T Q
+        → r ≡ useArcFlags T Q) ⌝ }
 {
     let some = door::both(!target.is_empty(), !(count == 0));
-    door::both(some, !off)
+    door::both(some, !flags_off)
 }
 
 // Do the flags skip some walk edge?
 fn skips_edge(tables: &[u32], c: Counts, patterns: &[u8], count: usize, target: CellBitSet) -> bool
     requires { ⌜ Sane (now tables) c ⌝ ∗ ⌜ PatternsOk (now patterns) count ⌝ }
-    ensures { λ r. ⌜ ((T : Tables) (Q : Query) → T .timetable ≡ timetable (now (tables .entry)) c → Patterned T (now (patterns .entry)) count → target
-        ≡ targetCells T Q → r ≡ skipsEdge T Q) ⌝ }
+    ensures { λ r. ⌜ ((T : Tables) (Q : Query) → T .timetable ≡ timetable (now (tables .entry)) c → Patterned T (now (patterns .entry)) count
+        → target ≡ targetCells T Q → r ≡ skipsEdge T Q) ⌝ }
 {
     let n = c.edges;
     let mut k: usize = 0;
@@ -104,7 +106,8 @@ fn row_skipped(
     k: usize,
 ) -> bool
     requires { ⌜ PatternsOk (now patterns) count ⌝ ∗ ⌜ k * 4 + 4 ≤ length (now transfers) ⌝ }
-    ensures { λ r. ⌜ ((T : Tables) (Q : Query) → Aimed T Q (now (patterns .entry)) count target → r ≡ rowSkipped T Q (now (transfers .entry)) k) ⌝ }
+    ensures { λ r. ⌜ ((T : Tables) (Q : Query) → Aimed T Q (now (patterns .entry)) count target
+        → r ≡ rowSkipped T Q (now (transfers .entry)) k) ⌝ }
 {
     let p = words::field(transfers, k * 4 + 3);
     !holds_target(patterns, count, target, p)
@@ -116,20 +119,20 @@ fn first_skipped(
     patterns: &[u8],
     count: usize,
     target: CellBitSet,
-    rows: usize,
+    transfer_rows: usize,
 ) -> usize
-    requires { ⌜ PatternsOk (now patterns) count ⌝ ∗ ⌜ RowsIn (now transfers) rows ⌝ }
+    requires { ⌜ PatternsOk (now patterns) count ⌝ ∗ ⌜ RowsIn (now transfers) «transfer_rows» ⌝ }
     ensures { λ r. ⌜ ((T : Tables) (Q : Query) → Aimed T Q (now (patterns .entry)) count target → r
-        ≡ firstSkipped T Q (now (transfers .entry)) rows) ⌝ }
+        ≡ firstSkipped T Q (now (transfers .entry)) «transfer_rows») ⌝ }
 {
     let mut k: usize = 0;
-    while k < rows {
+    while k < transfer_rows {
         if row_skipped(transfers, patterns, count, target, k) {
             return k;
         }
         k += 1;
     }
-    rows
+    transfer_rows
 }
 
 // Has the run of some event row k?
@@ -196,7 +199,8 @@ fn counted_before(counts: &[u32], from: usize, n: usize, k: usize) -> u32
 // Has some event's run a row of the window that passes? By the counts: more pass before the run's end than before its first row.
 fn some_run_passes(runs: &[u32], from: usize, n: usize, counts: &[u32]) -> bool
     requires { ⌜ n < length (now counts) ⌝ }
-    ensures { λ r. ⌜ ((f : ℕ → Bool) → CountedFrom f from n (now (counts .entry)) → r ≡ someRun (withinRun f from n) (now (runs .entry))) ⌝ }
+    ensures { λ r. ⌜ ((f : ℕ → Bool) → CountedFrom f from n (now (counts .entry))
+        → r ≡ someRun (withinRun f from n) (now (runs .entry))) ⌝ }
 {
     let events = runs.len() / 2;
     let mut e: usize = 0;
@@ -237,17 +241,18 @@ fn window_skips(
 fn some_window_skips(
     runs: &[u32],
     transfers: &[u32],
-    rows: usize,
+    transfer_rows: usize,
     patterns: &[u8],
     count: usize,
     target: CellBitSet,
 ) -> bool
-    requires { ⌜ PatternsOk (now patterns) count ⌝ ∗ ⌜ RowsIn (now transfers) rows ⌝ ∗ ⌜ RunsIn (now runs) rows ⌝ }
+    requires { ⌜ PatternsOk (now patterns) count ⌝ ∗ ⌜ RowsIn (now transfers) «transfer_rows» ⌝
+        ∗ ⌜ RunsIn (now runs) «transfer_rows» ⌝ }
     ensures { λ r. ⌜ RunsSkip (now (runs .entry)) (now (transfers .entry)) (now (patterns .entry)) count target r ⌝ }
 {
     let mut from: usize = 0;
-    while from < rows {
-        let n = words::smaller(rows - from, 4096);
+    while from < transfer_rows {
+        let n = words::smaller(transfer_rows - from, 4096);
         if window_skips(runs, transfers, patterns, count, target, from, n) {
             return true;
         }
@@ -262,23 +267,24 @@ fn some_window_skips(
 fn skips_transfer(
     runs: &[u32],
     transfers: &[u32],
-    rows: usize,
+    transfer_rows: usize,
     patterns: &[u8],
     count: usize,
     target: CellBitSet,
 ) -> bool
-    requires { ⌜ PatternsOk (now patterns) count ⌝ ∗ ⌜ RowsIn (now transfers) rows ⌝ ∗ ⌜ RunsIn (now runs) rows ⌝ }
+    requires { ⌜ PatternsOk (now patterns) count ⌝ ∗ ⌜ RowsIn (now transfers) «transfer_rows» ⌝
+        ∗ ⌜ RunsIn (now runs) «transfer_rows» ⌝ }
     ensures { λ r. ⌜ ((T : Tables) (Q : Query) → Patterned T (now (patterns .entry)) count
         → Transferring T (now (runs .entry)) (now (transfers .entry)) → target ≡ targetCells T Q → r ≡ skipsTransfer T Q) ⌝ }
 {
-    let k = first_skipped(transfers, patterns, count, target, rows);
-    if rows <= k {
+    let k = first_skipped(transfers, patterns, count, target, transfer_rows);
+    if transfer_rows <= k {
         return false;
     }
     if some_run_has(runs, k) {
         return true;
     }
-    some_window_skips(runs, transfers, rows, patterns, count, target)
+    some_window_skips(runs, transfers, transfer_rows, patterns, count, target)
 }
 
 // Are the flags in use: not put off, and do they skip some walk edge or transfer?
@@ -287,21 +293,23 @@ pub fn flags_in_use(
     c: Counts,
     runs: &[u32],
     transfers: &[u32],
-    rows: usize,
+    transfer_rows: usize,
     patterns: &[u8],
     count: usize,
     target: CellBitSet,
-    off: bool,
+    flags_off: bool,
 ) -> bool
-    requires { ⌜ Sane (now tables) c ⌝ ∗ ⌜ PatternsOk (now patterns) count ⌝ ∗ ⌜ RowsIn (now transfers) rows ⌝ ∗ ⌜ RunsIn (now runs) rows ⌝ }
+    requires { ⌜ Sane (now tables) c ⌝ ∗ ⌜ PatternsOk (now patterns) count ⌝ ∗ ⌜ RowsIn (now transfers) «transfer_rows» ⌝
+        ∗ ⌜ RunsIn (now runs) «transfer_rows» ⌝ }
     ensures { λ r. ⌜ ((T : Tables) (Q : Query) → T .timetable ≡ timetable (now (tables .entry)) c → Patterned T (now (patterns .entry)) count
-        → Transferring T (now (runs .entry)) (now (transfers .entry)) → target ≡ targetCells T Q → Q .flagsOff ≡ off → r ≡ flagsInUse T Q) ⌝ }
+        → Transferring T (now (runs .entry)) (now (transfers .entry)) → target ≡ targetCells T Q → Q .flagsOff ≡ «flags_off»
+        → r ≡ flagsInUse T Q) ⌝ }
 {
-    if !use_arc_flags(count, target, off) {
+    if !use_arc_flags(count, target, flags_off) {
         return false;
     }
     if skips_edge(tables, c, patterns, count, target) {
         return true;
     }
-    skips_transfer(runs, transfers, rows, patterns, count, target)
+    skips_transfer(runs, transfers, transfer_rows, patterns, count, target)
 }

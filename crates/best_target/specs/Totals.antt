@@ -48,15 +48,15 @@ withReach b zero stop walk = b
 withReach b (suc v) stop walk = better b (v + walk) stop
 
 -- the labels, 13 rows to a stop, in slices of words and distances: every arrival is a time
-pub record LabelsOk (stops : ℕ) (labels : List ℕ) (distances : List Float) : Type 0 where
+pub record LabelsOk (stops : ℕ) (labels : List ℕ) (labelDistances : List Float) : Type 0 where
   pub few : stops ≤ 4096
   pub words : stops * 13 * 8 ≤ length labels
-  pub distances-long : stops * 13 ≤ length distances
-  pub small : (s r : ℕ) → s < stops → r < 13 → reachedBy (loaded labels distances (recordOf s r)) ≤ 134217728
+  pub distances-long : stops * 13 ≤ length labelDistances
+  pub small : (s r : ℕ) → s < stops → r < 13 → reachedBy (loaded labels labelDistances (recordOf s r)) ≤ 134217728
 
 -- a state whose labels are these
-pub record Labelled (a : Arrivals) (stops : ℕ) (labels : List ℕ) (distances : List Float) : Type 0 where
-  pub at : (s r : ℕ) → s < stops → r < 13 → getD (a .labels) (recordOf s r) Empty ≡ loaded labels distances (recordOf s r)
+pub record Labelled (a : Arrivals) (stops : ℕ) (labels : List ℕ) (labelDistances : List Float) : Type 0 where
+  pub at : (s r : ℕ) → s < stops → r < 13 → getD (a .labels) (recordOf s r) Empty ≡ loaded labels labelDistances (recordOf s r)
 
 -- THE CANDIDATES IN MEMORY, three words each: total, stop, row. The first m of them:
 abbrev pub candidateAt : List ℕ → ℕ → ℕ × ℕ × ℕ

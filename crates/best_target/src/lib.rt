@@ -141,8 +141,8 @@ fn row_target(
     row: u32,
 ) -> Target
     requires { ⌜ LabelsOk stops (now labels) (now «label_distances») ⌝ ∗ ⌜ EgressOk stops (now egress) ⌝ ∗ ⌜ row < 13 ⌝ }
-    ensures { λ r. ⌜ ((T : Tables) (Q : Query) (a : Arrivals) → Labelled a stops (now (labels .entry)) (now («label_distances» .entry)) → targetOf r
-        ≡ rowTarget T Q a row (egressRows (now (egress .entry))) (never, never)) ⌝ }
+    ensures { λ r. ⌜ ((T : Tables) (Q : Query) (a : Arrivals) → Labelled a stops (now (labels .entry)) (now («label_distances» .entry))
+        → targetOf r ≡ rowTarget T Q a row (egressRows (now (egress .entry))) (never, never)) ⌝ }
 {
     let n = egress.len() / 2;
     let mut total: u32 = 4294967295;
@@ -172,14 +172,14 @@ fn row_target(
 }
 
 // Candidate m.
-fn put_candidate(out: &mut [u32], m: usize, b: Target, row: u32)
-    requires { ⌜ m * 3 + 3 ≤ length (now out) ⌝ }
-    ensures { λ _. ⌜ CandidatePut (now (out .entry)) (now (out .exit)) m (b .total) (b .stop) row ⌝ }
+fn put_candidate(candidates: &mut [u32], m: usize, b: Target, row: u32)
+    requires { ⌜ m * 3 + 3 ≤ length (now candidates) ⌝ }
+    ensures { λ _. ⌜ CandidatePut (now (candidates .entry)) (now (candidates .exit)) m (b .total) (b .stop) row ⌝ }
 {
     let at = m * 3;
-    out[at] = b.total;
-    out[at + 1] = b.stop;
-    out[at + 2] = row;
+    candidates[at] = b.total;
+    candidates[at + 1] = b.stop;
+    candidates[at + 2] = row;
 }
 
 // Is the least total of a row a candidate: earlier than the last one taken, and not later than the best by more than the slack?
@@ -198,19 +198,19 @@ pub fn candidates(
     top: u32,
     slack: u32,
     rounds: u32,
-    out: &mut [u32],
+    candidates: &mut [u32],
 ) -> usize
     requires { ⌜ LabelsOk stops (now labels) (now «label_distances») ⌝
         ∗ ⌜ EgressOk stops (now egress) ⌝
         ∗ ⌜ rounds < 13 ⌝
-        ∗ ⌜ length (now out) ≡ 39 ⌝ }
-    ensures { λ r. ⌜ ZeroFrom (now (out .exit)) r ⌝
+        ∗ ⌜ length (now candidates) ≡ 39 ⌝ }
+    ensures { λ r. ⌜ ZeroFrom (now (candidates .exit)) r ⌝
         ∗ ⌜ ((T : Tables) (Q : Query) (a : Arrivals) → Labelled a stops (now (labels .entry)) (now («label_distances» .entry)) → Q .egress
-        ≡ egressRows (now (egress .entry)) → Q .settings .candidateSlack ≡ slack → candidatesIn (now (out .exit)) r
+        ≡ egressRows (now (egress .entry)) → Q .settings .candidateSlack ≡ slack → candidatesIn (now (candidates .exit)) r
         ≡ candidatesFrom T Q a top (suc rounds) 0 never) ⌝
         ∗ ⌜ r ≤ 13 ⌝ }
 {
-    words::clear_words(out);
+    words::clear_words(candidates);
     let mut last: u32 = 4294967295;
     let mut m: usize = 0;
     let mut row: u32 = 0;
@@ -220,7 +220,7 @@ pub fn candidates(
             row += 1;
             continue;
         }
-        put_candidate(out, m, b, row);
+        put_candidate(candidates, m, b, row);
         last = b.total;
         m += 1;
         row += 1;

@@ -7,7 +7,7 @@ use native.Mathlib.Omega.{arith}
 use lib.Dec.{eqb}
 use borrow.Author.Tests.{eq-eqb, ne-eqb}
 use Rattle.loops.specs.Iter.{Hit, hit, miss}
-use Rattle.loops.proofs.Search.{first-is, first-isnt, hit-below}
+use Rattle.loops.proofs.Search.{first-is, hit-below}
 use Rattle.delay_rows.specs.Delays.{DelayTables, unknownTrip, delayRow, stopRow, besideTrip, stopDelay}
 use Rattle.stop_delay.specs.Times.{noDelay}
 use Rattle.delay_lookup.specs.Sane.{DelayRows, StopRows}
@@ -71,7 +71,3 @@ module _ (D : DelayTables) (s : StopRows (D .stopRows) (D .stopRow)) (row sequen
 
   pub stop-only : (i j : ℕ) → stopRow D row sequence ≡ hit i → D .stopRow j .row ≡ row → D .stopRow j .sequence ≡ sequence → j < D .stopRows → j ≡ i
   stop-only i j e f g u = same-hit (sym (stop-is j f g u) ∙ e)
-
--- no delay row at all: no trip has one
-pub no-rows : (D : DelayTables) (trip : ℕ) → D .delays ≡ 0 → delayRow D trip ≡ miss
-no-rows D trip e = first-isnt (λ i. eqb (D .delay i .trip) trip) (D .delays) (λ j u. absurd (omega arith))

@@ -59,16 +59,16 @@ fn first_from(t: &[u32], width: usize, n: usize, key: u64) -> usize
 }
 
 // The delay row of a trip: the first one, by halving.
-pub fn delay_row(rows: &[u32], trip: u32) -> Found
-    requires { ⌜ DelayRows (delayRowCount (now rows)) (delayRowAt (now rows)) ⌝ }
-    ensures { λ r. ⌜ r ≡ foundOf (delayRow (delaysAlone (now (rows .entry))) trip) ⌝ }
+pub fn delay_row(delay_rows: &[u32], trip: u32) -> Found
+    requires { ⌜ DelayRows (delayRowCount (now «delay_rows»)) (delayRowAt (now «delay_rows»)) ⌝ }
+    ensures { λ r. ⌜ r ≡ foundOf (delayRow (delaysAlone (now («delay_rows» .entry))) trip) ⌝ }
 {
-    let n = rows.len() / 2;
-    let at = first_from(rows, 2, n, key_of(trip, 0));
+    let n = delay_rows.len() / 2;
+    let at = first_from(delay_rows, 2, n, key_of(trip, 0));
     if n <= at {
         return Found::Nothing;
     }
-    if rows[at * 2] == trip {
+    if delay_rows[at * 2] == trip {
         return Found::At(at);
     }
     Found::Nothing
@@ -92,12 +92,13 @@ fn stop_row(stop_rows: &[u32], row: u32, sequence: u32) -> Found
 }
 
 // What the tables say of a stop time, of a trip whose delay row is at `row`.
-pub fn stop_delay(rows: &[u32], stop_rows: &[u32], row: usize, sequence: u32) -> StopDelay
-    requires { ⌜ DelayRows (delayRowCount (now rows)) (delayRowAt (now rows)) ⌝ ∗ ⌜ row < delayRowCount (now rows) ⌝ }
+pub fn stop_delay(delay_rows: &[u32], stop_rows: &[u32], row: usize, sequence: u32) -> StopDelay
+    requires { ⌜ DelayRows (delayRowCount (now «delay_rows»)) (delayRowAt (now «delay_rows»)) ⌝
+        ∗ ⌜ row < delayRowCount (now «delay_rows») ⌝ }
     requires { ⌜ StopRows (stopRowCount (now «stop_rows»)) (stopRowAt (now «stop_rows»)) ⌝ }
-    ensures { λ r. ⌜ r ≡ stopDelay (delayTables (now (rows .entry)) (now («stop_rows» .entry))) (hit row) sequence ⌝ }
+    ensures { λ r. ⌜ r ≡ stopDelay (delayTables (now («delay_rows» .entry)) (now («stop_rows» .entry))) (hit row) sequence ⌝ }
 {
-    let own = delay_rows::delay_row_at(rows, row);
+    let own = delay_rows::delay_row_at(delay_rows, row);
     let found = stop_row(stop_rows, row as u32, sequence);
     match found {
         Found::At(j) => {
@@ -149,14 +150,15 @@ fn given_size(row: StopRow) -> u32
 }
 
 // The largest over each table.
-fn largest_trip(rows: &[u32]) -> u32
-    ensures { λ r. ⌜ r ≡ largest (λ i. sizeOf (delayRowAt (now (rows .entry)) i .delay)) (delayRowCount (now (rows .entry))) ⌝ }
+fn largest_trip(delay_rows: &[u32]) -> u32
+    ensures { λ r. ⌜ r ≡ largest (λ i. sizeOf (delayRowAt (now («delay_rows» .entry)) i .delay))
+        (delayRowCount (now («delay_rows» .entry))) ⌝ }
 {
-    let n = rows.len() / 2;
+    let n = delay_rows.len() / 2;
     let mut most: u32 = 0;
     let mut i: usize = 0;
     while i < n {
-        most = words::larger_word(most, trip_size(delay_rows::delay_row_at(rows, i)));
+        most = words::larger_word(most, trip_size(delay_rows::delay_row_at(delay_rows, i)));
         i += 1;
     }
     most
@@ -176,12 +178,12 @@ fn largest_stop(stop_rows: &[u32]) -> u32
 }
 
 // The largest size among trip delays and given stop delays, at most the cap.
-pub fn rt_margin(rows: &[u32], stop_rows: &[u32], cap: u32) -> u32
-    ensures { λ r. ⌜ r ≡ margin (delayTables (now (rows .entry)) (now («stop_rows» .entry))) cap ⌝ }
+pub fn rt_margin(delay_rows: &[u32], stop_rows: &[u32], cap: u32) -> u32
+    ensures { λ r. ⌜ r ≡ margin (delayTables (now («delay_rows» .entry)) (now («stop_rows» .entry))) cap ⌝ }
 {
     words::smaller_word(
         cap,
-        words::larger_word(largest_trip(rows), largest_stop(stop_rows)),
+        words::larger_word(largest_trip(delay_rows), largest_stop(stop_rows)),
     )
 }
 

@@ -41,13 +41,13 @@ pub enum Found {
 // Rows
 
 // Row i of each table.
-pub fn delay_row_at(rows: &[u32], i: usize) -> DelayRow
-    requires { ⌜ i < delayRowCount (now rows) ⌝ }
-    ensures { λ r. ⌜ r ≡ delayRowAt (now (rows .entry)) i ⌝ }
+pub fn delay_row_at(delay_rows: &[u32], i: usize) -> DelayRow
+    requires { ⌜ i < delayRowCount (now «delay_rows») ⌝ }
+    ensures { λ r. ⌜ r ≡ delayRowAt (now («delay_rows» .entry)) i ⌝ }
 {
     DelayRow {
-        trip: rows[i * 2],
-        delay: rows[i * 2 + 1],
+        trip: delay_rows[i * 2],
+        delay: delay_rows[i * 2 + 1],
     }
 }
 
@@ -126,12 +126,12 @@ fn previous(i: usize) -> usize
 }
 
 // Question 4, 5 or 6 of delay row i.
-fn delay_asked(question: u32, trips: u32, rows: &[u32], i: usize) -> bool
-    requires { ⌜ i < delayRowCount (now rows) ⌝ }
-    ensures { λ r. ⌜ r ≡ delayAsked question trips (delayRowAt (now (rows .entry))) i ⌝ }
+fn delay_asked(question: u32, trips: u32, delay_rows: &[u32], i: usize) -> bool
+    requires { ⌜ i < delayRowCount (now «delay_rows») ⌝ }
+    ensures { λ r. ⌜ r ≡ delayAsked question trips (delayRowAt (now («delay_rows» .entry))) i ⌝ }
 {
-    let row = delay_row_at(rows, i);
-    let prior = delay_row_at(rows, previous(i));
+    let row = delay_row_at(delay_rows, i);
+    let prior = delay_row_at(delay_rows, previous(i));
     let ordered = door::either(i == 0, trips_rise(prior, row));
     asked(
         question,
@@ -153,13 +153,14 @@ fn stop_asked(question: u32, n: usize, stop_rows: &[u32], j: usize) -> bool
 }
 
 // Question 4, 5 or 6 of every row of a table.
-fn delays_asked(question: u32, trips: u32, rows: &[u32]) -> bool
-    ensures { λ r. ⌜ r ≡ everyIn (delayAsked question trips (delayRowAt (now (rows .entry)))) 0 (delayRowCount (now (rows .entry))) ⌝ }
+fn delays_asked(question: u32, trips: u32, delay_rows: &[u32]) -> bool
+    ensures { λ r. ⌜ r ≡ everyIn (delayAsked question trips (delayRowAt (now («delay_rows» .entry)))) 0
+        (delayRowCount (now («delay_rows» .entry))) ⌝ }
 {
-    let n = rows.len() / 2;
+    let n = delay_rows.len() / 2;
     let mut i: usize = 0;
     while i < n {
-        if !delay_asked(question, trips, rows, i) {
+        if !delay_asked(question, trips, delay_rows, i) {
             return false;
         }
         i += 1;
@@ -168,7 +169,8 @@ fn delays_asked(question: u32, trips: u32, rows: &[u32]) -> bool
 }
 
 fn stops_asked(question: u32, n: usize, stop_rows: &[u32]) -> bool
-    ensures { λ r. ⌜ r ≡ everyIn (stopAsked question n (stopRowAt (now («stop_rows» .entry)))) 0 (stopRowCount (now («stop_rows» .entry))) ⌝ }
+    ensures { λ r. ⌜ r ≡ everyIn (stopAsked question n (stopRowAt (now («stop_rows» .entry)))) 0
+        (stopRowCount (now («stop_rows» .entry))) ⌝ }
 {
     let m = stop_rows.len() / 5;
     let mut j: usize = 0;
@@ -182,10 +184,10 @@ fn stops_asked(question: u32, n: usize, stop_rows: &[u32]) -> bool
 }
 
 // Question 4, 5 or 6 of both tables.
-pub fn rows_asked(question: u32, trips: u32, rows: &[u32], stop_rows: &[u32]) -> bool
-    ensures { λ r. ⌜ r ≡ rowsAsked question trips (delayTables (now (rows .entry)) (now («stop_rows» .entry))) ⌝ }
+pub fn rows_asked(question: u32, trips: u32, delay_rows: &[u32], stop_rows: &[u32]) -> bool
+    ensures { λ r. ⌜ r ≡ rowsAsked question trips (delayTables (now («delay_rows» .entry)) (now («stop_rows» .entry))) ⌝ }
 {
-    let delays = delays_asked(question, trips, rows);
-    let stops = stops_asked(question, rows.len() / 2, stop_rows);
+    let delays = delays_asked(question, trips, delay_rows);
+    let stops = stops_asked(question, delay_rows.len() / 2, stop_rows);
     door::both(delays, stops)
 }

@@ -40,15 +40,19 @@ use query_types::Terms;
 use tables::Counts;
 
 // The departures listed at stop x, two numbers each.
-pub fn departures_at(n: QueryCounts, built: &[u32], x: usize) -> &[u32]
-    requires { ⌜ Limits n ⌝
-        ∗ ⌜ marksAt n ≤ length (now built) ⌝
-        ∗ ⌜ RunsListed (n .timetable) (stopRuns (now built) n) (n .departures) ⌝
-        ∗ ⌜ x < n .timetable .stops ⌝ }
-    ensures { λ r. ⌜ now r ≡ departuresOf (stopRuns (now (built .entry)) n) (departureRows (now (built .entry)) n) x ⌝ }
+pub fn departures_at(counts: QueryCounts, built: &[u32], x: usize) -> &[u32]
+    requires { ⌜ Limits counts ⌝
+        ∗ ⌜ marksAt counts ≤ length (now built) ⌝
+        ∗ ⌜ RunsListed (counts .timetable) (stopRuns (now built) counts) (counts .departures) ⌝
+        ∗ ⌜ x < counts .timetable .stops ⌝ }
+    ensures { λ r. ⌜ now r ≡ departuresOf (stopRuns (now (built .entry)) counts) (departureRows (now (built .entry)) counts) x ⌝ }
 {
-    let r = departures::stop_run(query_input::stop_runs(built, n), x);
-    departures::departures_of(query_input::departure_rows(built, n), r.first, r.length)
+    let r = departures::stop_run(query_input::stop_runs(built, counts), x);
+    departures::departures_of(
+        query_input::departure_rows(built, counts),
+        r.first,
+        r.length,
+    )
 }
 
 // The first of departures in order that is not before m, by halving; their number where there is none.
@@ -143,7 +147,8 @@ fn board_listed(
         ∗ ⌜ Event (now tables) c trip off ⌝
         ∗ ⌜ after < 134217728 ⌝
         ∗ ⌜ RoundChains lay stamp c (now built) (now work) ⌝ }
-    ensures { λ r. ⌜ ((T : Tables) (Q : Query) (s : State) → Agree T Q (now (tables .entry)) c (now («delay_rows» .entry)) (now («stop_rows» .entry))
+    ensures { λ r. ⌜ ((T : Tables) (Q : Query) (s : State)
+        → Agree T Q (now (tables .entry)) c (now («delay_rows» .entry)) (now («stop_rows» .entry))
         → Asks Q terms → Agrees T lay c (now (built .entry)) (now (work .entry)) → Books lay stamp T Q (now (work .entry)) (s .boardings)
         → s .arrivals .best ≡ best → r ≡ boarding T Q stamp after (hitOf adj) trip off s) ⌝
         ∗ ⌜ AsBoarded (now (tables .entry)) c (now («delay_rows» .entry)) (now («stop_rows» .entry)) adj trip off after r ⌝ }
@@ -194,8 +199,8 @@ fn take_departure(
     queue: &mut [u32],
     h: Head,
 ) -> Head
-    requires { ⌜ Going (p .context) (slices (now tables) (now «delay_rows») (now «stop_rows») (now built) (now patterns) (now transfers)) (p .stamp)
-        (memory (now work) (now labels) (now «label_distances») h) (now queue) ⌝
+    requires { ⌜ Going (p .context) (slices (now tables) (now «delay_rows») (now «stop_rows») (now built) (now patterns) (now transfers))
+        (p .stamp) (memory (now work) (now labels) (now «label_distances») h) (now queue) ⌝
         ∗ ⌜ Event (now tables) (p .context .counts .timetable) (d .trip) (d .offset) ⌝
         ∗ ⌜ at .after < 134217728 ⌝ }
     ensures { λ r. ⌜ Rode (p .context .lay) (p .stamp)
@@ -257,7 +262,8 @@ fn take_departure(
 
 // At a stop without frequency trips: does a trip depart so late that no delay brings it before the best total?
 fn too_late(tables: &[u32], p: Phase, has_freq: bool, d: DepartureRow, best: u32) -> bool
-    requires { ⌜ Sane (now tables) (p .context .counts .timetable) ⌝ ∗ ⌜ Event (now tables) (p .context .counts .timetable) (d .trip) (d .offset) ⌝ }
+    requires { ⌜ Sane (now tables) (p .context .counts .timetable) ⌝
+        ∗ ⌜ Event (now tables) (p .context .counts .timetable) (d .trip) (d .offset) ⌝ }
     ensures { λ r. ⌜ ((T : Tables) (Q : Query) → T .timetable ≡ timetable (now (tables .entry)) (p .context .counts .timetable)
         → Asks Q (p .context .net .terms) → r ≡ (not «has_freq» && leb (best + marginOf T Q) (departure T (d .trip) (d .offset)))) ⌝ }
 {
@@ -285,8 +291,8 @@ pub fn scan_departures(
     queue: &mut [u32],
     h: Head,
 ) -> Head
-    requires { ⌜ Going (p .context) (slices (now tables) (now «delay_rows») (now «stop_rows») (now built) (now patterns) (now transfers)) (p .stamp)
-        (memory (now work) (now labels) (now «label_distances») h) (now queue) ⌝
+    requires { ⌜ Going (p .context) (slices (now tables) (now «delay_rows») (now «stop_rows») (now built) (now patterns) (now transfers))
+        (p .stamp) (memory (now work) (now labels) (now «label_distances») h) (now queue) ⌝
         ∗ ⌜ RowsKnown (now tables) (p .context .counts .timetable) (now list) (length (now list) / 2) ⌝
         ∗ ⌜ at .after < 134217728 ⌝ }
     ensures { λ r. ⌜ Rode (p .context .lay) (p .stamp)

@@ -78,7 +78,13 @@ runsFrom n (l ∷ ls) = n ∷ length l ∷ runsFrom (n + length l) ls
 
 -- transfer k of an area, and the transfers of a run
 abbrev pub transferAt : List ℕ → ℕ → Transfer
-transferAt area k = record { target = getD area (k * 4) 0; offset = getD area (k * 4 + 1) 0; time = getD area (k * 4 + 2) 0; pattern = getD area (k * 4 + 3) 0 }
+transferAt area k =
+    record {
+      target = getD area (k * 4) 0;
+      offset = getD area (k * 4 + 1) 0;
+      time = getD area (k * 4 + 2) 0;
+      pattern = getD area (k * 4 + 3) 0;
+    }
 
 abbrev pub transfersAt : List ℕ → StopRun → List Transfer
 transfersAt area r = tab (λ k. transferAt area (r .first + k)) (r .length)

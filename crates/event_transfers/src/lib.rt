@@ -65,7 +65,8 @@ fn first_from(part: &[u64], key: u64) -> usize
 
 // How many departures from the i-th on are of its line, where from the next one on `left` are of that one's.
 fn line_left(work: &[u64], i: usize, left: u64) -> u64
-    requires { ⌜ i < length (now work) ⌝ ∗ ⌜ (i + 1 < length (now work) → Stretch (now work) (i + 1) left) ⌝ ∗ ⌜ left < 4294967296 ⌝ }
+    requires { ⌜ i < length (now work) ⌝ ∗ ⌜ (i + 1 < length (now work) → Stretch (now work) (i + 1) left) ⌝
+        ∗ ⌜ left < 4294967296 ⌝ }
     ensures { λ r. ⌜ Stretch (now (work .entry)) i r ⌝ ∗ ⌜ r ≤ left + 1 ⌝ }
 {
     if work.len() <= i + 1 {
@@ -344,7 +345,8 @@ pub fn all_events(
     transfer_runs: &mut [u32],
     time: usize,
 ) -> usize
-    requires { ⌜ Sane (now tables) c ⌝ ∗ ⌜ RunsListed c (now runs) d ⌝ ∗ ⌜ SortedRuns c (now runs) (now work) (now ends) d ⌝ ∗ ⌜ time ≤ 3600 ⌝ }
+    requires { ⌜ Sane (now tables) c ⌝ ∗ ⌜ RunsListed c (now runs) d ⌝ ∗ ⌜ SortedRuns c (now runs) (now work) (now ends) d ⌝
+        ∗ ⌜ time ≤ 3600 ⌝ }
     ensures { λ r. ⌜ areaWalk r (now (area .exit)) (now («transfer_runs» .exit))
         ≡ layEvents time 0 (allKeys (prepared (now (tables .entry)) c (now (runs .entry)) (now (work .entry)) time))
         (areaWalk 0 (now (area .entry)) (now («transfer_runs» .entry))) ⌝
@@ -391,8 +393,8 @@ fn most_alight(
         ∗ ⌜ RunsListed c (now runs) d ⌝
         ∗ ⌜ SortedRuns c (now runs) (now work) (now ends) d ⌝
         ∗ ⌜ MostAt at (c .times) n time ⌝ }
-    ensures { λ r. ⌜ ((ti : ℕ) → Most n (length (alightKeys (prepared (now (tables .entry)) c (now (runs .entry)) (now (work .entry)) time) ti at)) r
-        0) ⌝ }
+    ensures { λ r. ⌜ ((ti : ℕ)
+        → Most n (length (alightKeys (prepared (now (tables .entry)) c (now (runs .entry)) (now (work .entry)) time) ti at)) r 0) ⌝ }
 {
     if 65536 < n {
         return n;
@@ -423,7 +425,8 @@ fn most_trip(
         ∗ ⌜ RunsListed c (now runs) d ⌝
         ∗ ⌜ SortedRuns c (now runs) (now work) (now ends) d ⌝
         ∗ ⌜ MostAt ti (c .trips) n time ⌝ }
-    ensures { λ r. ⌜ Most n (length (flatten (tripKeys (prepared (now (tables .entry)) c (now (runs .entry)) (now (work .entry)) time) ti))) r 0 ⌝ }
+    ensures { λ r. ⌜ Most n
+        (length (flatten (tripKeys (prepared (now (tables .entry)) c (now (runs .entry)) (now (work .entry)) time) ti))) r 0 ⌝ }
 {
     let first = tables::trip(tables, c, ti, 0);
     let count = tables::trip(tables, c, ti, 1);
@@ -446,7 +449,8 @@ pub fn most_all(
     ends: &[u64],
     time: usize,
 ) -> usize
-    requires { ⌜ Sane (now tables) c ⌝ ∗ ⌜ RunsListed c (now runs) d ⌝ ∗ ⌜ SortedRuns c (now runs) (now work) (now ends) d ⌝ ∗ ⌜ time ≤ 3600 ⌝ }
+    requires { ⌜ Sane (now tables) c ⌝ ∗ ⌜ RunsListed c (now runs) d ⌝ ∗ ⌜ SortedRuns c (now runs) (now work) (now ends) d ⌝
+        ∗ ⌜ time ≤ 3600 ⌝ }
     ensures { λ r. ⌜ Most 0 (length (flatten (allKeys (prepared (now (tables .entry)) c (now (runs .entry)) (now (work .entry)) time)))) r 0 ⌝ }
 {
     let trips = c.trips;
@@ -469,8 +473,10 @@ pub fn total(
     ends: &[u64],
     time: usize,
 ) -> usize
-    requires { ⌜ Sane (now tables) c ⌝ ∗ ⌜ RunsListed c (now runs) d ⌝ ∗ ⌜ SortedRuns c (now runs) (now work) (now ends) d ⌝ ∗ ⌜ time ≤ 3600 ⌝ }
-    ensures { λ r. ⌜ r ≡ min (length (flatten (allKeys (prepared (now (tables .entry)) c (now (runs .entry)) (now (work .entry)) time)))) 65537 ⌝ }
+    requires { ⌜ Sane (now tables) c ⌝ ∗ ⌜ RunsListed c (now runs) d ⌝ ∗ ⌜ SortedRuns c (now runs) (now work) (now ends) d ⌝
+        ∗ ⌜ time ≤ 3600 ⌝ }
+    ensures { λ r. ⌜ r
+        ≡ min (length (flatten (allKeys (prepared (now (tables .entry)) c (now (runs .entry)) (now (work .entry)) time)))) 65537 ⌝ }
 {
     let mut a = [0u32; 1];
     let mut v = [0u32; 1];

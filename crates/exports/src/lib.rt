@@ -21,7 +21,7 @@ ghost use Rattle.departures_call.specs.Call.{sortAreas, sortOutcomeOf, sortOutc
 ghost use Rattle.lines_call.specs.Call.{lineAreas, linesAnswer, linesOutcome};
 ghost use Rattle.layout_call.specs.Call.{layoutAreas, layoutOutcomeOf, layoutOutcome};
 ghost use Rattle.transfers_call.specs.Call.{transferAreas, transfersAnswer, transferLent, transfersOutcome};
-ghost use Rattle.query_input.specs.Lent.{lent as lentForQuery};
+ghost use Rattle.query_input.specs.Lent.{lent};
 ghost use Rattle.query_call.specs.Workspace.{workspaceAnswer};
 ghost use Rattle.query_reply.specs.Outcome.{queryAreas};
 ghost use Rattle.query_call.specs.Call.{runTbrOutcome, queryOutcome};
@@ -204,14 +204,21 @@ pub extern "C" fn savoiky_skipped(flags: u32) -> Answer
 #[no_mangle]
 pub extern "C" fn savoiky_margin(
     trips: u32,
-    delay_rows: u32,
+    delay_row_count: u32,
     stop_row_count: u32,
-    rows: &[u32],
+    delay_rows: &[u32],
     stop_rows: &[u32],
 ) -> Answer
-    ensures { λ r. ⌜ r ≡ marginOutcome trips «delay_rows» «stop_row_count» (now (rows .entry)) (now («stop_rows» .entry)) 21600 ⌝ }
+    ensures { λ r. ⌜ r ≡ marginOutcome trips «delay_row_count» «stop_row_count»
+        (now («delay_rows» .entry)) (now («stop_rows» .entry)) 21600 ⌝ }
 {
-    leaf_calls::capped_margin(trips, delay_rows, stop_row_count, rows, stop_rows)
+    leaf_calls::capped_margin(
+        trips,
+        delay_row_count,
+        stop_row_count,
+        delay_rows,
+        stop_rows,
+    )
 }
 
 // What the delay tables say of the stop time of a trip with this sequence number: known 1 where the trip has a delay row. The
@@ -219,20 +226,21 @@ pub extern "C" fn savoiky_margin(
 #[no_mangle]
 pub extern "C" fn savoiky_delay_at(
     trips: u32,
-    delay_rows: u32,
+    delay_row_count: u32,
     stop_row_count: u32,
-    rows: &[u32],
+    delay_rows: &[u32],
     stop_rows: &[u32],
     trip: u32,
     sequence: u32,
 ) -> DelayAt
-    ensures { λ r. ⌜ r ≡ delayAtOutcome trips «delay_rows» «stop_row_count» (now (rows .entry)) (now («stop_rows» .entry)) trip sequence ⌝ }
+    ensures { λ r. ⌜ r ≡ delayAtOutcome trips «delay_row_count» «stop_row_count»
+        (now («delay_rows» .entry)) (now («stop_rows» .entry)) trip sequence ⌝ }
 {
     leaf_calls::delay_at(
         trips,
-        delay_rows,
+        delay_row_count,
         stop_row_count,
-        rows,
+        delay_rows,
         stop_rows,
         trip,
         sequence,
@@ -250,7 +258,7 @@ pub extern "C" fn savoiky_service_second(hour: u32, minute: u32, second: u32) ->
 
 // LABELS: when and how a stop was reached in a round. A stop has 13 rows: row 0 is its access walk, round k writes row k + 1. The
 // label of stop s, row r is record 13 s + r: eight words from 8 (13 s + r) on in `labels` and one f64 at 13 s + r in
-// `distances`. So `labels` has 104 words a stop and `distances` 13. The words, unused ones 0, an unused distance 0.0:
+// `label_distances`. So `labels` has 104 words a stop and `label_distances` 13. The words, unused ones 0, an unused distance 0.0:
 //   0 empty
 //   1 Access: stop_idx, arrival_s, walk_duration; the distance is the origin's
 //   2 Transit: arrival_s, trip_idx, board_stop, board_off, alight_off, prev_round, time_shift_s
@@ -275,11 +283,11 @@ pub extern "C" fn savoiky_label_store_access(
     walk_duration: u32,
     walk_distance: f64,
     labels: &mut [u32],
-    distances: &mut [f64],
+    label_distances: &mut [f64],
 ) -> u32
-    ensures { λ r. ⌜ labelOutcome r (now (labels .exit)) (now (distances .exit))
+    ensures { λ r. ⌜ labelOutcome r (now (labels .exit)) (now («label_distances» .exit))
         ≡ storeOutcome (Access «stop_idx» «arrival_s» «walk_duration» «walk_distance») stops stop row (now (labels .entry))
-        (now (distances .entry)) ⌝ }
+        (now («label_distances» .entry)) ⌝ }
 {
     label_call::store_access(
         stops,
@@ -290,7 +298,7 @@ pub extern "C" fn savoiky_label_store_access(
         walk_duration,
         walk_distance,
         labels,
-        distances,
+        label_distances,
     )
 }
 
@@ -308,11 +316,11 @@ pub extern "C" fn savoiky_label_store_transit(
     prev_round: u32,
     time_shift_s: u32,
     labels: &mut [u32],
-    distances: &mut [f64],
+    label_distances: &mut [f64],
 ) -> u32
-    ensures { λ r. ⌜ labelOutcome r (now (labels .exit)) (now (distances .exit))
-        ≡ storeOutcome (Transit «arrival_s» «trip_idx» «board_stop» «board_off» «alight_off» «prev_round» «time_shift_s») stops stop row
-        (now (labels .entry)) (now (distances .entry)) ⌝ }
+    ensures { λ r. ⌜ labelOutcome r (now (labels .exit)) (now («label_distances» .exit))
+        ≡ storeOutcome (Transit «arrival_s» «trip_idx» «board_stop» «board_off» «alight_off» «prev_round» «time_shift_s»)
+        stops stop row (now (labels .entry)) (now («label_distances» .entry)) ⌝ }
 {
     label_call::store_transit(
         stops,
@@ -326,7 +334,7 @@ pub extern "C" fn savoiky_label_store_transit(
         prev_round,
         time_shift_s,
         labels,
-        distances,
+        label_distances,
     )
 }
 
@@ -343,11 +351,11 @@ pub extern "C" fn savoiky_label_store_walk(
     distance_m: f64,
     prev_round: u32,
     labels: &mut [u32],
-    distances: &mut [f64],
+    label_distances: &mut [f64],
 ) -> u32
-    ensures { λ r. ⌜ labelOutcome r (now (labels .exit)) (now (distances .exit))
-        ≡ storeOutcome (Walk «arrival_s» «from_stop» «to_stop» «duration_s» «distance_m» «prev_round») stops stop row (now (labels .entry))
-        (now (distances .entry)) ⌝ }
+    ensures { λ r. ⌜ labelOutcome r (now (labels .exit)) (now («label_distances» .exit))
+        ≡ storeOutcome (Walk «arrival_s» «from_stop» «to_stop» «duration_s» «distance_m» «prev_round»)
+        stops stop row (now (labels .entry)) (now («label_distances» .entry)) ⌝ }
 {
     label_call::store_walk(
         stops,
@@ -360,7 +368,7 @@ pub extern "C" fn savoiky_label_store_walk(
         distance_m,
         prev_round,
         labels,
-        distances,
+        label_distances,
     )
 }
 
@@ -371,11 +379,11 @@ pub extern "C" fn savoiky_label_load(
     stop: u32,
     row: u32,
     labels: &[u32],
-    distances: &[f64],
+    label_distances: &[f64],
 ) -> LabelAnswer
-    ensures { λ r. ⌜ r ≡ loadAnswer stops stop row (now (labels .entry)) (now (distances .entry)) ⌝ }
+    ensures { λ r. ⌜ r ≡ loadAnswer stops stop row (now (labels .entry)) (now («label_distances» .entry)) ⌝ }
 {
-    label_call::load(stops, stop, row, labels, distances)
+    label_call::load(stops, stop, row, labels, label_distances)
 }
 
 // THE TIMETABLE, `tables`, is one slice of 6 times + 8 trips + 3 windows + 5 edges + stops words, in this order:
@@ -597,7 +605,7 @@ pub extern "C" fn savoiky_run_tbr(
       areas = queryAreas (now (labels .exit)) (now («label_distances» .exit)) (now (work .exit))
           (now («queue_a» .exit)) (now («queue_b» .exit)) (now (candidates .exit));
     }
-        ≡ runTbrOutcome (lentForQuery (queryCountsOf sizes) (now (tables .entry)) (now (built .entry)) (now (transfers .entry))
+        ≡ runTbrOutcome (lent (queryCountsOf sizes) (now (tables .entry)) (now (built .entry)) (now (transfers .entry))
         (now (patterns .entry)) (now (distances .entry)) (now (query .entry)))
         (queryAreas (now (labels .entry)) (now («label_distances» .entry)) (now (work .entry)) (now («queue_a» .entry)) (now («queue_b» .entry))
         (now (candidates .entry))) ⌝ }
@@ -642,7 +650,7 @@ pub extern "C" fn savoiky_query(
       areas = queryAreas (now (labels .exit)) (now («label_distances» .exit)) (now (work .exit))
           (now («queue_a» .exit)) (now («queue_b» .exit)) (now (candidates .exit));
     }
-        ≡ queryOutcome (lentForQuery (queryCountsOf sizes) (now (tables .entry)) (now (built .entry)) (now (transfers .entry))
+        ≡ queryOutcome (lent (queryCountsOf sizes) (now (tables .entry)) (now (built .entry)) (now (transfers .entry))
         (now (patterns .entry)) (now (distances .entry)) (now (query .entry)))
         (queryAreas (now (labels .entry)) (now («label_distances» .entry)) (now (work .entry)) (now («queue_a» .entry)) (now («queue_b» .entry))
         (now (candidates .entry))) ⌝ }

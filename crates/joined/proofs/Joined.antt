@@ -31,10 +31,11 @@ use Rattle.model.specs.Tables.{Tables, Origin, Query, roundsOf, changeBefore, n
 use Rattle.model.specs.Search.{Segment, Arrivals, State, at, reachedBy, delayOf, skipped, boardAt, departureNow, arrivalNow, tripWindow, marginOf, holdsTarget, departuresAt, markAt, notBefore, bestAfter, improve, relax, resolve, enqueue, takeTransfers, alightings, transferring, scanTripForward, logged, rideSegments, pruned, passedOver, boarding, board, scanDepartures, scanStops, walkFrom, walkAll, emptied, roundStart, ridePhase, walkPhase, idle, rounds, setOut, access, newArrivals, begin, final, searchAnswer, useArcFlags, flagsInUse, runTbr, query}
 use Rattle.model.specs.Door.{Door}
 use Rattle.joined.specs.Joined.{InTime, BoardedFrom, Joined, BoardedBy, JoinedByDeparture}
-use Rattle.model.proofs.Stores.{no-both, set-cases, set-there, set-le, lt-getD, getD-replicate, getD-replicate-in}
+use Rattle.answer_laws.proofs.Stores.{set-cases, set-there, set-le, lt-getD, getD-replicate, getD-replicate-in}
+use Rattle.model.proofs.Base.{no-both}
 use Rattle.model.proofs.Sizes.{boards-soon}
-use Rattle.model.proofs.Phases.{Found, found, resolve-finds}
-use Rattle.model.proofs.Runs.{later-at-stop}
+use Rattle.answer_laws.proofs.Phases.{Found, found, resolve-finds}
+use Rattle.answer_laws.proofs.Runs.{later-at-stop}
 
 -- a stop's label in a row
 abbrev label-in : List Label → ℕ → ℕ → Label

@@ -14,7 +14,7 @@ use Rattle.label.specs.declared.Label.{Label}
 use Rattle.label.specs.declared.Label.the-variants.{Transit}
 use Rattle.model.specs.Tables.{Tables, Query, changeBefore, stops}
 use Rattle.model.specs.Search.{reachedBy, delayOf, boardAt}
-use Rattle.model.specs.Lawful.{labelIn}
+use Rattle.answer_laws.specs.Lawful.{labelIn}
 
 -- stop x is reached in time: it has a label in row `row` or in a lower one, and its arrival with the change time is no later than `time`
 pub record InTime (labels : List Label) (row x change time : ℕ) : Type 0 where

@@ -80,14 +80,6 @@ pub put-distance-length : (r : LabelRow) (d : List Float) (k : ℕ) → length (
 unfolding putDistance
 put-distance-length r d k = length-set d k (r .distance)
 
--- so a record that lay in the slices still does
-pub in-table-kept : (r : LabelRow) (l : List ℕ) (d : List Float) (k j : ℕ) → InTable l d j → InTable (putWords r l k) (putDistance r d k) j
-in-table-kept r l d k j h =
-    record {
-      words = omega (arith, put-words-length r l k, h .words);
-      distance = omega (arith, put-distance-length r d k, h .distance);
-    }
-
 -- the kind is word 0
 kind-word : (l : List ℕ) (k : ℕ) → kindAt l k ≡ word l k 0
 kind-word l k = let e : 8 * k + 0 ≡ 8 * k = omega arith in rw e

@@ -15,9 +15,9 @@ abbrev pub recordOf : ℕ → ℕ → ℕ
 recordOf stop row = 13 * stop + row
 
 -- record k lies in both slices
-pub record InTable (labels : List ℕ) (distances : List Float) (k : ℕ) : Type 0 where
+pub record InTable (labels : List ℕ) (labelDistances : List Float) (k : ℕ) : Type 0 where
   pub words : 8 * k + 8 ≤ length labels
-  pub distance : k < length distances
+  pub distance : k < length labelDistances
 
 -- the eight words of a row
 abbrev pub wordsOf : LabelRow → List ℕ
@@ -28,7 +28,7 @@ unfoldable pub putWords : LabelRow → List ℕ → ℕ → List ℕ
 putWords r labels k = sets labels (8 * k) (wordsOf r)
 
 unfoldable pub putDistance : LabelRow → List Float → ℕ → List Float
-putDistance r distances k = set distances k (r .distance)
+putDistance r labelDistances k = set labelDistances k (r .distance)
 
 -- record k's kind, and its word i, 1 to 7
 abbrev pub kindAt : List ℕ → ℕ → ℕ
@@ -39,12 +39,12 @@ word labels k i = getD labels (8 * k + i) 0
 
 -- the row at record k. (What `getD` gives past the end of a slice is never read.)
 abbrev pub labelRowAt : List ℕ → List Float → ℕ → LabelRow
-labelRowAt l distances k =
-    labelRow (kindAt l k) (word l k 1) (word l k 2) (word l k 3) (word l k 4) (word l k 5) (word l k 6) (word l k 7) (getD distances k nan)
+labelRowAt l labelDistances k =
+    labelRow (kindAt l k) (word l k 1) (word l k 2) (word l k 3) (word l k 4) (word l k 5) (word l k 6) (word l k 7) (getD labelDistances k nan)
 
 -- the label at record k
 unfoldable pub loaded : List ℕ → List Float → ℕ → Label
-loaded labels distances k = labelOf (labelRowAt labels distances k)
+loaded labels labelDistances k = labelOf (labelRowAt labels labelDistances k)
 
 -- the words of labels, record by record
 unfoldable pub wordsOfAll : List Label → List ℕ
@@ -58,4 +58,4 @@ distancesOfAll (x ∷ xs) = rowOf x .distance ∷ distancesOfAll xs
 
 -- a table of this many stops has 13 records for each: eight words and a distance to a record
 abbrev pub lengthsRight : ℕ → ℕ → ℕ → Bool
-lengthsRight stops words distances = eqb words (stops * 13 * 8) && eqb distances (stops * 13)
+lengthsRight stops words labelDistances = eqb words (stops * 13 * 8) && eqb labelDistances (stops * 13)

@@ -97,7 +97,8 @@ fn transit_row(
     prev_round: u32,
     time_shift_s: u32,
 ) -> LabelRow
-    ensures { λ r. ⌜ r ≡ rowOf (Label.Transit «arrival_s» «trip_idx» «board_stop» «board_off» «alight_off» «prev_round» «time_shift_s») ⌝ }
+    ensures { λ r. ⌜ r
+        ≡ rowOf (Label.Transit «arrival_s» «trip_idx» «board_stop» «board_off» «alight_off» «prev_round» «time_shift_s») ⌝ }
 {
     LabelRow {
         kind: 2,
@@ -205,10 +206,10 @@ pub fn label_of(r: LabelRow) -> Label
 }
 
 // A row is put at a record.
-fn put_row(r: LabelRow, labels: &mut [u32], distances: &mut [f64], record: usize)
-    requires { ⌜ InTable (now labels) (now distances) «record» ⌝ }
+fn put_row(r: LabelRow, labels: &mut [u32], label_distances: &mut [f64], record: usize)
+    requires { ⌜ InTable (now labels) (now «label_distances») «record» ⌝ }
     ensures { λ _. ⌜ (now (labels .exit) ≡ putWords r (now (labels .entry)) «record»)
-        × (now (distances .exit) ≡ putDistance r (now (distances .entry)) «record») ⌝ }
+        × (now («label_distances» .exit) ≡ putDistance r (now («label_distances» .entry)) «record») ⌝ }
 {
     let at = 8 * record;
     labels[at] = r.kind;
@@ -219,13 +220,13 @@ fn put_row(r: LabelRow, labels: &mut [u32], distances: &mut [f64], record: usize
     labels[at + 5] = r.word5;
     labels[at + 6] = r.word6;
     labels[at + 7] = r.word7;
-    distances[record] = r.distance;
+    label_distances[record] = r.distance;
 }
 
 // The row of a record.
-pub fn get_row(labels: &[u32], distances: &[f64], record: usize) -> LabelRow
-    requires { ⌜ InTable (now labels) (now distances) «record» ⌝ }
-    ensures { λ r. ⌜ r ≡ labelRowAt (now (labels .entry)) (now (distances .entry)) «record» ⌝ }
+pub fn get_row(labels: &[u32], label_distances: &[f64], record: usize) -> LabelRow
+    requires { ⌜ InTable (now labels) (now «label_distances») «record» ⌝ }
+    ensures { λ r. ⌜ r ≡ labelRowAt (now (labels .entry)) (now («label_distances» .entry)) «record» ⌝ }
 {
     let at = 8 * record;
     LabelRow {
@@ -237,25 +238,25 @@ pub fn get_row(labels: &[u32], distances: &[f64], record: usize) -> LabelRow
         word5: labels[at + 5],
         word6: labels[at + 6],
         word7: labels[at + 7],
-        distance: distances[record],
+        distance: label_distances[record],
     }
 }
 
 // The label is put into its record.
-pub fn store_label(label: Label, labels: &mut [u32], distances: &mut [f64], record: usize)
-    requires { ⌜ InTable (now labels) (now distances) «record» ⌝ }
+pub fn store_label(label: Label, labels: &mut [u32], label_distances: &mut [f64], record: usize)
+    requires { ⌜ InTable (now labels) (now «label_distances») «record» ⌝ }
     ensures { λ _. ⌜ (now (labels .exit) ≡ putWords (rowOf label) (now (labels .entry)) «record»)
-        × (now (distances .exit) ≡ putDistance (rowOf label) (now (distances .entry)) «record») ⌝ }
+        × (now («label_distances» .exit) ≡ putDistance (rowOf label) (now («label_distances» .entry)) «record») ⌝ }
 {
-    put_row(row_of(label), labels, distances, record);
+    put_row(row_of(label), labels, label_distances, record);
 }
 
 // The label of a record.
-pub fn load_label(labels: &[u32], distances: &[f64], record: usize) -> Label
-    requires { ⌜ InTable (now labels) (now distances) «record» ⌝ }
-    ensures { λ r. ⌜ r ≡ loaded (now (labels .entry)) (now (distances .entry)) «record» ⌝ }
+pub fn load_label(labels: &[u32], label_distances: &[f64], record: usize) -> Label
+    requires { ⌜ InTable (now labels) (now «label_distances») «record» ⌝ }
+    ensures { λ r. ⌜ r ≡ loaded (now (labels .entry)) (now («label_distances» .entry)) «record» ⌝ }
 {
-    label_of(get_row(labels, distances, record))
+    label_of(get_row(labels, label_distances, record))
 }
 
 // The record of a stop's row.
@@ -266,12 +267,12 @@ pub fn record_of(stop: u32, row: u32) -> usize
 }
 
 // All distances become +0.0.
-pub fn zero_distances(distances: &mut [f64])
-    ensures { λ _. ⌜ now (distances .exit) ≡ replicate (length (now (distances .entry))) noDistance ⌝ }
+pub fn zero_distances(label_distances: &mut [f64])
+    ensures { λ _. ⌜ now («label_distances» .exit) ≡ replicate (length (now («label_distances» .entry))) noDistance ⌝ }
 {
     let mut i: usize = 0;
-    while i < distances.len() {
-        distances[i] = 0.0;
+    while i < label_distances.len() {
+        label_distances[i] = 0.0;
         i += 1;
     }
 }

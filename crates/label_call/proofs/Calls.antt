@@ -104,7 +104,7 @@ kind-small (Walk t f s w z p) = omega arith
 module _ (x : Label) (stops stop row : ℕ) (l : List ℕ) (d : List Float) where
   -- after a store that is made, a load at its place gives the label
   pub load-after-store : storeCode x stops stop row (length l) (length d) ≡ 0
-      → loadAnswer stops stop row (storeOutcome x stops stop row l d .labels) (storeOutcome x stops stop row l d .distances) ≡ givenLabel x
+      → loadAnswer stops stop row (storeOutcome x stops stop row l d .labels) (storeOutcome x stops stop row l d .labelDistances) ≡ givenLabel x
   unfolding loaded
   load-after-store ok =
       let k = recordOf stop row in
@@ -116,13 +116,13 @@ module _ (x : Label) (stops stop row : ℕ) (l : List ℕ) (d : List Float) wher
       let ok' : loadCode stops stop row (length l') (length d') ≡ 0 =
       ap₂ (loadCode stops stop row) (put-words-length (rowOf x) l k) (put-distance-length (rowOf x) d k) ∙ asked in
       let small : labelRowAt l' d' k .kind ≤ 3 = omega (arith, ap (λ (r : LabelRow). r .kind) back, kind-small x) in
-      ap (λ (o : LabelOutcome). loadAnswer stops stop row (o .labels) (o .distances)) (sym (store-made stops stop row l d x ok k refl l' d' refl refl))
+      ap (λ (o : LabelOutcome). loadAnswer stops stop row (o .labels) (o .labelDistances)) (sym (store-made stops stop row l d x ok k refl l' d' refl refl))
       ∙ sym (load-made stops stop row l' d' ok' k refl (labelRowAt l' d' k) refl small)
       ∙ ap givenLabel (load-store x l d k there)
 
   -- a store, made or refused, changes no load of another record
   pub load-elsewhere : (stop' row' : ℕ) → (recordOf stop' row' ≡ recordOf stop row → ⊥)
-      → loadAnswer stops stop' row' (storeOutcome x stops stop row l d .labels) (storeOutcome x stops stop row l d .distances)
+      → loadAnswer stops stop' row' (storeOutcome x stops stop row l d .labels) (storeOutcome x stops stop row l d .labelDistances)
       ≡ loadAnswer stops stop' row' l d
   unfolding storeOutcome loadAnswer
   load-elsewhere stop' row' h = go (storeCode x stops stop row (length l) (length d))
@@ -130,7 +130,7 @@ module _ (x : Label) (stops stop row : ℕ) (l : List ℕ) (d : List Float) wher
       k : ℕ
       k = recordOf stop row
 
-      go : (n : ℕ) → loadAnswer stops stop' row' (labelSettle n x k l d .labels) (labelSettle n x k l d .distances) ≡ loadAnswer stops stop' row' l d
+      go : (n : ℕ) → loadAnswer stops stop' row' (labelSettle n x k l d .labels) (labelSettle n x k l d .labelDistances) ≡ loadAnswer stops stop' row' l d
       go zero =
           cc (put-words-length (rowOf x) l k, put-distance-length (rowOf x) d k, other-kind (rowOf x) l k (recordOf stop' row') h, load-other x l d k (recordOf stop' row') h)
       go (suc n) = refl

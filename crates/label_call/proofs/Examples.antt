@@ -45,7 +45,7 @@ pub record Case : Type 0 where
 pub right : Case → Bool
 right c =
     let o = storeOutcome (c .label) 2 (c .stop) (c .row) words distances in
-    let a = loadAnswer 2 (c .stop) (c .row) (o .labels) (o .distances) in
+    let a = loadAnswer 2 (c .stop) (c .row) (o .labels) (o .labelDistances) in
     let past = drop (c .at + 8) (o .labels) in
     eqb (o .code) 0
     && eqb (a .code) 0
@@ -54,7 +54,7 @@ right c =
     && Ieee.eq (a .row .distance) (c .distance)
     && same (take (c .at) (o .labels)) (replicate (c .at) 7)
     && same past (replicate (length past) 7)
-    && Ieee.eq (getD (o .distances) (13 * c .stop + c .row + 1) nan) one
+    && Ieee.eq (getD (o .labelDistances) (13 * c .stop + c .row + 1) nan) one
 
 pub all : List Case → Bool
 all [] = true
@@ -110,7 +110,7 @@ pub kept : List StoreRefusal → Bool
 kept [] = true
 kept (r ∷ rs) =
     let o = storeOutcome (r .label) 2 (r .stop) (r .row) words distances in
-    eqb (o .code) (r .code) && same (o .labels) words && Ieee.eq (getD (o .distances) (13 * r .stop + r .row) one) one && kept rs
+    eqb (o .code) (r .code) && same (o .labels) words && Ieee.eq (getD (o .labelDistances) (13 * r .stop + r .row) one) one && kept rs
 
 pub storeRefusals : List StoreRefusal
 storeRefusals =

@@ -21,26 +21,26 @@ stopsBelow (Walk arrival from to duration distance prevRound) stops = ltb from s
 
 -- the questions about a row in slices of these lengths: 1 at most 4,096 stops, 2 the slices' lengths, 4 whether the stop numbers
 -- are below the count, 5 the row
-unfoldable pub placeCode : (below : Bool) (stops row words distances : ℕ) → ℕ
-placeCode below stops row words distances =
-    ask 1 (leb stops 4096) (ask 2 (lengthsRight stops words distances) (ask 4 below (ask 5 (leb row 12) 0)))
+unfoldable pub placeCode : (below : Bool) (stops row words labelDistances : ℕ) → ℕ
+placeCode below stops row words labelDistances =
+    ask 1 (leb stops 4096) (ask 2 (lengthsRight stops words labelDistances) (ask 4 below (ask 5 (leb row 12) 0)))
 
 -- of a store: 4 is of the stop and of the stop numbers in the label
-abbrev pub storeCode : (x : Label) (stops stop row words distances : ℕ) → ℕ
-storeCode x stops stop row words distances = placeCode (ltb stop stops && stopsBelow x stops) stops row words distances
+abbrev pub storeCode : (x : Label) (stops stop row words labelDistances : ℕ) → ℕ
+storeCode x stops stop row words labelDistances = placeCode (ltb stop stops && stopsBelow x stops) stops row words labelDistances
 
 -- of a load: 4 is of the stop
-abbrev pub loadCode : (stops stop row words distances : ℕ) → ℕ
-loadCode stops stop row words distances = placeCode (ltb stop stops) stops row words distances
+abbrev pub loadCode : (stops stop row words labelDistances : ℕ) → ℕ
+loadCode stops stop row words labelDistances = placeCode (ltb stop stops) stops row words labelDistances
 
 -- a storing call's code, and both slices as it leaves them
 pub record LabelOutcome : Type 0 where
   pub code : ℕ
   pub labels : List ℕ
-  pub distances : List Float
+  pub labelDistances : List Float
 
 abbrev pub labelOutcome : ℕ → List ℕ → List Float → LabelOutcome
-labelOutcome n l d = record { code = n; labels = l; distances = d }
+labelOutcome n l d = record { code = n; labels = l; labelDistances = d }
 
 -- a refusal leaves both slices as they came
 abbrev pub labelSettle : ℕ → Label → ℕ → List ℕ → List Float → LabelOutcome

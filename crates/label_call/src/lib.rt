@@ -53,18 +53,18 @@ fn store(
     stop: u32,
     row: u32,
     labels: &mut [u32],
-    distances: &mut [f64],
+    label_distances: &mut [f64],
 ) -> u32
     requires { ⌜ below ≡ stopsBelow label stops ⌝ }
-    ensures { λ r. ⌜ labelOutcome r (now (labels .exit)) (now (distances .exit))
-        ≡ storeOutcome label stops stop row (now (labels .entry)) (now (distances .entry)) ⌝ }
+    ensures { λ r. ⌜ labelOutcome r (now (labels .exit)) (now («label_distances» .exit))
+        ≡ storeOutcome label stops stop row (now (labels .entry)) (now («label_distances» .entry)) ⌝ }
 {
     let known = door::both(stop < stops, below);
-    let code = place(known, stops, row, labels.len(), distances.len());
+    let code = place(known, stops, row, labels.len(), label_distances.len());
     if code != 0 {
         return code;
     }
-    label::store_label(label, labels, distances, label::record_of(stop, row));
+    label::store_label(label, labels, label_distances, label::record_of(stop, row));
     0
 }
 
@@ -78,11 +78,11 @@ pub fn store_access(
     walk_duration: u32,
     walk_distance: f64,
     labels: &mut [u32],
-    distances: &mut [f64],
+    label_distances: &mut [f64],
 ) -> u32
-    ensures { λ r. ⌜ labelOutcome r (now (labels .exit)) (now (distances .exit))
+    ensures { λ r. ⌜ labelOutcome r (now (labels .exit)) (now («label_distances» .exit))
         ≡ storeOutcome (Label.Access «stop_idx» «arrival_s» «walk_duration» «walk_distance») stops stop row (now (labels .entry))
-        (now (distances .entry)) ⌝ }
+        (now («label_distances» .entry)) ⌝ }
 {
     let label = Label::Access {
         stop_idx,
@@ -90,7 +90,15 @@ pub fn store_access(
         walk_duration,
         walk_distance,
     };
-    store(label, stop_idx < stops, stops, stop, row, labels, distances)
+    store(
+        label,
+        stop_idx < stops,
+        stops,
+        stop,
+        row,
+        labels,
+        label_distances,
+    )
 }
 
 // A ride's label is stored; the code is the answer. Question 4 is also of the stop where it was boarded.
@@ -106,11 +114,11 @@ pub fn store_transit(
     prev_round: u32,
     time_shift_s: u32,
     labels: &mut [u32],
-    distances: &mut [f64],
+    label_distances: &mut [f64],
 ) -> u32
-    ensures { λ r. ⌜ labelOutcome r (now (labels .exit)) (now (distances .exit))
-        ≡ storeOutcome (Label.Transit «arrival_s» «trip_idx» «board_stop» «board_off» «alight_off» «prev_round» «time_shift_s») stops stop row
-        (now (labels .entry)) (now (distances .entry)) ⌝ }
+    ensures { λ r. ⌜ labelOutcome r (now (labels .exit)) (now («label_distances» .exit))
+        ≡ storeOutcome (Label.Transit «arrival_s» «trip_idx» «board_stop» «board_off» «alight_off» «prev_round» «time_shift_s»)
+        stops stop row (now (labels .entry)) (now («label_distances» .entry)) ⌝ }
 {
     let label = Label::Transit {
         arrival_s,
@@ -128,7 +136,7 @@ pub fn store_transit(
         stop,
         row,
         labels,
-        distances,
+        label_distances,
     )
 }
 
@@ -144,11 +152,11 @@ pub fn store_walk(
     distance_m: f64,
     prev_round: u32,
     labels: &mut [u32],
-    distances: &mut [f64],
+    label_distances: &mut [f64],
 ) -> u32
-    ensures { λ r. ⌜ labelOutcome r (now (labels .exit)) (now (distances .exit))
-        ≡ storeOutcome (Label.Walk «arrival_s» «from_stop» «to_stop» «duration_s» «distance_m» «prev_round») stops stop row (now (labels .entry))
-        (now (distances .entry)) ⌝ }
+    ensures { λ r. ⌜ labelOutcome r (now (labels .exit)) (now («label_distances» .exit))
+        ≡ storeOutcome (Label.Walk «arrival_s» «from_stop» «to_stop» «duration_s» «distance_m» «prev_round»)
+        stops stop row (now (labels .entry)) (now («label_distances» .entry)) ⌝ }
 {
     let label = Label::Walk {
         arrival_s,
@@ -159,7 +167,7 @@ pub fn store_walk(
         prev_round,
     };
     let below = door::both(from_stop < stops, to_stop < stops);
-    store(label, below, stops, stop, row, labels, distances)
+    store(label, below, stops, stop, row, labels, label_distances)
 }
 
 fn refused_label(code: u32) -> LabelAnswer
@@ -170,15 +178,21 @@ fn refused_label(code: u32) -> LabelAnswer
 }
 
 // The label at a stop's row, as a row; 5 also for a kind above 3.
-pub fn load(stops: u32, stop: u32, row: u32, labels: &[u32], distances: &[f64]) -> LabelAnswer
-    ensures { λ r. ⌜ r ≡ loadAnswer stops stop row (now (labels .entry)) (now (distances .entry)) ⌝ }
+pub fn load(stops: u32, stop: u32, row: u32, labels: &[u32], label_distances: &[f64]) -> LabelAnswer
+    ensures { λ r. ⌜ r ≡ loadAnswer stops stop row (now (labels .entry)) (now («label_distances» .entry)) ⌝ }
 {
-    let code = place(stop < stops, stops, row, labels.len(), distances.len());
+    let code = place(
+        stop < stops,
+        stops,
+        row,
+        labels.len(),
+        label_distances.len(),
+    );
     if code != 0 {
         return refused_label(code);
     }
     let record = label::record_of(stop, row);
-    let r = label::get_row(labels, distances, record);
+    let r = label::get_row(labels, label_distances, record);
     if 3 < r.kind {
         return refused_label(5);
     }

@@ -6,7 +6,8 @@
 ghost use mathlib.Core.Path.{_≡_};
 ghost use Prim.Native.Nat.{_≤_};
 ghost use lib.ListN.{length};
-ghost use Rattle.layout_call.specs.Call.{layoutAreas, layoutSizesOk, layoutVerdict, layoutMade, layoutOutcome, layoutOutcomeOf, LayoutAdmitted};
+ghost use Rattle.layout_call.specs.Call.{layoutAreas, layoutSizesOk, layoutVerdict, layoutMade, layoutOutcome, layoutOutcomeOf};
+ghost use Rattle.layout_call.specs.Call.{LayoutAdmitted};
 use tables::Counts;
 
 // Question 2: is each slice as long as the counts say?

@@ -99,18 +99,23 @@ pub struct DelayAt {
 }
 
 // Question 1.
-fn delay_counts(trips: u32, delay_rows: u32, stop_row_count: u32) -> bool
-    ensures { λ r. ⌜ r ≡ delayCounts trips «delay_rows» «stop_row_count» ⌝ }
+fn delay_counts(trips: u32, delay_row_count: u32, stop_row_count: u32) -> bool
+    ensures { λ r. ⌜ r ≡ delayCounts trips «delay_row_count» «stop_row_count» ⌝ }
 {
-    let rows = door::both(delay_rows <= 4096, stop_row_count <= 4096);
+    let rows = door::both(delay_row_count <= 4096, stop_row_count <= 4096);
     door::both(trips <= 4096, rows)
 }
 
 // Question 2.
-fn delay_lengths(delay_rows: u32, stop_row_count: u32, rows: &[u32], stop_rows: &[u32]) -> bool
-    ensures { λ r. ⌜ r ≡ delayLengths «delay_rows» «stop_row_count» (now (rows .entry)) (now («stop_rows» .entry)) ⌝ }
+fn delay_lengths(
+    delay_row_count: u32,
+    stop_row_count: u32,
+    delay_rows: &[u32],
+    stop_rows: &[u32],
+) -> bool
+    ensures { λ r. ⌜ r ≡ delayLengths «delay_row_count» «stop_row_count» (now («delay_rows» .entry)) (now («stop_rows» .entry)) ⌝ }
 {
-    let delays = rows.len() == 2 * (delay_rows as usize);
+    let delays = delay_rows.len() == 2 * (delay_row_count as usize);
     let stops = stop_rows.len() == 5 * (stop_row_count as usize);
     door::both(delays, stops)
 }
@@ -119,28 +124,35 @@ fn delay_lengths(delay_rows: u32, stop_row_count: u32, rows: &[u32], stop_rows: 
 // questions 4 and 5.
 fn delays_door(
     trips: u32,
-    delay_rows: u32,
+    delay_row_count: u32,
     stop_row_count: u32,
-    rows: &[u32],
+    delay_rows: &[u32],
     stop_rows: &[u32],
     numbered: bool,
     ranged: bool,
 ) -> u32
-    ensures { λ r. ⌜ r ≡ delaysDoor trips «delay_rows» «stop_row_count» (now (rows .entry)) (now («stop_rows» .entry)) numbered ranged ⌝ }
+    ensures { λ r. ⌜ r ≡ delaysDoor trips «delay_row_count» «stop_row_count»
+        (now («delay_rows» .entry)) (now («stop_rows» .entry)) numbered ranged ⌝ }
 {
-    if !delay_counts(trips, delay_rows, stop_row_count) {
+    if !delay_counts(trips, delay_row_count, stop_row_count) {
         return 1;
     }
-    if !delay_lengths(delay_rows, stop_row_count, rows, stop_rows) {
+    if !delay_lengths(delay_row_count, stop_row_count, delay_rows, stop_rows) {
         return 2;
     }
-    if !door::both(delay_rows::rows_asked(4, trips, rows, stop_rows), numbered) {
+    if !door::both(
+        delay_rows::rows_asked(4, trips, delay_rows, stop_rows),
+        numbered,
+    ) {
         return 4;
     }
-    if !door::both(delay_rows::rows_asked(5, trips, rows, stop_rows), ranged) {
+    if !door::both(
+        delay_rows::rows_asked(5, trips, delay_rows, stop_rows),
+        ranged,
+    ) {
         return 5;
     }
-    if !delay_rows::rows_asked(6, trips, rows, stop_rows) {
+    if !delay_rows::rows_asked(6, trips, delay_rows, stop_rows) {
         return 6;
     }
     0
@@ -149,20 +161,21 @@ fn delays_door(
 // Questions 1, 2, 4, 5 (with the cap) and 6, then the margin.
 fn margin(
     trips: u32,
-    delay_rows: u32,
+    delay_row_count: u32,
     stop_row_count: u32,
-    rows: &[u32],
+    delay_rows: &[u32],
     stop_rows: &[u32],
     cap: u32,
 ) -> door::Answer
-    ensures { λ r. ⌜ r ≡ marginOutcome trips «delay_rows» «stop_row_count» (now (rows .entry)) (now («stop_rows» .entry)) cap ⌝ }
+    ensures { λ r. ⌜ r ≡ marginOutcome trips «delay_row_count» «stop_row_count»
+        (now («delay_rows» .entry)) (now («stop_rows» .entry)) cap ⌝ }
 {
     let ranged = cap <= door::TIME_LIMIT;
     let no = delays_door(
         trips,
-        delay_rows,
+        delay_row_count,
         stop_row_count,
-        rows,
+        delay_rows,
         stop_rows,
         true,
         ranged,
@@ -170,7 +183,7 @@ fn margin(
     if no != 0 {
         return door::refused(no);
     }
-    door::given(delay_lookup::rt_margin(rows, stop_rows, cap))
+    door::given(delay_lookup::rt_margin(delay_rows, stop_rows, cap))
 }
 
 // An answer of delay_at.
@@ -190,21 +203,22 @@ fn told(code: u32, known: u32, d: StopDelay) -> DelayAt
 // Questions 1, 2, 4 (with the trip), 5 and 6, then what the tables say of the trip's stop time with this sequence.
 pub fn delay_at(
     trips: u32,
-    delay_rows: u32,
+    delay_row_count: u32,
     stop_row_count: u32,
-    rows: &[u32],
+    delay_rows: &[u32],
     stop_rows: &[u32],
     trip: u32,
     sequence: u32,
 ) -> DelayAt
-    ensures { λ r. ⌜ r ≡ delayAtOutcome trips «delay_rows» «stop_row_count» (now (rows .entry)) (now («stop_rows» .entry)) trip sequence ⌝ }
+    ensures { λ r. ⌜ r ≡ delayAtOutcome trips «delay_row_count» «stop_row_count»
+        (now («delay_rows» .entry)) (now («stop_rows» .entry)) trip sequence ⌝ }
 {
     let numbered = trip < trips;
     let no = delays_door(
         trips,
-        delay_rows,
+        delay_row_count,
         stop_row_count,
-        rows,
+        delay_rows,
         stop_rows,
         numbered,
         true,
@@ -212,10 +226,14 @@ pub fn delay_at(
     if no != 0 {
         return told(no, 0, stop_delay::no_delay());
     }
-    let found = delay_lookup::delay_row(rows, trip);
+    let found = delay_lookup::delay_row(delay_rows, trip);
     match found {
         Found::At(i) => {
-            return told(0, 1, delay_lookup::stop_delay(rows, stop_rows, i, sequence));
+            return told(
+                0,
+                1,
+                delay_lookup::stop_delay(delay_rows, stop_rows, i, sequence),
+            );
         }
         Found::Nothing => {
             return told(0, 0, stop_delay::no_delay());
@@ -229,18 +247,19 @@ const MARGIN_CAP: u32 = 21600;
 // The margin with that cap.
 pub fn capped_margin(
     trips: u32,
-    delay_rows: u32,
+    delay_row_count: u32,
     stop_row_count: u32,
-    rows: &[u32],
+    delay_rows: &[u32],
     stop_rows: &[u32],
 ) -> door::Answer
-    ensures { λ r. ⌜ r ≡ marginOutcome trips «delay_rows» «stop_row_count» (now (rows .entry)) (now («stop_rows» .entry)) 21600 ⌝ }
+    ensures { λ r. ⌜ r ≡ marginOutcome trips «delay_row_count» «stop_row_count»
+        (now («delay_rows» .entry)) (now («stop_rows» .entry)) 21600 ⌝ }
 {
     margin(
         trips,
-        delay_rows,
+        delay_row_count,
         stop_row_count,
-        rows,
+        delay_rows,
         stop_rows,
         MARGIN_CAP,
     )

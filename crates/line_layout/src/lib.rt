@@ -99,7 +99,8 @@ fn place_at(entries: &[u32], first: usize, positions: &mut [u32], p: usize)
 
 // The trips of a run.
 fn place_run(c: Counts, entries: &[u32], positions: &mut [u32], r: LineRun)
-    requires { ⌜ EntriesListed c (now entries) ⌝ ∗ ⌜ length (now positions) ≡ c .trips ⌝ ∗ ⌜ r .first + r .count ≤ length (now entries) ⌝ }
+    requires { ⌜ EntriesListed c (now entries) ⌝ ∗ ⌜ length (now positions) ≡ c .trips ⌝
+        ∗ ⌜ r .first + r .count ≤ length (now entries) ⌝ }
     ensures { λ _. ⌜ now (positions .exit) ≡ tab (placed (tripsIn (now (entries .entry)) r) (now (positions .entry))) (c .trips) ⌝ }
 {
     let first = r.first;

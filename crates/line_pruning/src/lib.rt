@@ -33,9 +33,11 @@ fn undelayed(adj: Found) -> bool
 
 // May the trip prune and be pruned?
 fn prunable(lay: Lay, built: &[u32], adj: Found, trip: usize, work: &[u32]) -> bool
-    requires { ⌜ Sized lay (length (now work)) (lay .stops * 104) (lay .stops * 13) ⌝ ∗ ⌜ lay .trips ≤ length (now built) ⌝ ∗ ⌜ trip < lay .trips ⌝ }
+    requires { ⌜ Sized lay (length (now work)) (lay .stops * 104) (lay .stops * 13) ⌝ ∗ ⌜ lay .trips ≤ length (now built) ⌝
+        ∗ ⌜ trip < lay .trips ⌝ }
     ensures { λ r. ⌜ (r ≡ true → getD (now (built .entry)) trip 0 < lay .lines) ⌝
-        ∗ ⌜ ((T : Tables) (Q : Query) (c : Counts) → Agrees T lay c (now (built .entry)) (now (work .entry)) → r ≡ mayPrune T Q (hitOf adj) trip) ⌝ }
+        ∗ ⌜ ((T : Tables) (Q : Query) (c : Counts) → Agrees T lay c (now (built .entry)) (now (work .entry))
+        → r ≡ mayPrune T Q (hitOf adj) trip) ⌝ }
 {
     let line = words::field(built, trip);
     if lay.lines <= line {
@@ -69,7 +71,8 @@ fn is_before(lay: Lay, trip: usize, p: usize, off: usize, work: &[u32]) -> bool
 
 // Does one trip of the chain from `first` on?
 fn some_before(lay: Lay, first: usize, p: usize, off: usize, work: &[u32]) -> bool
-    requires { ⌜ Sized lay (length (now work)) (lay .stops * 104) (lay .stops * 13) ⌝ ∗ ⌜ Inside lay (chainFrom lay (now work) (lay .trips) first) ⌝ }
+    requires { ⌜ Sized lay (length (now work)) (lay .stops * 104) (lay .stops * 13) ⌝
+        ∗ ⌜ Inside lay (chainFrom lay (now work) (lay .trips) first) ⌝ }
     ensures { λ r. ⌜ r ≡ someBefore lay (now (work .entry)) p off (chainFrom lay (now (work .entry)) (lay .trips) first) ⌝ }
 {
     let links = query_types::links_at(lay);
@@ -144,7 +147,8 @@ pub fn passed_over(lay: Lay, stamp: u32, trip: usize, off: u32, dep: u32, work: 
 
 // A trip at the front of a line's chain, with this offset.
 fn link(lay: Lay, stamp: u32, line: usize, trip: usize, off: u32, work: &mut [u32])
-    requires { ⌜ Sized lay (length (now work)) (lay .stops * 104) (lay .stops * 13) ⌝ ∗ ⌜ line < lay .lines ⌝ ∗ ⌜ trip < lay .trips ⌝ }
+    requires { ⌜ Sized lay (length (now work)) (lay .stops * 104) (lay .stops * 13) ⌝ ∗ ⌜ line < lay .lines ⌝
+        ∗ ⌜ trip < lay .trips ⌝ }
     ensures { λ _. ⌜ now (work .exit) ≡ linked lay stamp line trip off (now (work .entry)) ⌝ }
 {
     let at = query_types::line_stamps_at(lay) + line;

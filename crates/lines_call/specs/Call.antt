@@ -29,12 +29,20 @@ abbrev pub lineAreas : List ℕ → List ℕ → List ℕ → List ℕ → List 
 lineAreas a b d e f = record { lines = a; runs = b; entries = d; work = e; other = f }
 
 abbrev pub lineLengths : LineAreas → LineLengths
-lineLengths s = record { lines = length (s .lines); runs = length (s .runs); entries = length (s .entries); work = length (s .work); other = length (s .other) }
+lineLengths s =
+    record {
+      lines = length (s .lines);
+      runs = length (s .runs);
+      entries = length (s .entries);
+      work = length (s .work);
+      other = length (s .other);
+    }
 
 -- each is as long as there are trips; the runs have two words for each line, with room for as many lines as trips
 unfoldable pub lineSizesOk : Counts → LineLengths → Bool
 lineSizesOk c z =
-    (eqb (z .lines) (c .trips) && eqb (z .runs) (c .trips * 2)) && (eqb (z .entries) (c .trips) && (eqb (z .work) (c .trips) && eqb (z .other) (c .trips)))
+    (eqb (z .lines) (c .trips) && eqb (z .runs) (c .trips * 2))
+    && (eqb (z .entries) (c .trips) && (eqb (z .work) (c .trips) && eqb (z .other) (c .trips)))
 
 -- THE QUESTIONS 1 to 6: the number of the first that is answered no, or 0. 6 is of the walk edges.
 unfoldable pub linesVerdict : List ℕ → Counts → LineLengths → ℕ
@@ -49,7 +57,8 @@ linesVerdict t c z =
 -- what is made; the workspace is left zero
 unfoldable pub linesMade : List ℕ → Counts → LineAreas → LineAreas
 linesMade t c s =
-    lineAreas (tab (lineOf (timetable t c)) (c .trips)) (runsOf (timetable t c) (s .runs)) (entriesOf (timetable t c)) (replicate (c .trips) 0) (replicate (c .trips) 0)
+    lineAreas (tab (lineOf (timetable t c)) (c .trips)) (runsOf (timetable t c) (s .runs)) (entriesOf (timetable t c))
+    (replicate (c .trips) 0) (replicate (c .trips) 0)
 
 -- the answer, and the lent slices as they are left
 pub record LinesOutcome : Type 0 where

@@ -17,7 +17,7 @@ use Rattle.model.specs.Door.{Door}
 use Rattle.model.specs.Promise.{TripTimes, scheduled, effective, PlainDay, SteadyDay, TripDelays, Journey, Way, Arrives, Demand3, Pareto}
 use Rattle.model.proofs.Base.{no-both}
 use Rattle.model.proofs.Net.{Plain}
-use Rattle.model.proofs.Calls.{put-off}
+use Rattle.model.proofs.Switch.{put-off}
 use Rattle.model.proofs.PlainSearch
 use Rattle.model.proofs.Rounds.{Reach, j-access, j-ride, j-walk}
 use Rattle.model.proofs.Ways

@@ -14,7 +14,8 @@ use Rattle.model.specs.Tables.{never, Tables, Origin, Query, stops, trip
 -- departures in order: none is earlier than one before it
 pub data InOrder (T : Tables) : List DepartureRow → Type 0 where
   none : InOrder T []
-  more : {d : DepartureRow} {ds : List DepartureRow} → ((e : DepartureRow) → List·Memᴰ e ds → departure T (d .trip) (d .offset) ≤ departure T (e .trip) (e .offset))
+  more : {d : DepartureRow} {ds : List DepartureRow}
+      → ((e : DepartureRow) → List·Memᴰ e ds → departure T (d .trip) (d .offset) ≤ departure T (e .trip) (e .offset))
       → InOrder T ds → InOrder T (d ∷ ds)
 
 -- egress stops strictly rising
@@ -48,9 +49,12 @@ pub record Door (T : Tables) (Q : Query) : Type 0 where
   -- 5. is every time in its range?
   pub arrival-small : (t o : ℕ) → t < trips T → o < stopCount T t → arrival T t o ≤ timeLimit
   pub departure-small : (t o : ℕ) → t < trips T → o < stopCount T t → departure T t o ≤ timeLimit
-  pub window-start : (t i : ℕ) → t < trips T → i < T .timetable .trip t .windows → T .timetable .window (T .timetable .trip t .window + i) .start ≤ timeLimit
-  pub window-end : (t i : ℕ) → t < trips T → i < T .timetable .trip t .windows → T .timetable .window (T .timetable .trip t .window + i) .end ≤ timeLimit
-  pub window-headway : (t i : ℕ) → t < trips T → i < T .timetable .trip t .windows → T .timetable .window (T .timetable .trip t .window + i) .headway ≤ timeLimit
+  pub window-start : (t i : ℕ) → t < trips T → i < T .timetable .trip t .windows
+      → T .timetable .window (T .timetable .trip t .window + i) .start ≤ timeLimit
+  pub window-end : (t i : ℕ) → t < trips T → i < T .timetable .trip t .windows
+      → T .timetable .window (T .timetable .trip t .window + i) .end ≤ timeLimit
+  pub window-headway : (t i : ℕ) → t < trips T → i < T .timetable .trip t .windows
+      → T .timetable .window (T .timetable .trip t .window + i) .headway ≤ timeLimit
   pub edge-small : (e : ℕ) → e < T .timetable .edges → T .timetable .edge e .duration ≤ timeLimit
   pub transfer-small : (t o : ℕ) → t < trips T → o < stopCount T t → (e : Transfer) → List·Memᴰ e (T .transfers t o) → e .time ≤ timeLimit
   pub origin-small : (a : Origin) → List·Memᴰ a (Q .origins) → a .duration ≤ timeLimit

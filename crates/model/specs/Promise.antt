@@ -15,7 +15,8 @@ use Rattle.line_numbers.specs.Lines.{lineOf, linesOf}
 use Rattle.built_lines.specs.Built.{AsBuilt}
 use Rattle.departures.specs.Departures.{byDeparture, markOf}
 use Rattle.event_transfers.specs.Transfers.{Input, builtTransfers}
-use Rattle.model.specs.Tables.{never, Tables, Origin, Query, roundsOf, changeBefore, stops, trips, stopCount, stopAt, arrival, departure, noPickup, noDropOff, noWindows, edgesFrom, edgeTo, walkTime, permitted}
+use Rattle.model.specs.Tables.{never, Tables, Origin, Query, roundsOf, changeBefore, stops, trips, stopCount, stopAt, arrival, departure}
+use Rattle.model.specs.Tables.{noPickup, noDropOff, noWindows, edgesFrom, edgeTo, walkTime, permitted}
 use Rattle.model.specs.Search.{SearchAnswer, flagsInUse, delayOf, delayAt, skipped, arrivalNow, putOff, runTbr}
 
 -- LINES AND DEPARTURES AS BUILT: what the lines call and the departure sorting call write, from a caller's list of departures for each stop
@@ -131,7 +132,8 @@ module _ (T : Tables) (Q : Query) (W : TripTimes) where
   -- boarding; scans: these (round, trip, offset).
   pub data Way (scans : List (ℕ × ℕ × ℕ)) : ℕ → ℕ → ℕ → Type 0 where
     access : (a : Origin) → List·Memᴰ a (Q .origins) → Way scans (a .stop) (Q .start + a .duration) zero
-    ride : {x v q : ℕ} (r t o p : ℕ) → Way scans x v q → q ≤ r → List·Memᴰ (r, t, o) scans → Boarding x t o → Alighting t o p → v + changeBefore Q r ≤ W .departs t o
+    ride : {x v q : ℕ} (r t o p : ℕ) → Way scans x v q → q ≤ r → List·Memᴰ (r, t, o) scans → Boarding x t o → Alighting t o p
+        → v + changeBefore Q r ≤ W .departs t o
         → Way scans (stopAt T t p) (W .arrives t p) r
     foot : {x v q : ℕ} (e : ℕ) → Way scans x v q → List·Memᴰ e (edgesFrom T x) → Way scans (edgeTo T e) (v + walkTime T Q e) q
 
@@ -168,7 +170,8 @@ abbrev pub effective : Tables → Query → TripTimes
 effective T Q =
     record {
       departs = λ t o. effectiveDeparture (departure T t o) (delayAt T Q (delayOf Q t) t o);
-      arrives = λ t o. let d = delayAt T Q (delayOf Q t) t o in shifted (arrival T t o) (cond (arrivalGiven (d .flags)) (d .«arrival_delay») (d .«trip_delay»));
+      arrives = λ t o. let d = delayAt T Q (delayOf Q t) t o in
+          shifted (arrival T t o) (cond (arrivalGiven (d .flags)) (d .«arrival_delay») (d .«trip_delay»));
       served = λ t o. not (skipped T Q (delayOf Q t) t o);
     }
 
@@ -186,8 +189,10 @@ module _ (T : Tables) (Q : Query) where
   pub record SteadyConditions : Type 0 where
     -- the trip's times do not fall: from departure to arrival, from arrival to arrival, from departure to departure
     pub rides : (x t o p : ℕ) → x < stops T → Boarding T Q W x t o → Alighting T Q W t o p → W .departs t o ≤ W .arrives t p
-    pub arrivals : (x t o p q : ℕ) → x < stops T → Boarding T Q W x t o → Alighting T Q W t o p → Alighting T Q W t o q → p < q → W .arrives t p ≤ W .arrives t q
-    pub departures : (x y t o p : ℕ) → x < stops T → y < stops T → Boarding T Q W x t o → Boarding T Q W y t p → o < p → W .departs t o ≤ W .departs t p
+    pub arrivals : (x t o p q : ℕ) → x < stops T → Boarding T Q W x t o → Alighting T Q W t o p → Alighting T Q W t o q → p < q
+        → W .arrives t p ≤ W .arrives t q
+    pub departures : (x y t o p : ℕ) → x < stops T → y < stops T → Boarding T Q W x t o → Boarding T Q W y t p → o < p
+        → W .departs t o ≤ W .departs t p
     -- the departure is no further from its schedule than the cap of the margin
     pub not-late : (x t o : ℕ) → x < stops T → Boarding T Q W x t o → W .departs t o ≤ departure T t o + Q .settings .marginCap
     pub not-early : (x t o : ℕ) → x < stops T → Boarding T Q W x t o → departure T t o ≤ W .departs t o + Q .settings .marginCap
@@ -205,7 +210,8 @@ module _ (T : Tables) (Q : Query) where
     pub only-skips : (j : ℕ) → j < Q .delays .stopRows → Q .delays .delay (Q .delays .stopRow j .row) .trip < trips T
         → (departureGiven (Q .delays .stopRow j .flags) || arrivalGiven (Q .delays .stopRow j .flags)) ≡ false
     -- the delay is no larger than the cap of the margin
-    pub within-cap : (i : ℕ) → i < Q .delays .delays → Q .delays .delay i .trip < trips T → sizeOf (Q .delays .delay i .delay) ≤ Q .settings .marginCap
+    pub within-cap : (i : ℕ) → i < Q .delays .delays → Q .delays .delay i .trip < trips T
+        → sizeOf (Q .delays .delay i .delay) ≤ Q .settings .marginCap
     -- and puts no departure before 0
     pub after-zero : (i o : ℕ) → i < Q .delays .delays → Q .delays .delay i .trip < trips T → o < stopCount T (Q .delays .delay i .trip)
         → nonNeg (pos (departure T (Q .delays .delay i .trip) o) +ℤ ofBits (Q .delays .delay i .delay)) ≡ true

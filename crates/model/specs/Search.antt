@@ -1,6 +1,6 @@
 -- `run_tbr` (tbr.rs) on a new `TbrScratch`, function by function, in both modes: with arc flags in use (flagged) and without. Definitions only.
--- What the Rust's saturating sums and its `Option`s add never shows: every time in a run is below 2^27 (proofs/Bounds).
--- One test is left out: the Rust answers "no way" at once where no origin is reached; here the rounds then end at once (proofs/Calls).
+-- What the Rust's saturating sums and its `Option`s add never shows: every time in a run is below 2^27 (`answer_laws` proofs/Bounds).
+-- One test is left out: the Rust answers "no way" at once where no origin is reached; here the rounds then end at once (`answer_laws` proofs/Calls).
 use Prim.Native.Nat.{ℕ, zero, suc, _+_, _-_, _*_, min}
 use mathlib.Core.Bool.{Bool, true, false, cond, _&&_, _||_, not}
 use mathlib.Core.List.{List, [], _∷_, _++_}
@@ -26,7 +26,9 @@ use Rattle.departures.specs.declared.DepartureRow.{DepartureRow}
 use Rattle.line_layout.specs.Layout.{LineTrips}
 use Rattle.event_transfers.specs.Transfers.{Transfer}
 use Rattle.delay_rows.specs.Delays.{delayRow, stopDelay, margin}
-use Rattle.model.specs.Tables.{never, Tables, Origin, Query, roundsOf, changeBefore, isEgress, egressWalk, stops, trips, stopCount, stopAt, arrival, departure, sequence, noPickup, noDropOff, noWindows, edgesFrom, edgeTo, walkTime, position, fifo, usable, permitted}
+use Rattle.model.specs.Tables.{never, Tables, Origin, Query, roundsOf, changeBefore, isEgress, egressWalk, stops, trips, stopCount, stopAt}
+use Rattle.model.specs.Tables.{arrival, departure, sequence, noPickup, noDropOff, noWindows, edgesFrom, edgeTo, walkTime, position, fifo}
+use Rattle.model.specs.Tables.{usable, permitted}
 
 -- a segment (`seg_queue`), queued for the next round: trip, boarding offset, boarding stop, time shift
 pub record Segment : Type 0 where
@@ -167,7 +169,8 @@ module _ (T : Tables) (Q : Query) where
       elim (noWindows T t) [
         | true ↦ elim (ltb (departureNow adj t o) after) [
           | true ↦ Nothing
-          | false ↦ Board (record { departure = departureNow adj t o; «time_shift_s» = bitsOf (subℕ (departureNow adj t o) (departure T t o)); window = 0; run = 0 })
+          | false ↦ let dep = departureNow adj t o in
+              Board (record { departure = dep; «time_shift_s» = bitsOf (subℕ dep (departure T t o)); window = 0; run = 0 })
         ]
         | false ↦ earliestFreqBoard (T .timetable .trip t .windows) (tripWindow T t) (departure T t 0) (departureNow adj t o) after
       ]
@@ -347,7 +350,8 @@ module _ (T : Tables) (Q : Query) where
         | true ↦ Nothing
         | false ↦ elim (boardAt adj t o after) [
           | Nothing ↦ Nothing
-          | Board b ↦ elim (leb (s .arrivals .best) (b .departure) || passedOver stamp t o (b .departure) (s .boardings)) [ true ↦ Nothing | false ↦ Board b ]
+          | Board b ↦ elim (leb (s .arrivals .best) (b .departure) || passedOver stamp t o (b .departure) (s .boardings))
+              [ true ↦ Nothing | false ↦ Board b ]
         ]
       ]
 
@@ -390,7 +394,8 @@ module _ (T : Tables) (Q : Query) where
         | true ↦ scanStops flagged round stamp xs s
         | false ↦ elim (markAt T x) [
           | true ↦ scanStops flagged round stamp xs (scanDepartures flagged true round stamp x after (departuresAt T x) s)
-          | false ↦ scanStops flagged round stamp xs (scanDepartures flagged false round stamp x after (notBefore T (after - marginOf) (departuresAt T x)) s)
+          | false ↦ scanStops flagged round stamp xs
+              (scanDepartures flagged false round stamp x after (notBefore T (after - marginOf) (departuresAt T x)) s)
         ]
       ]
 
@@ -404,7 +409,8 @@ module _ (T : Tables) (Q : Query) where
             let w : ℕ = v + walkTime T Q e in
             elim (ltb w (a .best)) [
               | false ↦ walkFrom flagged stamp x v es a
-              | true ↦ walkFrom flagged stamp x v es (relax stamp (edgeTo T e) w (Walk w x (edgeTo T e) (walkTime T Q e) (T .distance e) (stamp - 1)) a)
+              | true ↦ walkFrom flagged stamp x v es
+                  (relax stamp (edgeTo T e) w (Walk w x (edgeTo T e) (walkTime T Q e) (T .distance e) (stamp - 1)) a)
             ]
       ]
 
@@ -440,7 +446,7 @@ module _ (T : Tables) (Q : Query) where
         };
       }
 
-  -- segments (unflagged none is ever queued: proofs/Calls), then departures
+  -- segments (unflagged none is ever queued: `answer_laws` proofs/Calls), then departures
   unfoldable pub ridePhase : Bool → ℕ → State → State
   ridePhase flagged round s =
       scanStops flagged round (suc (suc round)) (s .arrivals .reached)
@@ -482,7 +488,8 @@ module _ (T : Tables) (Q : Query) where
   -- THE ROUNDS: n of them from round r on
   unfoldable pub rounds : Bool → ℕ → ℕ → State → State
   rounds flagged zero r s = s
-  rounds flagged (suc n) r s = elim (idle flagged (s .arrivals)) [ true ↦ s | false ↦ rounds flagged n (suc r) (walkPhase flagged r (ridePhase flagged r s)) ]
+  rounds flagged (suc n) r s = elim (idle flagged (s .arrivals))
+      [ true ↦ s | false ↦ rounds flagged n (suc r) (walkPhase flagged r (ridePhase flagged r s)) ]
 
   -- ACCESS: one origin
   unfoldable pub setOut : Origin → Arrivals → Arrivals

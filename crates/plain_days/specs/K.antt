@@ -173,7 +173,8 @@ delaysFrom rows stops =
       delays = length rows;
       delay = λ i. let r = getD rows i (0, 0) in record { trip = r .0; delay = r .1 };
       stopRows = length stops;
-      stopRow = λ j. let r = getD stops j (0, 0, 0, 0, 0) in record { row = r .0; sequence = r .1; flags = r .2; «departure_delay» = r .3; «arrival_delay» = r .4 };
+      stopRow = λ j. let r = getD stops j (0, 0, 0, 0, 0) in
+          record { row = r .0; sequence = r .1; flags = r .2; «departure_delay» = r .3; «arrival_delay» = r .4 };
     }
 
 -- T0 is 40 seconds late and skips stop 1, T1 10 early, T2 50 late; a trip that is not in the table is 30,000 late, past the cap,

@@ -14,10 +14,10 @@ use Rattle.model.specs.Tables.{Tables, Query}
 use Rattle.model.specs.Door.{Door}
 use Rattle.joined.specs.Joined.{Joined, JoinedByDeparture}
 use Rattle.model.specs.Promise.{TripTimes, scheduled, effective, PlainDay, SteadyDay, Demand3, Pareto}
-use Rattle.model.specs.Lawful.{Lawful}
-use Rattle.model.proofs.Answers.{runTbr-lawful, query-lawful}
-use Rattle.model.proofs.Calls.{unflagged-zeros}
-use Rattle.model.proofs.Queue.{queue-never-fills}
+use Rattle.answer_laws.specs.Lawful.{Lawful}
+use Rattle.answer_laws.proofs.Answers.{runTbr-lawful, query-lawful}
+use Rattle.answer_laws.proofs.Calls.{unflagged-zeros}
+use Rattle.answer_laws.proofs.Queue.{queue-never-fills}
 use Rattle.joined.proofs.Joined.{runTbr-joined, query-joined, runTbr-joined-departures, query-joined-departures}
 use Rattle.model.proofs.Demand3.{steady, steady-rust, steady-pareto, steady-pareto-rust, demand3, demand3-rust, pareto, pareto-rust}
 use Rattle.query_input.specs.Lent.{Lent, tablesOf, queryOf}

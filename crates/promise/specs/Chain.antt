@@ -67,14 +67,16 @@ callersList x k = listedAt (k .stopRuns) (k .sortAreas .rows)
 -- what the transfers call is lent: a timetable, the lines as the lines call left them, the departures in these rows, and 120 seconds
 abbrev pub lentOn : (x : Lent) → Chain x → RidesLent x → List ℕ → TransferLent
 lentOn x k r rows =
-    transferLent (r .t) (r .c) (x .n .lines) (linesOutcome (k .linesOn .t) (k .linesOn .c) (k .lineAreas) .areas .lines) (x .n .departures) (k .stopRuns) rows
+    transferLent (r .t) (r .c) (x .n .lines) (linesOutcome (k .linesOn .t) (k .linesOn .c) (k .lineAreas) .areas .lines)
+    (x .n .departures) (k .stopRuns) rows
     (rustSettings .transferTime)
 
 -- .. AND THE TRANSFERS CALL: it was lent the rows as sorted, or as they came; its area and its runs are what the query is lent
 pub record TransferChain (x : Lent) (k : Chain x) : Type 0 where
   pub on : RidesLent x
   pub rows : List ℕ
-  pub rows-are : (rows ≡ sortOutcome (k .sortOn .t) (k .sortOn .c) (x .n .departures) (k .stopRuns) (k .sortAreas) .areas .rows) ⊎ (rows ≡ k .sortAreas .rows)
+  pub rows-are : (rows ≡ sortOutcome (k .sortOn .t) (k .sortOn .c) (x .n .departures) (k .stopRuns) (k .sortAreas) .areas .rows)
+      ⊎ (rows ≡ k .sortAreas .rows)
   pub areas : TransferAreas
   pub transfers-answered : transfersOutcome (lentOn x k on rows) areas .answer ≡ Rows (x .n .transfers)
   pub lent-runs : k .rest ≡ transfersOutcome (lentOn x k on rows) areas .areas .transferRuns
@@ -112,7 +114,8 @@ pub record DoorElse (x : Lent) (l : Lengths) : Type 0 where
   pub egress-order : egressOrder (x .q) (x .n) ≡ true
   pub delay-order : delayOrder (delaysOf (x .q) (x .n)) ≡ true
 
--- what it asks of the transfers: after the transfers call it is so; a caller who makes no transfers sees to it (a run of length 0 for each event is enough)
+-- what it asks of the transfers: after the transfers call it is so; a caller who makes no transfers sees to it (a run of length 0 for each event is
+-- enough)
 pub record TransfersPass (x : Lent) (rest : List ℕ) : Type 0 where
   pub few : x .n .transfers ≤ 65536
   pub size : length rest ≡ eventCount (x .t) (x .n) * 2

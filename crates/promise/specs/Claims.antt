@@ -7,9 +7,9 @@ use mathlib.Core.Bool.{Bool, false}
 use mathlib.Core.List.{List·Memᴰ}
 use lib.ListN.{length}
 use Rattle.model.specs.Search.{SearchAnswer}
-use Rattle.model.specs.Lawful.{Lawful}
+use Rattle.answer_laws.specs.Lawful.{Lawful}
 use Rattle.joined.specs.Joined.{Joined, JoinedByDeparture}
-use Rattle.model.specs.Queue.{NoFrequency, allStopTimes}
+use Rattle.answer_laws.specs.Queue.{NoFrequency, allStopTimes}
 use Rattle.model.specs.Promise.{TripTimes, Demand3, Pareto}
 use Rattle.query_input.specs.Lent.{Lent, tablesOf, queryOf}
 use Rattle.query_door.specs.Door.{queryVerdict}
@@ -20,8 +20,10 @@ pub record DoorMet (x : Lent) (o : QueryAreas → QueryOutcome) (a : SearchAnswe
   -- the first of questions 1 to 6 that is answered no is the code, and nothing is written
   pub refused-by-first-no : (s : QueryAreas) (k : ℕ) → queryVerdict x (queryLengths s) ≡ suc k → o s ≡ refused (suc k) s
   -- question 8 is answered no exactly where some round's queue has more segments than a half has rows
-  pub full : (s : QueryAreas) → queryVerdict x (queryLengths s) ≡ 0 → (m : ℕ) → List·Memᴰ m (a .queued) → length (s .queueA) / 4 < m → o s ≡ overflown s
-  pub fits : (s : QueryAreas) → queryVerdict x (queryLengths s) ≡ 0 → ((m : ℕ) → List·Memᴰ m (a .queued) → m ≤ length (s .queueA) / 4) → o s ≡ answered a s
+  pub full : (s : QueryAreas) → queryVerdict x (queryLengths s) ≡ 0 → (m : ℕ) → List·Memᴰ m (a .queued) → length (s .queueA) / 4 < m
+      → o s ≡ overflown s
+  pub fits : (s : QueryAreas) → queryVerdict x (queryLengths s) ≡ 0 → ((m : ℕ) → List·Memᴰ m (a .queued) → m ≤ length (s .queueA) / 4)
+      → o s ≡ answered a s
   pub answered-or-full : (s : QueryAreas) → queryVerdict x (queryLengths s) ≡ 0
       → (o s ≡ answered a s) ⊎ ((o s ≡ overflown s) × (m : ℕ) × List·Memᴰ m (a .queued) × (length (s .queueA) / 4 < m))
   -- a code of 0 is given only with the answer
@@ -30,7 +32,8 @@ pub record DoorMet (x : Lent) (o : QueryAreas → QueryOutcome) (a : SearchAnswe
 -- when question 8 is never answered no: without arc flags in use; and without frequency trips where a half has a row for each stop time of each trip
 pub record NeverFull (x : Lent) (o : QueryAreas → QueryOutcome) (a : SearchAnswer) (inUse : Bool) : Type 0 where
   pub unflagged : (s : QueryAreas) → queryVerdict x (queryLengths s) ≡ 0 → inUse ≡ false → o s ≡ answered a s
-  pub no-frequency : (s : QueryAreas) → queryVerdict x (queryLengths s) ≡ 0 → NoFrequency (tablesOf x) → allStopTimes (tablesOf x) ≤ length (s .queueA) / 4
+  pub no-frequency : (s : QueryAreas) → queryVerdict x (queryLengths s) ≡ 0 → NoFrequency (tablesOf x)
+      → allStopTimes (tablesOf x) ≤ length (s .queueA) / 4
       → o s ≡ answered a s
 
 -- DEMAND 2, besides that the answer is the definitions': with code 0 it is given, and it is lawful

@@ -6,7 +6,8 @@ use mathlib.Core.Path.{_≡_}
 use mathlib.Core.Bool.{false}
 use Rattle.model.specs.Tables.{rustSettings}
 use Rattle.model.specs.Search.{SearchAnswer, useArcFlags, flagsInUse, runTbr, query}
-use Rattle.model.specs.Promise.{scheduled, effective, LinesBuilt, TransfersBuilt, CalmConditions, PlainConditions, PlainDay, SteadyConditions, SteadyDay}
+use Rattle.model.specs.Promise.{scheduled, effective, LinesBuilt, TransfersBuilt, CalmConditions, PlainConditions, PlainDay, SteadyConditions}
+use Rattle.model.specs.Promise.{SteadyDay}
 use Rattle.query_types.specs.declared.Lengths.{Lengths}
 use Rattle.query_input.specs.Lent.{Lent, tablesOf, queryOf}
 use Rattle.query_door.specs.Door.{queryVerdict}
@@ -36,7 +37,8 @@ pub record Demands : Type 0 where
   pub demand3-rust-call : (x : Lent) → PlainDay (tablesOf x) (queryOf x) → useArcFlags (tablesOf x) (queryOf x) ≡ false
       → PromiseMet x (runTbrOutcome x) (rustAnswerOf x) (scheduled (tablesOf x))
   -- the same on a steady day, by effective times
-  pub steady-query : (x : Lent) → SteadyDay (tablesOf x) (queryOf x) → PromiseMet x (queryOutcome x) (lentAnswer x) (effective (tablesOf x) (queryOf x))
+  pub steady-query : (x : Lent) → SteadyDay (tablesOf x) (queryOf x)
+      → PromiseMet x (queryOutcome x) (lentAnswer x) (effective (tablesOf x) (queryOf x))
   pub steady-rust-call : (x : Lent) → SteadyDay (tablesOf x) (queryOf x) → useArcFlags (tablesOf x) (queryOf x) ≡ false
       → PromiseMet x (runTbrOutcome x) (rustAnswerOf x) (effective (tablesOf x) (queryOf x))
   -- THE CHAIN: what the building calls left is as a day asks, of the query's own timetable and from the caller's list

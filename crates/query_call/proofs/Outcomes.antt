@@ -39,7 +39,7 @@ admitted-is false x s code e z h = h ∙ ap (λ (v : ℕ). querySettled v (queue
 -- the areas that the rounds leave are as long as they came
 pub record SameSizes (s s₁ : QueryAreas) : Type 0 where
   pub labels : length (s₁ .labels) ≡ length (s .labels)
-  pub distances : length (s₁ .distances) ≡ length (s .distances)
+  pub labelDistances : length (s₁ .labelDistances) ≡ length (s .labelDistances)
   pub work : length (s₁ .work) ≡ length (s .work)
   pub queueA : length (s₁ .queueA) ≡ length (s .queueA)
   pub queueB : length (s₁ .queueB) ≡ length (s .queueB)
@@ -47,10 +47,10 @@ pub record SameSizes (s s₁ : QueryAreas) : Type 0 where
 
 overflown-same : (s s₁ : QueryAreas) → SameSizes s s₁ → overflown s₁ ≡ overflown s
 overflown-same s s₁ e =
-    rw (e .labels, e .distances, e .work, e .queueA, e .queueB, e .candidates) refl
+    rw (e .labels, e .labelDistances, e .work, e .queueA, e .queueB, e .candidates) refl
 
 module _ (x : Lent) (rust : Bool) (s : QueryAreas) {s₁ s′ : QueryAreas} {h : Head} {r : Reply} (A : Admitted x (queryLengths s))
-    (E : Ended x (modeBy rust x) (length (s .queueA) / 4) (layOf (x .n)) (memory (s₁ .work) (s₁ .labels) (s₁ .distances) h))
+    (E : Ended x (modeBy rust x) (length (s .queueA) / 4) (layOf (x .n)) (memory (s₁ .work) (s₁ .labels) (s₁ .labelDistances) h))
     (e : SameSizes s s₁) (F : Finished (x .n) (x .q) (h .full) s₁ s′ r) where
   abbrev a : SearchAnswer
   a = answerBy rust x
@@ -65,11 +65,11 @@ module _ (x : Lent) (rust : Bool) (s : QueryAreas) {s₁ s′ : QueryAreas} {h :
   given : h .full ≡ false → queryOutcomeOf r s′ ≡ answered a s
   unfolding searchAnswer
   given f =
-      let R = F .replied f _ _ _ (agrees x (queryLengths s) A (modeBy rust x) (length (s .queueA) / 4) (s₁ .work) (s₁ .labels) (s₁ .distances) h E f) in
+      let R = F .replied f _ _ _ (agrees x (queryLengths s) A (modeBy rust x) (length (s .queueA) / 4) (s₁ .work) (s₁ .labels) (s₁ .labelDistances) h E f) in
       let L = labels-are (E .written) (omega (arith, E .sized .rows)) (E .sized .metres) _ (E .labels f) in
       ap₂ queryOutcomeOf (R .reply-is) (F .rest f ∙ areas-same (L .0) (L .1) (R .rows-are))
     where
-      areas-same : {ls : List ℕ} {ds : List Float} {rows : List ℕ} → s₁ .labels ≡ ls → s₁ .distances ≡ ds → s′ .candidates ≡ rows
+      areas-same : {ls : List ℕ} {ds : List Float} {rows : List ℕ} → s₁ .labels ≡ ls → s₁ .labelDistances ≡ ds → s′ .candidates ≡ rows
           → left s₁ (s′ .candidates) ≡ queryAreas ls ds (cleared (s .work)) (cleared (s .queueA)) (cleared (s .queueB)) rows
       areas-same el ed er = rw (el, ed, er, e .work, e .queueA, e .queueB) refl
 

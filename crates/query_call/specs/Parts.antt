@@ -39,6 +39,13 @@ pub record Flagging (n : QueryCounts) (t built transfers patterns : List ℕ) : 
   pub runs : RunsIn (transferRuns built n) (transferRows n (length transfers))
 
 -- the door admits what is lent, with areas of these lengths
-pub record AdmittedWith (x : Lent) (labels distances work queueA queueB : ℕ) : Type 0 where
+pub record AdmittedWith (x : Lent) (labels labelDistances work queueA queueB : ℕ) : Type 0 where
   pub candidates : ℕ
-  pub admitted : Admitted x (record { labels = labels; «label_distances» = distances; work = work; «queue_a» = queueA; «queue_b» = queueB; candidates = candidates })
+  pub admitted : Admitted x (record {
+    labels = labels;
+    «label_distances» = labelDistances;
+    work = work;
+    «queue_a» = queueA;
+    «queue_b» = queueB;
+    candidates = candidates;
+  })

@@ -30,54 +30,55 @@ use query_types::Net;
 use query_types::QueryCounts;
 
 // How long a workspace the caller has to lend.
-pub fn workspace(n: QueryCounts) -> Answer
-    ensures { λ r. ⌜ r ≡ workspaceAnswer n ⌝ }
+pub fn workspace(counts: QueryCounts) -> Answer
+    ensures { λ r. ⌜ r ≡ workspaceAnswer counts ⌝ }
 {
-    if !query_door::counts_ok(n) {
+    if !query_door::counts_ok(counts) {
         return door::refused(1);
     }
-    door::given(query_door::work_size(n) as u32)
+    door::given(query_door::work_size(counts) as u32)
 }
 
 // Are arc flags in use? Of `run_tbr` (rust) where they are not put off; of `query` where besides they skip something.
 fn in_use(
     rust: bool,
-    n: QueryCounts,
+    counts: QueryCounts,
     tables: &[u32],
     built: &[u32],
     transfers: &[u32],
     patterns: &[u8],
     net: Net,
-    off: bool,
+    flags_off: bool,
 ) -> bool
-    requires { ⌜ Flagging n (now tables) (now built) (now transfers) (now patterns) ⌝ }
+    requires { ⌜ Flagging counts (now tables) (now built) (now transfers) (now patterns) ⌝ }
     ensures { λ r. ⌜ ((d : List Float) (q : List ℕ) → net
-        ≡ netOf (lent n (now (tables .entry)) (now (built .entry)) (now (transfers .entry)) (now (patterns .entry)) d q)
-        → queryOf (lent n (now (tables .entry)) (now (built .entry)) (now (transfers .entry)) (now (patterns .entry)) d q) .flagsOff ≡ off → r
-        ≡ modeBy rust (lent n (now (tables .entry)) (now (built .entry)) (now (transfers .entry)) (now (patterns .entry)) d q)) ⌝ }
+        ≡ netOf (lent counts (now (tables .entry)) (now (built .entry)) (now (transfers .entry)) (now (patterns .entry)) d q)
+        → queryOf (lent counts (now (tables .entry)) (now (built .entry)) (now (transfers .entry)) (now (patterns .entry)) d q) .flagsOff
+        ≡ «flags_off» → r
+        ≡ modeBy rust (lent counts (now (tables .entry)) (now (built .entry)) (now (transfers .entry)) (now (patterns .entry)) d q)) ⌝ }
 {
     if rust {
-        return arc_flags::use_arc_flags(n.patterns, net.target, off);
+        return arc_flags::use_arc_flags(counts.patterns, net.target, flags_off);
     }
-    let runs = query_input::transfer_runs(built, n);
-    let rows = query_input::transfer_rows(n, transfers.len());
+    let runs = query_input::transfer_runs(built, counts);
+    let transfer_rows = query_input::transfer_rows(counts, transfers.len());
     arc_flags::flags_in_use(
         tables,
-        n.timetable,
+        counts.timetable,
         runs,
         transfers,
-        rows,
+        transfer_rows,
         patterns,
-        n.patterns,
+        counts.patterns,
         net.target,
-        off,
+        flags_off,
     )
 }
 
 // From the beginning to the end of the rounds.
 fn search(
     rust: bool,
-    n: QueryCounts,
+    counts: QueryCounts,
     tables: &[u32],
     built: &[u32],
     transfers: &[u32],
@@ -90,20 +91,29 @@ fn search(
     queue_a: &mut [u32],
     queue_b: &mut [u32],
 ) -> Head
-    requires { ⌜ AdmittedWith (lent n (now tables) (now built) (now transfers) (now patterns) (now distances) (now query)) (length (now labels))
-        (length (now «label_distances»)) (length (now work)) (length (now «queue_a»)) (length (now «queue_b»)) ⌝ }
-    ensures { λ h. ⌜ Ended (lent n (now (tables .entry)) (now (built .entry)) (now (transfers .entry)) (now (patterns .entry))
+    requires { ⌜ AdmittedWith (lent counts (now tables) (now built) (now transfers) (now patterns) (now distances) (now query))
+        (length (now labels)) (length (now «label_distances»)) (length (now work)) (length (now «queue_a»)) (length (now «queue_b»)) ⌝ }
+    ensures { λ h. ⌜ Ended (lent counts (now (tables .entry)) (now (built .entry)) (now (transfers .entry)) (now (patterns .entry))
         (now (distances .entry)) (now (query .entry)))
-        (modeBy rust (lent n (now (tables .entry)) (now (built .entry)) (now (transfers .entry)) (now (patterns .entry)) (now (distances .entry))
-        (now (query .entry)))) (length (now («queue_a» .entry)) / 4) (layOf n)
+        (modeBy rust (lent counts (now (tables .entry)) (now (built .entry)) (now (transfers .entry)) (now (patterns .entry)) (now (distances .entry))
+        (now (query .entry)))) (length (now («queue_a» .entry)) / 4) (layOf counts)
         (memory (now (work .exit)) (now (labels .exit)) (now («label_distances» .exit)) h) ⌝ }
 {
-    let lay = query_types::lay_for(n.timetable, n.lines);
-    let net = search_begin::net_of(n, tables, built, distances, query);
-    let off = words::field(query, 6) == 1;
-    let flagged = in_use(rust, n, tables, built, transfers, patterns, net, off);
+    let lay = query_types::lay_for(counts.timetable, counts.lines);
+    let net = search_begin::net_of(counts, tables, built, distances, query);
+    let flags_off = words::field(query, 6) == 1;
+    let flagged = in_use(
+        rust,
+        counts,
+        tables,
+        built,
+        transfers,
+        patterns,
+        net,
+        flags_off,
+    );
     let h = search_begin::begin(
-        n,
+        counts,
         tables,
         built,
         distances,
@@ -115,7 +125,7 @@ fn search(
     );
     let change = query[1];
     let ctx = Context {
-        counts: n,
+        counts,
         lay,
         net,
         flagged,
@@ -141,7 +151,7 @@ fn search(
 // A query that the door admits.
 fn answer_query(
     rust: bool,
-    n: QueryCounts,
+    counts: QueryCounts,
     tables: &[u32],
     built: &[u32],
     transfers: &[u32],
@@ -155,22 +165,22 @@ fn answer_query(
     queue_b: &mut [u32],
     candidates: &mut [u32],
 ) -> Reply
-    requires { ⌜ Admitted (lent n (now tables) (now built) (now transfers) (now patterns) (now distances) (now query))
+    requires { ⌜ Admitted (lent counts (now tables) (now built) (now transfers) (now patterns) (now distances) (now query))
         (queryLengths (queryAreas (now labels) (now «label_distances») (now work) (now «queue_a») (now «queue_b») (now candidates))) ⌝ }
-    ensures { λ r. ⌜ queryOutcomeOf r (queryAreas (now (labels .exit)) (now («label_distances» .exit)) (now (work .exit)) (now («queue_a» .exit))
-        (now («queue_b» .exit)) (now (candidates .exit)))
+    ensures { λ r. ⌜ queryOutcomeOf r (queryAreas (now (labels .exit)) (now («label_distances» .exit)) (now (work .exit))
+        (now («queue_a» .exit)) (now («queue_b» .exit)) (now (candidates .exit)))
         ≡ querySettled 0 (queueFull (answerBy rust
-        (lent n (now (tables .entry)) (now (built .entry)) (now (transfers .entry)) (now (patterns .entry)) (now (distances .entry))
+        (lent counts (now (tables .entry)) (now (built .entry)) (now (transfers .entry)) (now (patterns .entry)) (now (distances .entry))
         (now (query .entry)))) (queryAreas (now (labels .entry)) (now («label_distances» .entry)) (now (work .entry)) (now («queue_a» .entry))
         (now («queue_b» .entry)) (now (candidates .entry))))
-        (answerBy rust (lent n (now (tables .entry)) (now (built .entry)) (now (transfers .entry)) (now (patterns .entry))
+        (answerBy rust (lent counts (now (tables .entry)) (now (built .entry)) (now (transfers .entry)) (now (patterns .entry))
         (now (distances .entry)) (now (query .entry))))
         (queryAreas (now (labels .entry)) (now («label_distances» .entry)) (now (work .entry)) (now («queue_a» .entry)) (now («queue_b» .entry))
         (now (candidates .entry))) ⌝ }
 {
     let h = search(
         rust,
-        n,
+        counts,
         tables,
         built,
         transfers,
@@ -184,7 +194,7 @@ fn answer_query(
         queue_b,
     );
     query_reply::finish(
-        n,
+        counts,
         query,
         h,
         labels,
@@ -199,7 +209,7 @@ fn answer_query(
 // The questions first; a no is returned at once.
 fn ask(
     rust: bool,
-    n: QueryCounts,
+    counts: QueryCounts,
     tables: &[u32],
     built: &[u32],
     transfers: &[u32],
@@ -213,9 +223,9 @@ fn ask(
     queue_b: &mut [u32],
     candidates: &mut [u32],
 ) -> Reply
-    ensures { λ r. ⌜ queryOutcomeOf r (queryAreas (now (labels .exit)) (now («label_distances» .exit)) (now (work .exit)) (now («queue_a» .exit))
-        (now («queue_b» .exit)) (now (candidates .exit)))
-        ≡ outcomeBy rust (lent n (now (tables .entry)) (now (built .entry)) (now (transfers .entry)) (now (patterns .entry))
+    ensures { λ r. ⌜ queryOutcomeOf r (queryAreas (now (labels .exit)) (now («label_distances» .exit)) (now (work .exit))
+        (now («queue_a» .exit)) (now («queue_b» .exit)) (now (candidates .exit)))
+        ≡ outcomeBy rust (lent counts (now (tables .entry)) (now (built .entry)) (now (transfers .entry)) (now (patterns .entry))
         (now (distances .entry)) (now (query .entry)))
         (queryAreas (now (labels .entry)) (now («label_distances» .entry)) (now (work .entry)) (now («queue_a» .entry)) (now («queue_b» .entry))
         (now (candidates .entry))) ⌝ }
@@ -228,7 +238,16 @@ fn ask(
         queue_b: queue_b.len(),
         candidates: candidates.len(),
     };
-    let code = query_door::questions(n, tables, built, transfers, patterns, distances, query, l);
+    let code = query_door::questions(
+        counts,
+        tables,
+        built,
+        transfers,
+        patterns,
+        distances,
+        query,
+        l,
+    );
     if code != 0 {
         return Reply {
             code: code,
@@ -239,7 +258,7 @@ fn ask(
     }
     answer_query(
         rust,
-        n,
+        counts,
         tables,
         built,
         transfers,
@@ -257,7 +276,7 @@ fn ask(
 
 // THE CALL `run_tbr`.
 pub fn run_tbr(
-    n: QueryCounts,
+    counts: QueryCounts,
     tables: &[u32],
     built: &[u32],
     transfers: &[u32],
@@ -276,14 +295,14 @@ pub fn run_tbr(
       areas = queryAreas (now (labels .exit)) (now («label_distances» .exit)) (now (work .exit))
           (now («queue_a» .exit)) (now («queue_b» .exit)) (now (candidates .exit));
     }
-        ≡ runTbrOutcome (lent n (now (tables .entry)) (now (built .entry)) (now (transfers .entry)) (now (patterns .entry))
+        ≡ runTbrOutcome (lent counts (now (tables .entry)) (now (built .entry)) (now (transfers .entry)) (now (patterns .entry))
         (now (distances .entry)) (now (query .entry)))
         (queryAreas (now (labels .entry)) (now («label_distances» .entry)) (now (work .entry)) (now («queue_a» .entry)) (now («queue_b» .entry))
         (now (candidates .entry))) ⌝ }
 {
     ask(
         true,
-        n,
+        counts,
         tables,
         built,
         transfers,
@@ -301,7 +320,7 @@ pub fn run_tbr(
 
 // THE CALL `query`.
 pub fn query(
-    n: QueryCounts,
+    counts: QueryCounts,
     tables: &[u32],
     built: &[u32],
     transfers: &[u32],
@@ -320,14 +339,14 @@ pub fn query(
       areas = queryAreas (now (labels .exit)) (now («label_distances» .exit)) (now (work .exit))
           (now («queue_a» .exit)) (now («queue_b» .exit)) (now (candidates .exit));
     }
-        ≡ queryOutcome (lent n (now (tables .entry)) (now (built .entry)) (now (transfers .entry)) (now (patterns .entry))
+        ≡ queryOutcome (lent counts (now (tables .entry)) (now (built .entry)) (now (transfers .entry)) (now (patterns .entry))
         (now (distances .entry)) (now (query .entry)))
         (queryAreas (now (labels .entry)) (now («label_distances» .entry)) (now (work .entry)) (now («queue_a» .entry)) (now («queue_b» .entry))
         (now (candidates .entry))) ⌝ }
 {
     ask(
         false,
-        n,
+        counts,
         tables,
         built,
         transfers,

@@ -15,7 +15,8 @@ use Rattle.label.specs.Table.{lengthsRight}
 use Rattle.delay_rows.specs.Door.{delayNumbers, delayRanges, delayOrder}
 use Rattle.query_types.specs.declared.QueryCounts.{QueryCounts}
 use Rattle.query_types.specs.declared.Lengths.{Lengths}
-use Rattle.query_input.specs.Lent.{marksAt, eventCount, builtSize, originsAt, egressAt, querySize, lineRuns, lineEntries, stopRuns, departureRows, delaysOf, transferRunAt, transferRows, Lent}
+use Rattle.query_input.specs.Lent.{marksAt, eventCount, builtSize, originsAt, egressAt, querySize, lineRuns, lineEntries, stopRuns, departureRows}
+use Rattle.query_input.specs.Lent.{delaysOf, transferRunAt, transferRows, Lent}
 use Rattle.query_types.specs.Layout.{workSizeOf}
 
 -- 1: ARE ALL COUNTS WITHIN THE LIMITS?

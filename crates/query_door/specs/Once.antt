@@ -15,7 +15,8 @@ use Rattle.departures.specs.Listed.{RowKnown, RowsListed}
 use Rattle.delay_rows.specs.Door.{delayNumbers, delayRanges, delayOrder}
 use Rattle.query_types.specs.declared.QueryCounts.{QueryCounts}
 use Rattle.query_input.specs.Lent.{delaysOf}
-use Rattle.query_door.specs.Door.{lineNumbers, queryNumbers, queryQuestion4, markRanges, transferRanges, settingRanges, walkRanges, queryQuestion5, departureOrder, egressOrder, queryQuestion6}
+use Rattle.query_door.specs.Door.{lineNumbers, queryNumbers, queryQuestion4, markRanges, transferRanges, settingRanges, walkRanges}
+use Rattle.query_door.specs.Door.{queryQuestion5, departureOrder, egressOrder, queryQuestion6}
 
 -- a row of stop s is right, and leaves at b - 1
 pub record Leaving (t : List ℕ) (c : Counts) (s : ℕ) (r : DepartureRow) (b : ℕ) : Type 0 where
@@ -43,7 +44,8 @@ queryOk q n =
 -- the tables but for the departures
 unfoldable pub tablesOk : List ℕ → List ℕ → List ℕ → QueryCounts → ℕ → Bool
 tablesOk t built transfers n rows =
-    ((numbersOk t (n .timetable) && rangesOk t (n .timetable)) && orderOk t (n .timetable)) && (lineNumbers built n && (markRanges built n && transferRanges transfers rows))
+    ((numbersOk t (n .timetable) && rangesOk t (n .timetable)) && orderOk t (n .timetable))
+    && (lineNumbers built n && (markRanges built n && transferRanges transfers rows))
 
 -- a yes to all three
 pub record Passed (t built transfers q : List ℕ) (n : QueryCounts) (rows : ℕ) : Type 0 where

@@ -31,28 +31,28 @@ use query_types::Lengths;
 use query_types::QueryCounts;
 use tables::Counts;
 
-pub fn work_size(n: QueryCounts) -> usize
-    requires { ⌜ Limits n ⌝ }
-    ensures { λ r. ⌜ r ≡ workSizeOf n ⌝ }
+pub fn work_size(counts: QueryCounts) -> usize
+    requires { ⌜ Limits counts ⌝ }
+    ensures { λ r. ⌜ r ≡ workSizeOf counts ⌝ }
 {
-    query_types::work_size(query_types::lay_for(n.timetable, n.lines))
+    query_types::work_size(query_types::lay_for(counts.timetable, counts.lines))
 }
 
 // Question 1.
-pub fn counts_ok(n: QueryCounts) -> bool
-    ensures { λ r. ⌜ r ≡ queryQuestion1 n ⌝ }
+pub fn counts_ok(counts: QueryCounts) -> bool
+    ensures { λ r. ⌜ r ≡ queryQuestion1 counts ⌝ }
 {
     let a = both(
-        tables::counts_ok(n.timetable),
-        both(n.cells <= 512, n.patterns <= 4096),
+        tables::counts_ok(counts.timetable),
+        both(counts.cells <= 512, counts.patterns <= 4096),
     );
     let b = both(
-        both(n.lines <= 4096, n.entries <= 4096),
-        both(n.departures <= 65536, n.transfers <= 65536),
+        both(counts.lines <= 4096, counts.entries <= 4096),
+        both(counts.departures <= 65536, counts.transfers <= 65536),
     );
     let c = both(
-        both(n.delays <= 4096, n.stop_rows <= 4096),
-        both(n.origins <= 64, n.egress <= 64),
+        both(counts.delays <= 4096, counts.stop_rows <= 4096),
+        both(counts.origins <= 64, counts.egress <= 64),
     );
     both(a, both(b, c))
 }
@@ -60,68 +60,68 @@ pub fn counts_ok(n: QueryCounts) -> bool
 // Question 2 of what is read, but for the timetable's slice, whose numbers the others are measured by.
 fn read_ok(
     tables: &[u32],
-    n: QueryCounts,
+    counts: QueryCounts,
     built: usize,
     patterns: usize,
     distances: usize,
     q: usize,
 ) -> bool
-    requires { ⌜ Limits n ⌝ ∗ ⌜ SlicesOk (now tables) (n .timetable) ⌝ }
-    ensures { λ r. ⌜ r ≡ readOk (now (tables .entry)) n built patterns distances q ⌝ }
+    requires { ⌜ Limits counts ⌝ ∗ ⌜ SlicesOk (now tables) (counts .timetable) ⌝ }
+    ensures { λ r. ⌜ r ≡ readOk (now (tables .entry)) counts built patterns distances q ⌝ }
 {
-    let events = event_transfers::event_count(tables, n.timetable);
-    let a = built == query_input::transfer_runs_at(n) + events * 2;
-    let b = distances == n.timetable.edges + n.origins;
+    let events = event_transfers::event_count(tables, counts.timetable);
+    let a = built == query_input::transfer_runs_at(counts) + events * 2;
+    let b = distances == counts.timetable.edges + counts.origins;
     both(
-        both(a, patterns == n.patterns * 64),
-        both(b, q == query_input::query_size(n)),
+        both(a, patterns == counts.patterns * 64),
+        both(b, q == query_input::query_size(counts)),
     )
 }
 
 // Question 2 of what is written.
-fn written_ok(n: QueryCounts, l: Lengths) -> bool
-    requires { ⌜ Limits n ⌝ }
-    ensures { λ r. ⌜ r ≡ writtenOk n l ⌝ }
+fn written_ok(counts: QueryCounts, l: Lengths) -> bool
+    requires { ⌜ Limits counts ⌝ }
+    ensures { λ r. ⌜ r ≡ writtenOk counts l ⌝ }
 {
     let labels = both(
-        l.labels == n.timetable.stops * 13 * 8,
-        l.label_distances == n.timetable.stops * 13,
+        l.labels == counts.timetable.stops * 13 * 8,
+        l.label_distances == counts.timetable.stops * 13,
     );
     both(
-        both(labels, l.work == work_size(n)),
+        both(labels, l.work == work_size(counts)),
         both(l.queue_a == l.queue_b, l.candidates == 39),
     )
 }
 
 fn sizes_ok(
     tables: &[u32],
-    n: QueryCounts,
+    counts: QueryCounts,
     built: usize,
     patterns: usize,
     distances: usize,
     q: usize,
     l: Lengths,
 ) -> bool
-    requires { ⌜ Limits n ⌝ }
-    ensures { λ r. ⌜ r ≡ queryQuestion2 (now (tables .entry)) n built patterns distances q l ⌝ }
+    requires { ⌜ Limits counts ⌝ }
+    ensures { λ r. ⌜ r ≡ queryQuestion2 (now (tables .entry)) counts built patterns distances q l ⌝ }
 {
-    if !tables::slices_ok(tables, n.timetable) {
+    if !tables::slices_ok(tables, counts.timetable) {
         return false;
     }
     both(
-        read_ok(tables, n, built, patterns, distances, q),
-        written_ok(n, l),
+        read_ok(tables, counts, built, patterns, distances, q),
+        written_ok(counts, l),
     )
 }
 
 // Question 3 of every event's transfer run, no branch between them: kept are all bits of first row and length, and whether each sum is in the
 // rows. Below 2^31 no sum wraps.
-fn transfer_runs_ok(built: &[u32], n: QueryCounts, events: usize, rows: usize) -> bool
-    requires { ⌜ Limits n ⌝ ∗ ⌜ transferRunsAt n + events * 2 ≤ length (now built) ⌝ ∗ ⌜ rows ≤ 65536 ⌝ }
-    ensures { λ r. ⌜ r ≡ transferRunsOk (now (built .entry)) n events rows ⌝ }
+fn transfer_runs_ok(built: &[u32], counts: QueryCounts, events: usize, transfer_rows: usize) -> bool
+    requires { ⌜ Limits counts ⌝ ∗ ⌜ transferRunsAt counts + events * 2 ≤ length (now built) ⌝ ∗ ⌜ «transfer_rows» ≤ 65536 ⌝ }
+    ensures { λ r. ⌜ r ≡ transferRunsOk (now (built .entry)) counts events «transfer_rows» ⌝ }
 {
-    let from = query_input::transfer_runs_at(n);
-    let limit = rows as u32;
+    let from = query_input::transfer_runs_at(counts);
+    let limit = transfer_rows as u32;
     let mut inside = true;
     let mut bits: u32 = 0;
     let mut e: usize = 0;
@@ -137,20 +137,29 @@ fn transfer_runs_ok(built: &[u32], n: QueryCounts, events: usize, rows: usize) -
 }
 
 // Question 3.
-fn runs_ok(tables: &[u32], built: &[u32], n: QueryCounts, rows: usize) -> bool
-    requires { ⌜ Limits n ⌝ ∗ ⌜ SlicesOk (now tables) (n .timetable) ⌝ ∗ ⌜ length (now built) ≡ builtSize (now tables) n ⌝ ∗ ⌜ rows ≤ 65536 ⌝ }
-    ensures { λ r. ⌜ r ≡ queryQuestion3 (now (tables .entry)) (now (built .entry)) n rows ⌝ }
+fn runs_ok(tables: &[u32], built: &[u32], counts: QueryCounts, transfer_rows: usize) -> bool
+    requires { ⌜ Limits counts ⌝ ∗ ⌜ SlicesOk (now tables) (counts .timetable) ⌝
+        ∗ ⌜ length (now built) ≡ builtSize (now tables) counts ⌝
+        ∗ ⌜ «transfer_rows» ≤ 65536 ⌝ }
+    ensures { λ r. ⌜ r ≡ queryQuestion3 (now (tables .entry)) (now (built .entry)) counts «transfer_rows» ⌝ }
 {
-    let lines = line_layout::line_runs_ok(query_input::line_runs(built, n), n.lines, n.entries);
-    let stops = departures::stop_runs_ok(
-        query_input::stop_runs(built, n),
-        n.timetable,
-        n.departures,
+    let lines = line_layout::line_runs_ok(
+        query_input::line_runs(built, counts),
+        counts.lines,
+        counts.entries,
     );
-    let events = event_transfers::event_count(tables, n.timetable);
+    let stops = departures::stop_runs_ok(
+        query_input::stop_runs(built, counts),
+        counts.timetable,
+        counts.departures,
+    );
+    let events = event_transfers::event_count(tables, counts.timetable);
     both(
-        both(tables::runs_ok(tables, n.timetable), lines),
-        both(stops, transfer_runs_ok(built, n, events, rows)),
+        both(tables::runs_ok(tables, counts.timetable), lines),
+        both(
+            stops,
+            transfer_runs_ok(built, counts, events, transfer_rows),
+        ),
     )
 }
 
@@ -170,81 +179,94 @@ fn column_below(s: &[u32], first: usize, stride: usize, count: usize, bound: usi
 }
 
 // Question 4 of the lines.
-fn line_numbers(built: &[u32], n: QueryCounts) -> bool
-    requires { ⌜ Limits n ⌝ ∗ ⌜ marksAt n ≤ length (now built) ⌝ }
-    ensures { λ r. ⌜ r ≡ lineNumbers (now (built .entry)) n ⌝ }
+fn line_numbers(built: &[u32], counts: QueryCounts) -> bool
+    requires { ⌜ Limits counts ⌝ ∗ ⌜ marksAt counts ≤ length (now built) ⌝ }
+    ensures { λ r. ⌜ r ≡ lineNumbers (now (built .entry)) counts ⌝ }
 {
-    let lines = column_below(built, 0, 1, n.timetable.trips, n.lines);
+    let lines = column_below(built, 0, 1, counts.timetable.trips, counts.lines);
     let entries = line_layout::entries_ok(
-        n.timetable,
-        query_input::line_entries(built, n),
-        n.entries,
+        counts.timetable,
+        query_input::line_entries(built, counts),
+        counts.entries,
     );
     both(lines, entries)
 }
 
 // Question 4 of origins and egress.
-fn query_numbers(query: &[u32], n: QueryCounts) -> bool
-    requires { ⌜ Limits n ⌝ ∗ ⌜ querySize n ≤ length (now query) ⌝ }
-    ensures { λ r. ⌜ r ≡ queryNumbers (now (query .entry)) n ⌝ }
+fn query_numbers(query: &[u32], counts: QueryCounts) -> bool
+    requires { ⌜ Limits counts ⌝ ∗ ⌜ querySize counts ≤ length (now query) ⌝ }
+    ensures { λ r. ⌜ r ≡ queryNumbers (now (query .entry)) counts ⌝ }
 {
-    let stops = n.timetable.stops;
-    let origins = column_below(query, 7, 2, n.origins, stops);
-    let egress = column_below(query, 7 + n.origins * 2, 2, n.egress, stops);
+    let stops = counts.timetable.stops;
+    let origins = column_below(query, 7, 2, counts.origins, stops);
+    let egress = column_below(query, 7 + counts.origins * 2, 2, counts.egress, stops);
     both(origins, egress)
 }
 
 // Question 4, 5 or 6 of the delay tables.
-fn delays_ok(question: u32, query: &[u32], n: QueryCounts) -> bool
-    requires { ⌜ Limits n ⌝ ∗ ⌜ querySize n ≤ length (now query) ⌝ }
-    ensures { λ r. ⌜ r ≡ rowsAsked question (n .timetable .trips) (delaysOf (now (query .entry)) n) ⌝ }
+fn delays_ok(question: u32, query: &[u32], counts: QueryCounts) -> bool
+    requires { ⌜ Limits counts ⌝ ∗ ⌜ querySize counts ≤ length (now query) ⌝ }
+    ensures { λ r. ⌜ r ≡ rowsAsked question (counts .timetable .trips) (delaysOf (now (query .entry)) counts) ⌝ }
 {
     delay_rows::rows_asked(
         question,
-        n.timetable.trips as u32,
-        query_input::delay_rows(query, n),
-        query_input::stop_rows(query, n),
+        counts.timetable.trips as u32,
+        query_input::delay_rows(query, counts),
+        query_input::stop_rows(query, counts),
     )
 }
 
 // Question 4.
-fn numbers_ok(tables: &[u32], built: &[u32], query: &[u32], n: QueryCounts, rows: usize) -> bool
-    requires { ⌜ Limits n ⌝ ∗ ⌜ ReadSized (now tables) n (length (now built)) (length (now query)) ⌝ ∗ ⌜ Placed (now tables) (now built) n rows ⌝ }
-    ensures { λ r. ⌜ r ≡ queryQuestion4 (now (tables .entry)) (now (built .entry)) (now (query .entry)) n ⌝ }
+fn numbers_ok(
+    tables: &[u32],
+    built: &[u32],
+    query: &[u32],
+    counts: QueryCounts,
+    transfer_rows: usize,
+) -> bool
+    requires { ⌜ Limits counts ⌝ ∗ ⌜ ReadSized (now tables) counts (length (now built)) (length (now query)) ⌝
+        ∗ ⌜ Placed (now tables) (now built) counts «transfer_rows» ⌝ }
+    ensures { λ r. ⌜ r ≡ queryQuestion4 (now (tables .entry)) (now (built .entry)) (now (query .entry)) counts ⌝ }
 {
-    let c = n.timetable;
+    let c = counts.timetable;
     let listed = departures::listed_ok(
         tables,
         c,
-        query_input::stop_runs(built, n),
-        query_input::departure_rows(built, n),
-        n.departures,
+        query_input::stop_runs(built, counts),
+        query_input::departure_rows(built, counts),
+        counts.departures,
     );
     both(
-        both(tables::numbers_ok(tables, c), line_numbers(built, n)),
+        both(tables::numbers_ok(tables, c), line_numbers(built, counts)),
         both(
             listed,
-            both(query_numbers(query, n), delays_ok(4, query, n)),
+            both(query_numbers(query, counts), delays_ok(4, query, counts)),
         ),
     )
 }
 
 // Question 5 of the marks.
-fn mark_ranges(built: &[u32], n: QueryCounts) -> bool
-    requires { ⌜ Limits n ⌝ ∗ ⌜ transferRunsAt n ≤ length (now built) ⌝ }
-    ensures { λ r. ⌜ r ≡ markRanges (now (built .entry)) n ⌝ }
+fn mark_ranges(built: &[u32], counts: QueryCounts) -> bool
+    requires { ⌜ Limits counts ⌝ ∗ ⌜ transferRunsAt counts ≤ length (now built) ⌝ }
+    ensures { λ r. ⌜ r ≡ markRanges (now (built .entry)) counts ⌝ }
 {
-    column_below(built, query_input::marks_at(n), 1, n.timetable.stops, 2)
+    column_below(
+        built,
+        query_input::marks_at(counts),
+        1,
+        counts.timetable.stops,
+        2,
+    )
 }
 
 // Question 5 of the transfers: all bits of their times are kept.
-fn transfer_ranges(transfers: &[u32], rows: usize) -> bool
-    requires { ⌜ rows * 4 ≤ length (now transfers) ⌝ }
-    ensures { λ r. ⌜ r ≡ transferRanges (now (transfers .entry)) rows ⌝ }
+fn transfer_ranges(transfers: &[u32], transfer_rows: usize) -> bool
+    requires { ⌜ «transfer_rows» * 4 ≤ length (now transfers) ⌝ }
+    ensures { λ r. ⌜ r ≡ transferRanges (now (transfers .entry)) «transfer_rows» ⌝ }
 {
     let mut bits: u32 = 0;
     let mut k: usize = 0;
-    while k < rows {
+    while k < transfer_rows {
         bits = bits | words::word(transfers, 2 + k * 4);
         k += 1;
     }
@@ -265,12 +287,12 @@ fn setting_ranges(query: &[u32]) -> bool
 }
 
 // Question 5 of origins and egress.
-fn walk_ranges(query: &[u32], n: QueryCounts) -> bool
-    requires { ⌜ Limits n ⌝ ∗ ⌜ querySize n ≤ length (now query) ⌝ }
-    ensures { λ r. ⌜ r ≡ walkRanges (now (query .entry)) n ⌝ }
+fn walk_ranges(query: &[u32], counts: QueryCounts) -> bool
+    requires { ⌜ Limits counts ⌝ ∗ ⌜ querySize counts ≤ length (now query) ⌝ }
+    ensures { λ r. ⌜ r ≡ walkRanges (now (query .entry)) counts ⌝ }
 {
-    let origins = column_below(query, 8, 2, n.origins, 1048576);
-    let egress = column_below(query, 7 + n.origins * 2 + 1, 2, n.egress, 1048576);
+    let origins = column_below(query, 8, 2, counts.origins, 1048576);
+    let egress = column_below(query, 7 + counts.origins * 2 + 1, 2, counts.egress, 1048576);
     both(origins, egress)
 }
 
@@ -280,21 +302,26 @@ fn ranges_ok(
     built: &[u32],
     transfers: &[u32],
     query: &[u32],
-    n: QueryCounts,
-    rows: usize,
+    counts: QueryCounts,
+    transfer_rows: usize,
 ) -> bool
-    requires { ⌜ Limits n ⌝ ∗ ⌜ ReadSized (now tables) n (length (now built)) (length (now query)) ⌝ ∗ ⌜ rows * 4 ≤ length (now transfers) ⌝ }
-    ensures { λ r. ⌜ r ≡ queryQuestion5 (now (tables .entry)) (now (built .entry)) (now (transfers .entry)) (now (query .entry)) n rows ⌝ }
+    requires { ⌜ Limits counts ⌝ ∗ ⌜ ReadSized (now tables) counts (length (now built)) (length (now query)) ⌝
+        ∗ ⌜ «transfer_rows» * 4 ≤ length (now transfers) ⌝ }
+    ensures { λ r. ⌜ r ≡ queryQuestion5 (now (tables .entry)) (now (built .entry)) (now (transfers .entry))
+        (now (query .entry)) counts «transfer_rows» ⌝ }
 {
     let ranged = both(
-        tables::ranges_ok(tables, n.timetable),
-        both(mark_ranges(built, n), transfer_ranges(transfers, rows)),
+        tables::ranges_ok(tables, counts.timetable),
+        both(
+            mark_ranges(built, counts),
+            transfer_ranges(transfers, transfer_rows),
+        ),
     );
     both(
         ranged,
         both(
             setting_ranges(query),
-            both(walk_ranges(query, n), delays_ok(5, query, n)),
+            both(walk_ranges(query, counts), delays_ok(5, query, counts)),
         ),
     )
 }
@@ -389,25 +416,26 @@ fn egress_order(query: &[u32], at: usize, count: usize) -> bool
 }
 
 // Question 6.
-fn order_ok(tables: &[u32], built: &[u32], query: &[u32], n: QueryCounts) -> bool
-    requires { ⌜ Limits n ⌝
-        ∗ ⌜ ReadSized (now tables) n (length (now built)) (length (now query)) ⌝
-        ∗ ⌜ RowsListed (now tables) (n .timetable) (stopRuns (now built) n) (departureRows (now built) n) (n .departures) ⌝ }
-    ensures { λ r. ⌜ r ≡ queryQuestion6 (now (tables .entry)) (now (built .entry)) (now (query .entry)) n ⌝ }
+fn order_ok(tables: &[u32], built: &[u32], query: &[u32], counts: QueryCounts) -> bool
+    requires { ⌜ Limits counts ⌝
+        ∗ ⌜ ReadSized (now tables) counts (length (now built)) (length (now query)) ⌝
+        ∗ ⌜ RowsListed (now tables) (counts .timetable) (stopRuns (now built) counts) (departureRows (now built) counts)
+        (counts .departures) ⌝ }
+    ensures { λ r. ⌜ r ≡ queryQuestion6 (now (tables .entry)) (now (built .entry)) (now (query .entry)) counts ⌝ }
 {
-    let c = n.timetable;
+    let c = counts.timetable;
     let listed = departure_order(
         tables,
         c,
-        query_input::stop_runs(built, n),
-        query_input::departure_rows(built, n),
-        n.departures,
+        query_input::stop_runs(built, counts),
+        query_input::departure_rows(built, counts),
+        counts.departures,
     );
     both(
         both(tables::order_ok(tables, c), listed),
         both(
-            egress_order(query, 7 + n.origins * 2, n.egress),
-            delays_ok(6, query, n),
+            egress_order(query, 7 + counts.origins * 2, counts.egress),
+            delays_ok(6, query, counts),
         ),
     )
 }
@@ -447,7 +475,8 @@ fn run_right(tables: &[u32], c: Counts, rows: &[u32], s: usize, first: usize, en
 
 // Of all departures, each read once. Only where the stops' runs follow one another and leave no row out; else false.
 fn in_turn(tables: &[u32], c: Counts, runs: &[u32], rows: &[u32], d: usize) -> bool
-    requires { ⌜ SlicesOk (now tables) c ⌝ ∗ ⌜ RunsOk (now tables) c ⌝ ∗ ⌜ RunsListed c (now runs) d ⌝ ∗ ⌜ length (now rows) ≡ d * 2 ⌝ }
+    requires { ⌜ SlicesOk (now tables) c ⌝ ∗ ⌜ RunsOk (now tables) c ⌝ ∗ ⌜ RunsListed c (now runs) d ⌝
+        ∗ ⌜ length (now rows) ≡ d * 2 ⌝ }
     ensures { λ b. ⌜ (b ≡ true → InTurn (now (tables .entry)) c (now (runs .entry)) (now (rows .entry)) d) ⌝ }
 {
     let n = c.stops;
@@ -469,34 +498,43 @@ fn in_turn(tables: &[u32], c: Counts, runs: &[u32], rows: &[u32], d: usize) -> b
 }
 
 // Questions 4 to 6 of the query's numbers.
-fn query_ok(query: &[u32], n: QueryCounts) -> bool
-    requires { ⌜ Limits n ⌝ ∗ ⌜ querySize n ≤ length (now query) ⌝ }
-    ensures { λ r. ⌜ r ≡ queryOk (now (query .entry)) n ⌝ }
+fn query_ok(query: &[u32], counts: QueryCounts) -> bool
+    requires { ⌜ Limits counts ⌝ ∗ ⌜ querySize counts ≤ length (now query) ⌝ }
+    ensures { λ r. ⌜ r ≡ queryOk (now (query .entry)) counts ⌝ }
 {
-    let numbers = both(query_numbers(query, n), delays_ok(4, query, n));
+    let numbers = both(query_numbers(query, counts), delays_ok(4, query, counts));
     let ranges = both(
         setting_ranges(query),
-        both(walk_ranges(query, n), delays_ok(5, query, n)),
+        both(walk_ranges(query, counts), delays_ok(5, query, counts)),
     );
     let order = both(
-        egress_order(query, 7 + n.origins * 2, n.egress),
-        delays_ok(6, query, n),
+        egress_order(query, 7 + counts.origins * 2, counts.egress),
+        delays_ok(6, query, counts),
     );
     both(numbers, both(ranges, order))
 }
 
 // Of the tables but for the departures.
-fn tables_ok(tables: &[u32], built: &[u32], transfers: &[u32], n: QueryCounts, rows: usize) -> bool
-    requires { ⌜ Limits n ⌝
-        ∗ ⌜ SlicesOk (now tables) (n .timetable) ⌝
-        ∗ ⌜ transferRunsAt n ≤ length (now built) ⌝
-        ∗ ⌜ rows * 4 ≤ length (now transfers) ⌝ }
-    ensures { λ r. ⌜ r ≡ tablesOk (now (tables .entry)) (now (built .entry)) (now (transfers .entry)) n rows ⌝ }
+fn tables_ok(
+    tables: &[u32],
+    built: &[u32],
+    transfers: &[u32],
+    counts: QueryCounts,
+    transfer_rows: usize,
+) -> bool
+    requires { ⌜ Limits counts ⌝
+        ∗ ⌜ SlicesOk (now tables) (counts .timetable) ⌝
+        ∗ ⌜ transferRunsAt counts ≤ length (now built) ⌝
+        ∗ ⌜ «transfer_rows» * 4 ≤ length (now transfers) ⌝ }
+    ensures { λ r. ⌜ r ≡ tablesOk (now (tables .entry)) (now (built .entry)) (now (transfers .entry)) counts «transfer_rows» ⌝ }
 {
-    let c = n.timetable;
+    let c = counts.timetable;
     let timetable = both(tables::rows_ok(tables, c), tables::order_ok(tables, c));
-    let codes = both(mark_ranges(built, n), transfer_ranges(transfers, rows));
-    both(timetable, both(line_numbers(built, n), codes))
+    let codes = both(
+        mark_ranges(built, counts),
+        transfer_ranges(transfers, transfer_rows),
+    );
+    both(timetable, both(line_numbers(built, counts), codes))
 }
 
 // Questions 4, 5 and 6 at once. True is a yes to all three; false says nothing.
@@ -505,29 +543,30 @@ fn passed(
     built: &[u32],
     transfers: &[u32],
     query: &[u32],
-    n: QueryCounts,
-    rows: usize,
+    counts: QueryCounts,
+    transfer_rows: usize,
 ) -> bool
-    requires { ⌜ Limits n ⌝
-        ∗ ⌜ ReadSized (now tables) n (length (now built)) (length (now query)) ⌝
-        ∗ ⌜ Placed (now tables) (now built) n rows ⌝
-        ∗ ⌜ rows * 4 ≤ length (now transfers) ⌝ }
-    ensures { λ r. ⌜ (r ≡ true → Passed (now (tables .entry)) (now (built .entry)) (now (transfers .entry)) (now (query .entry)) n rows) ⌝ }
+    requires { ⌜ Limits counts ⌝
+        ∗ ⌜ ReadSized (now tables) counts (length (now built)) (length (now query)) ⌝
+        ∗ ⌜ Placed (now tables) (now built) counts «transfer_rows» ⌝
+        ∗ ⌜ «transfer_rows» * 4 ≤ length (now transfers) ⌝ }
+    ensures { λ r. ⌜ (r ≡ true → Passed (now (tables .entry)) (now (built .entry)) (now (transfers .entry))
+        (now (query .entry)) counts «transfer_rows») ⌝ }
 {
-    if !query_ok(query, n) {
+    if !query_ok(query, counts) {
         return false;
     }
-    if !tables_ok(tables, built, transfers, n, rows) {
+    if !tables_ok(tables, built, transfers, counts, transfer_rows) {
         return false;
     }
-    let runs = query_input::stop_runs(built, n);
-    let listed = query_input::departure_rows(built, n);
-    in_turn(tables, n.timetable, runs, listed, n.departures)
+    let runs = query_input::stop_runs(built, counts);
+    let listed = query_input::departure_rows(built, counts);
+    in_turn(tables, counts.timetable, runs, listed, counts.departures)
 }
 
 // THE QUESTIONS: the number of the first that is answered no, or 0.
 pub fn questions(
-    n: QueryCounts,
+    counts: QueryCounts,
     tables: &[u32],
     built: &[u32],
     transfers: &[u32],
@@ -536,15 +575,15 @@ pub fn questions(
     query: &[u32],
     l: Lengths,
 ) -> u32
-    ensures { λ r. ⌜ r ≡ queryVerdict (lent n (now (tables .entry)) (now (built .entry)) (now (transfers .entry)) (now (patterns .entry))
+    ensures { λ r. ⌜ r ≡ queryVerdict (lent counts (now (tables .entry)) (now (built .entry)) (now (transfers .entry)) (now (patterns .entry))
         (now (distances .entry)) (now (query .entry))) l ⌝ }
 {
-    if !counts_ok(n) {
+    if !counts_ok(counts) {
         return 1;
     }
     if !sizes_ok(
         tables,
-        n,
+        counts,
         built.len(),
         patterns.len(),
         distances.len(),
@@ -553,20 +592,20 @@ pub fn questions(
     ) {
         return 2;
     }
-    let rows = query_input::transfer_rows(n, transfers.len());
-    if !runs_ok(tables, built, n, rows) {
+    let transfer_rows = query_input::transfer_rows(counts, transfers.len());
+    if !runs_ok(tables, built, counts, transfer_rows) {
         return 3;
     }
-    if passed(tables, built, transfers, query, n, rows) {
+    if passed(tables, built, transfers, query, counts, transfer_rows) {
         return 0;
     }
-    if !numbers_ok(tables, built, query, n, rows) {
+    if !numbers_ok(tables, built, query, counts, transfer_rows) {
         return 4;
     }
-    if !ranges_ok(tables, built, transfers, query, n, rows) {
+    if !ranges_ok(tables, built, transfers, query, counts, transfer_rows) {
         return 5;
     }
-    if !order_ok(tables, built, query, n) {
+    if !order_ok(tables, built, query, counts) {
         return 6;
     }
     0

@@ -104,7 +104,11 @@ transferRows n area = min (n .transfers) (area / 4)
 -- origin k, its distance after those of the walk edges; egress stop k
 abbrev pub originAt : List ℕ → List Float → QueryCounts → ℕ → Origin
 originAt q distances n k =
-    record { stop = getD q (originsAt + k * 2) 0; duration = getD q (originsAt + 1 + k * 2) 0; distance = getD distances (n .timetable .edges + k) nan }
+    record {
+      stop = getD q (originsAt + k * 2) 0;
+      duration = getD q (originsAt + 1 + k * 2) 0;
+      distance = getD distances (n .timetable .edges + k) nan;
+    }
 
 abbrev pub egressStop : List ℕ → QueryCounts → ℕ → ℕ × ℕ
 egressStop q n k = (getD q (egressAt n + k * 2) 0, getD q (egressAt n + 1 + k * 2) 0)

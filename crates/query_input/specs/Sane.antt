@@ -13,7 +13,8 @@ use Rattle.line_layout.specs.Listed.{LinesListed}
 use Rattle.delay_lookup.specs.Sane.{Delays}
 use Rattle.query_types.specs.declared.QueryCounts.{QueryCounts}
 use Rattle.query_types.specs.declared.Lengths.{Lengths}
-use Rattle.query_input.specs.Lent.{marksAt, eventCount, builtSize, egressAt, querySize, lineRuns, lineEntries, stopRuns, departureRows, delaysOf, transferRunAt, transferRows, Lent}
+use Rattle.query_input.specs.Lent.{marksAt, eventCount, builtSize, egressAt, querySize, lineRuns, lineEntries, stopRuns, departureRows}
+use Rattle.query_input.specs.Lent.{delaysOf, transferRunAt, transferRows, Lent}
 use Rattle.query_types.specs.Layout.{workSizeOf}
 
 -- 1

@@ -25,104 +25,116 @@ fn part(s: &[u32], first: usize, count: usize) -> &[u32]
     &s[first..first + count]
 }
 
-pub fn line_runs(built: &[u32], n: QueryCounts) -> &[u32]
-    requires { ⌜ Limits n ⌝ ∗ ⌜ marksAt n ≤ length (now built) ⌝ }
-    ensures { λ r. ⌜ now r ≡ lineRuns (now (built .entry)) n ⌝ }
+pub fn line_runs(built: &[u32], counts: QueryCounts) -> &[u32]
+    requires { ⌜ Limits counts ⌝ ∗ ⌜ marksAt counts ≤ length (now built) ⌝ }
+    ensures { λ r. ⌜ now r ≡ lineRuns (now (built .entry)) counts ⌝ }
 {
-    part(built, n.timetable.trips, n.lines * 2)
+    part(built, counts.timetable.trips, counts.lines * 2)
 }
 
-pub fn line_entries(built: &[u32], n: QueryCounts) -> &[u32]
-    requires { ⌜ Limits n ⌝ ∗ ⌜ marksAt n ≤ length (now built) ⌝ }
-    ensures { λ r. ⌜ now r ≡ lineEntries (now (built .entry)) n ⌝ }
-{
-    part(built, n.timetable.trips + n.lines * 2, n.entries)
-}
-
-pub fn stop_runs(built: &[u32], n: QueryCounts) -> &[u32]
-    requires { ⌜ Limits n ⌝ ∗ ⌜ marksAt n ≤ length (now built) ⌝ }
-    ensures { λ r. ⌜ now r ≡ stopRuns (now (built .entry)) n ⌝ }
+pub fn line_entries(built: &[u32], counts: QueryCounts) -> &[u32]
+    requires { ⌜ Limits counts ⌝ ∗ ⌜ marksAt counts ≤ length (now built) ⌝ }
+    ensures { λ r. ⌜ now r ≡ lineEntries (now (built .entry)) counts ⌝ }
 {
     part(
         built,
-        n.timetable.trips + n.lines * 2 + n.entries,
-        n.timetable.stops * 2,
+        counts.timetable.trips + counts.lines * 2,
+        counts.entries,
     )
 }
 
-pub fn departure_rows(built: &[u32], n: QueryCounts) -> &[u32]
-    requires { ⌜ Limits n ⌝ ∗ ⌜ marksAt n ≤ length (now built) ⌝ }
-    ensures { λ r. ⌜ now r ≡ departureRows (now (built .entry)) n ⌝ }
+pub fn stop_runs(built: &[u32], counts: QueryCounts) -> &[u32]
+    requires { ⌜ Limits counts ⌝ ∗ ⌜ marksAt counts ≤ length (now built) ⌝ }
+    ensures { λ r. ⌜ now r ≡ stopRuns (now (built .entry)) counts ⌝ }
 {
     part(
         built,
-        n.timetable.trips + n.lines * 2 + n.entries + n.timetable.stops * 2,
-        n.departures * 2,
+        counts.timetable.trips + counts.lines * 2 + counts.entries,
+        counts.timetable.stops * 2,
     )
 }
 
-pub fn delay_rows(query: &[u32], n: QueryCounts) -> &[u32]
-    requires { ⌜ Limits n ⌝ ∗ ⌜ querySize n ≤ length (now query) ⌝ }
-    ensures { λ r. ⌜ now r ≡ delayRows (now (query .entry)) n ⌝ }
+pub fn departure_rows(built: &[u32], counts: QueryCounts) -> &[u32]
+    requires { ⌜ Limits counts ⌝ ∗ ⌜ marksAt counts ≤ length (now built) ⌝ }
+    ensures { λ r. ⌜ now r ≡ departureRows (now (built .entry)) counts ⌝ }
 {
-    part(query, 7 + n.origins * 2 + n.egress * 2, n.delays * 2)
+    part(
+        built,
+        counts.timetable.trips + counts.lines * 2 + counts.entries + counts.timetable.stops * 2,
+        counts.departures * 2,
+    )
 }
 
-pub fn stop_rows(query: &[u32], n: QueryCounts) -> &[u32]
-    requires { ⌜ Limits n ⌝ ∗ ⌜ querySize n ≤ length (now query) ⌝ }
-    ensures { λ r. ⌜ now r ≡ stopRows (now (query .entry)) n ⌝ }
+pub fn delay_rows(query: &[u32], counts: QueryCounts) -> &[u32]
+    requires { ⌜ Limits counts ⌝ ∗ ⌜ querySize counts ≤ length (now query) ⌝ }
+    ensures { λ r. ⌜ now r ≡ delayRows (now (query .entry)) counts ⌝ }
 {
     part(
         query,
-        7 + n.origins * 2 + n.egress * 2 + n.delays * 2,
-        n.stop_rows * 5,
+        7 + counts.origins * 2 + counts.egress * 2,
+        counts.delays * 2,
     )
 }
 
-pub fn egress_rows(query: &[u32], n: QueryCounts) -> &[u32]
-    requires { ⌜ Limits n ⌝ ∗ ⌜ querySize n ≤ length (now query) ⌝ }
-    ensures { λ r. ⌜ now r ≡ egressPart (now (query .entry)) n ⌝ }
+pub fn stop_rows(query: &[u32], counts: QueryCounts) -> &[u32]
+    requires { ⌜ Limits counts ⌝ ∗ ⌜ querySize counts ≤ length (now query) ⌝ }
+    ensures { λ r. ⌜ now r ≡ stopRows (now (query .entry)) counts ⌝ }
 {
-    part(query, 7 + n.origins * 2, n.egress * 2)
+    part(
+        query,
+        7 + counts.origins * 2 + counts.egress * 2 + counts.delays * 2,
+        counts.stop_rows * 5,
+    )
 }
 
-pub fn transfer_runs(built: &[u32], n: QueryCounts) -> &[u32]
-    requires { ⌜ Limits n ⌝ ∗ ⌜ transferRunsAt n ≤ length (now built) ⌝ }
-    ensures { λ r. ⌜ now r ≡ transferRuns (now (built .entry)) n ⌝ }
+pub fn egress_rows(query: &[u32], counts: QueryCounts) -> &[u32]
+    requires { ⌜ Limits counts ⌝ ∗ ⌜ querySize counts ≤ length (now query) ⌝ }
+    ensures { λ r. ⌜ now r ≡ egressPart (now (query .entry)) counts ⌝ }
 {
-    let first = transfer_runs_at(n);
+    part(query, 7 + counts.origins * 2, counts.egress * 2)
+}
+
+pub fn transfer_runs(built: &[u32], counts: QueryCounts) -> &[u32]
+    requires { ⌜ Limits counts ⌝ ∗ ⌜ transferRunsAt counts ≤ length (now built) ⌝ }
+    ensures { λ r. ⌜ now r ≡ transferRuns (now (built .entry)) counts ⌝ }
+{
+    let first = transfer_runs_at(counts);
     &built[first..]
 }
 
 // Where the marks and the transfer runs begin, how many numbers a query has, and the workspace.
-pub fn marks_at(n: QueryCounts) -> usize
-    requires { ⌜ Limits n ⌝ }
-    ensures { λ r. ⌜ r ≡ marksAt n ⌝ ∗ ⌜ r ≤ 200000 ⌝ }
+pub fn marks_at(counts: QueryCounts) -> usize
+    requires { ⌜ Limits counts ⌝ }
+    ensures { λ r. ⌜ r ≡ marksAt counts ⌝ ∗ ⌜ r ≤ 200000 ⌝ }
 {
-    n.timetable.trips + n.lines * 2 + n.entries + n.timetable.stops * 2 + n.departures * 2
+    counts.timetable.trips
+        + counts.lines * 2
+        + counts.entries
+        + counts.timetable.stops * 2
+        + counts.departures * 2
 }
 
-pub fn transfer_runs_at(n: QueryCounts) -> usize
-    requires { ⌜ Limits n ⌝ }
-    ensures { λ r. ⌜ r ≡ transferRunsAt n ⌝ ∗ ⌜ r ≤ 300000 ⌝ }
+pub fn transfer_runs_at(counts: QueryCounts) -> usize
+    requires { ⌜ Limits counts ⌝ }
+    ensures { λ r. ⌜ r ≡ transferRunsAt counts ⌝ ∗ ⌜ r ≤ 300000 ⌝ }
 {
-    marks_at(n) + n.timetable.stops
+    marks_at(counts) + counts.timetable.stops
 }
 
-pub fn query_size(n: QueryCounts) -> usize
-    requires { ⌜ Limits n ⌝ }
-    ensures { λ r. ⌜ r ≡ querySize n ⌝ }
+pub fn query_size(counts: QueryCounts) -> usize
+    requires { ⌜ Limits counts ⌝ }
+    ensures { λ r. ⌜ r ≡ querySize counts ⌝ }
 {
-    7 + n.origins * 2 + n.egress * 2 + n.delays * 2 + n.stop_rows * 5
+    7 + counts.origins * 2 + counts.egress * 2 + counts.delays * 2 + counts.stop_rows * 5
 }
 
 // How many transfers the area of this length holds.
-pub fn transfer_rows(n: QueryCounts, area: usize) -> usize
-    ensures { λ r. ⌜ r ≡ transferRows n area ⌝ }
+pub fn transfer_rows(counts: QueryCounts, area: usize) -> usize
+    ensures { λ r. ⌜ r ≡ transferRows counts area ⌝ }
 {
     let whole = area / 4;
-    if n.transfers < whole {
-        n.transfers
+    if counts.transfers < whole {
+        counts.transfers
     } else {
         whole
     }

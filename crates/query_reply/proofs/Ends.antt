@@ -13,7 +13,7 @@ use Rattle.label.specs.declared.Label.{Label}
 use Rattle.label.specs.declared.Label.the-variants.{Empty}
 use Rattle.label.specs.Table.{recordOf, loaded}
 use Rattle.model.specs.Search.{Arrivals, reachedBy, final, at}
-use Rattle.model.proofs.Bounds.{final-earliest, final-arrival}
+use Rattle.answer_laws.proofs.Bounds.{final-earliest, final-arrival}
 use Rattle.query_types.specs.declared.Head.{Head}
 use Rattle.search_state.specs.Part.{part}
 use Rattle.search_state.specs.View.{memory, labelsOf}

@@ -23,17 +23,18 @@ abbrev pub queryOutcomeOf : Reply → QueryAreas → QueryOutcome
 queryOutcomeOf r s = record { reply = r; areas = s }
 
 -- what the answer is read from is as the rounds leave it
-pub record Ending (n : QueryCounts) (q work labels : List ℕ) (distances : List Float) : Type 0 where
+pub record Ending (n : QueryCounts) (q work labels : List ℕ) (labelDistances : List Float) : Type 0 where
   pub limits : Limits n
   pub long : querySize n ≤ length q
   pub earliest : EarliestOk (n .timetable .stops) work
   pub egress : EgressOk (n .timetable .stops) (egressPart q n)
-  pub labels-ok : LabelsOk (n .timetable .stops) labels distances
+  pub labels-ok : LabelsOk (n .timetable .stops) labels labelDistances
 
 -- tables, a query and its last state that agree with it
-pub record AnswerAgrees (T : Tables) (Q : Query) (a : Arrivals) (n : QueryCounts) (q work labels : List ℕ) (distances : List Float) : Type 0 where
+pub record AnswerAgrees (T : Tables) (Q : Query) (a : Arrivals) (n : QueryCounts) (q work labels : List ℕ)
+    (labelDistances : List Float) : Type 0 where
   pub reached : EarliestAre a (n .timetable .stops) work
-  pub labelled : Labelled a (n .timetable .stops) labels distances
+  pub labelled : Labelled a (n .timetable .stops) labels labelDistances
   pub egress : Q .egress ≡ egressRows (egressPart q n)
   pub slack : Q .settings .candidateSlack ≡ 3600
   pub rounds : roundsOf Q ≡ roundCount (getD q 2 0) (getD q 3 0)
@@ -52,10 +53,11 @@ pub record Replied (T : Tables) (Q : Query) (a : Arrivals) (r : Reply) (rows : L
 
 -- the areas after an answer whose candidate rows are these: labels as they stand, workspace and queue zero
 abbrev pub left : QueryAreas → List ℕ → QueryAreas
-left s rows = queryAreas (s .labels) (s .distances) (cleared (s .work)) (cleared (s .queueA)) (cleared (s .queueB)) rows
+left s rows = queryAreas (s .labels) (s .labelDistances) (cleared (s .work)) (cleared (s .queueA)) (cleared (s .queueB)) rows
 
 -- after the rounds, which left the areas so: 8 where a queue was full, else the answer
 pub record Finished (n : QueryCounts) (q : List ℕ) (full : Bool) (s s′ : QueryAreas) (r : Reply) : Type 0 where
   pub over : full ≡ true → queryOutcomeOf r s′ ≡ overflown s
-  pub replied : full ≡ false → (T : Tables) (Q : Query) (a : Arrivals) → AnswerAgrees T Q a n q (s .work) (s .labels) (s .distances) → Replied T Q a r (s′ .candidates)
+  pub replied : full ≡ false → (T : Tables) (Q : Query) (a : Arrivals) → AnswerAgrees T Q a n q (s .work) (s .labels) (s .labelDistances)
+      → Replied T Q a r (s′ .candidates)
   pub rest : full ≡ false → s′ ≡ left s (s′ .candidates)

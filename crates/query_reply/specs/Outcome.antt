@@ -13,21 +13,21 @@ use Rattle.query_reply.specs.declared.Reply.{Reply}
 -- what is lent to be written: labels and their distances, workspace, the two halves of the segment queue, candidate rows
 pub record QueryAreas : Type 0 where
   pub labels : List ℕ
-  pub distances : List Float
+  pub labelDistances : List Float
   pub work : List ℕ
   pub queueA : List ℕ
   pub queueB : List ℕ
   pub candidates : List ℕ
 
 abbrev pub queryAreas : List ℕ → List Float → List ℕ → List ℕ → List ℕ → List ℕ → QueryAreas
-queryAreas l d w a b c = record { labels = l; distances = d; work = w; queueA = a; queueB = b; candidates = c }
+queryAreas l d w a b c = record { labels = l; labelDistances = d; work = w; queueA = a; queueB = b; candidates = c }
 
 -- how long they are
 abbrev pub queryLengths : QueryAreas → Lengths
 queryLengths s =
     record {
       labels = length (s .labels);
-      «label_distances» = length (s .distances);
+      «label_distances» = length (s .labelDistances);
       work = length (s .work);
       «queue_a» = length (s .queueA);
       «queue_b» = length (s .queueB);
@@ -55,7 +55,9 @@ abbrev pub overflown : QueryAreas → QueryOutcome
 overflown s =
     record {
       reply = reply 8 0 0 0;
-      areas = queryAreas (cleared (s .labels)) (replicate (length (s .distances)) noDistance) (cleared (s .work)) (cleared (s .queueA)) (cleared (s .queueB)) (s .candidates);
+      areas =
+          queryAreas (cleared (s .labels)) (replicate (length (s .labelDistances)) noDistance) (cleared (s .work))
+          (cleared (s .queueA)) (cleared (s .queueB)) (s .candidates);
     }
 
 -- candidate rows, three numbers each: total, stop, row

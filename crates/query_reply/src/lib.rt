@@ -25,19 +25,20 @@ pub struct Reply {
 
 // Total, stop and candidates, the candidate rows written.
 fn reply_of(
-    n: QueryCounts,
+    counts: QueryCounts,
     query: &[u32],
     work: &[u32],
     labels: &[u32],
     label_distances: &[f64],
     candidates: &mut [u32],
 ) -> Reply
-    requires { ⌜ Ending n (now query) (now work) (now labels) (now «label_distances») ⌝ ∗ ⌜ length (now candidates) ≡ 39 ⌝ }
-    ensures { λ r. ⌜ ((T : Tables) (Q : Query) (a : Arrivals) → AnswerAgrees T Q a n (now (query .entry)) (now (work .entry)) (now (labels .entry))
+    requires { ⌜ Ending counts (now query) (now work) (now labels) (now «label_distances») ⌝ ∗ ⌜ length (now candidates) ≡ 39 ⌝ }
+    ensures { λ r. ⌜ ((T : Tables) (Q : Query) (a : Arrivals)
+        → AnswerAgrees T Q a counts (now (query .entry)) (now (work .entry)) (now (labels .entry))
         (now («label_distances» .entry)) → Replied T Q a r (now (candidates .exit))) ⌝ }
 {
-    let stops = n.timetable.stops;
-    let egress = query_input::egress_rows(query, n);
+    let stops = counts.timetable.stops;
+    let egress = query_input::egress_rows(query, counts);
     let best = best_target::best_target(work, stops, egress);
     if best.total == 4294967295 {
         words::clear_words(candidates);
@@ -80,7 +81,7 @@ fn zero_work(work: &mut [u32], queue_a: &mut [u32], queue_b: &mut [u32])
 
 // After the rounds: 8 with all areas but the candidate rows zero, or the answer.
 pub fn finish(
-    n: QueryCounts,
+    counts: QueryCounts,
     query: &[u32],
     h: Head,
     labels: &mut [u32],
@@ -90,8 +91,9 @@ pub fn finish(
     queue_b: &mut [u32],
     candidates: &mut [u32],
 ) -> Reply
-    requires { ⌜ (h .full ≡ false → Ending n (now query) (now work) (now labels) (now «label_distances»)) ⌝ ∗ ⌜ length (now candidates) ≡ 39 ⌝ }
-    ensures { λ r. ⌜ Finished n (now (query .entry)) (h .full)
+    requires { ⌜ (h .full ≡ false → Ending counts (now query) (now work) (now labels) (now «label_distances»)) ⌝
+        ∗ ⌜ length (now candidates) ≡ 39 ⌝ }
+    ensures { λ r. ⌜ Finished counts (now (query .entry)) (h .full)
         (queryAreas (now (labels .entry)) (now («label_distances» .entry)) (now (work .entry)) (now («queue_a» .entry)) (now («queue_b» .entry))
         (now (candidates .entry))) (queryAreas (now (labels .exit)) (now («label_distances» .exit)) (now (work .exit)) (now («queue_a» .exit))
         (now («queue_b» .exit)) (now (candidates .exit))) r ⌝ }
@@ -107,7 +109,7 @@ pub fn finish(
             candidates: 0,
         };
     }
-    let r = reply_of(n, query, work, labels, label_distances, candidates);
+    let r = reply_of(counts, query, work, labels, label_distances, candidates);
     zero_work(work, queue_a, queue_b);
     r
 }

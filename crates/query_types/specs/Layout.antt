@@ -13,9 +13,12 @@ stampsAt lay = lay .stops
 abbrev pub reachAt : Lay → ℕ
 reachAt lay = lay .stops * 2
 
--- the two lists of reached stops, each with room for all stops and 64 origins
-abbrev pub listsAt : Lay → ℕ
-listsAt lay = lay .stops * 2 + lay .trips
+-- the two lists of reached stops, one behind the other, each with room for all stops and 64 origins
+abbrev pub listsAt : (stops trips : ℕ) → ℕ
+listsAt stops trips = stops * 2 + trips
+
+abbrev pub listRoom : (stops : ℕ) → ℕ
+listRoom stops = stops + 64
 
 -- the egress table, a number for each stop; all from here on is kept by arrivals
 abbrev pub restAt : Lay → ℕ
@@ -67,8 +70,8 @@ layFor c lines =
       stops = c .stops;
       trips = c .trips;
       lines = lines;
-      list = c .stops * 2 + c .trips;
-      other = c .stops * 3 + c .trips + 64;
+      list = listsAt (c .stops) (c .trips);
+      other = listsAt (c .stops) (c .trips) + listRoom (c .stops);
     }
 
 abbrev pub layOf : QueryCounts → Lay

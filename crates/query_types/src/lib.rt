@@ -5,7 +5,7 @@
 // Assumes nothing.
 ghost use mathlib.Core.Path.{_≡_};
 ghost use Prim.Native.Nat.{_≤_};
-ghost use Rattle.query_types.specs.Layout.{reachAt, restAt, positionsAt, fifoAt, eventsAt, tripStampsAt, boardedOffsetsAt};
+ghost use Rattle.query_types.specs.Layout.{stampsAt, reachAt, restAt, positionsAt, fifoAt, eventsAt, tripStampsAt, boardedOffsetsAt};
 ghost use Rattle.query_types.specs.Layout.{boardedDeparturesAt, lineStampsAt, headsAt, linksAt, leastAt, workSize, layFor, Few};
 use cell_bitset::CellBitSet;
 use delay_rows::Found;
@@ -142,16 +142,25 @@ pub fn lay_for(c: Counts, lines: usize) -> Lay
     requires { ⌜ (c .stops ≤ 4096) × (c .trips ≤ 4096) ⌝ }
     ensures { λ r. ⌜ r ≡ layFor c lines ⌝ }
 {
+    let list = c.stops * 2 + c.trips;
+    let other = list + (c.stops + 64);
     Lay {
         stops: c.stops,
         trips: c.trips,
-        lines: lines,
-        list: c.stops * 2 + c.trips,
-        other: c.stops * 3 + c.trips + 64,
+        lines,
+        list,
+        other,
     }
 }
 
-// Where each trip's segment reach begins.
+// Where each stop's stamp begins.
+pub fn stamps_at(lay: Lay) -> usize
+    ensures { λ r. ⌜ r ≡ stampsAt lay ⌝ }
+{
+    lay.stops
+}
+
+// Each trip's segment reach.
 pub fn reach_at(lay: Lay) -> usize
     requires { ⌜ Few lay ⌝ }
     ensures { λ r. ⌜ r ≡ reachAt lay ⌝ }

@@ -5,7 +5,6 @@ use crate::building::copy_words;
 use crate::queries::all_are;
 use crate::queries::left;
 use crate::queries::put_distances;
-use crate::words::at;
 use crate::words::both;
 use crate::words::part;
 use crate::words::rest;

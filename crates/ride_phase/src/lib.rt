@@ -69,8 +69,8 @@ fn ride_segment(
     queue: &mut [u32],
     h: Head,
 ) -> Head
-    requires { ⌜ Going (p .context) (slices (now tables) (now «delay_rows») (now «stop_rows») (now built) (now patterns) (now transfers)) (p .stamp)
-        (memory (now work) (now labels) (now «label_distances») h) (now queue) ⌝
+    requires { ⌜ Going (p .context) (slices (now tables) (now «delay_rows») (now «stop_rows») (now built) (now patterns) (now transfers))
+        (p .stamp) (memory (now work) (now labels) (now «label_distances») h) (now queue) ⌝
         ∗ ⌜ Segments (p .context .counts .timetable) (now from) (k + 1) ⌝ }
     ensures { λ r. ⌜ Rode (p .context .lay) (p .stamp)
         (Rides (p .context) (slices (now (tables .entry)) (now («delay_rows» .entry)) (now («stop_rows» .entry)) (now (built .entry))
@@ -120,8 +120,8 @@ fn ride_segments(
     queue: &mut [u32],
     h: Head,
 ) -> Head
-    requires { ⌜ Going (p .context) (slices (now tables) (now «delay_rows») (now «stop_rows») (now built) (now patterns) (now transfers)) (p .stamp)
-        (memory (now work) (now labels) (now «label_distances») h) (now queue) ⌝
+    requires { ⌜ Going (p .context) (slices (now tables) (now «delay_rows») (now «stop_rows») (now built) (now patterns) (now transfers))
+        (p .stamp) (memory (now work) (now labels) (now «label_distances») h) (now queue) ⌝
         ∗ ⌜ Segments (p .context .counts .timetable) (now from) m ⌝ }
     ensures { λ r. ⌜ Rode (p .context .lay) (p .stamp)
         (Rides (p .context) (slices (now (tables .entry)) (now («delay_rows» .entry)) (now («stop_rows» .entry)) (now (built .entry))
@@ -158,11 +158,12 @@ fn ride_segments(
 }
 
 // Is the frequency mark of stop x 1?
-fn marked(n: QueryCounts, built: &[u32], x: usize) -> bool
-    requires { ⌜ Limits n ⌝ ∗ ⌜ marksAt n + n .timetable .stops ≤ length (now built) ⌝ ∗ ⌜ x < n .timetable .stops ⌝ }
-    ensures { λ r. ⌜ r ≡ eqb (getD (now (built .entry)) (marksAt n + x) 0) 1 ⌝ }
+fn marked(counts: QueryCounts, built: &[u32], x: usize) -> bool
+    requires { ⌜ Limits counts ⌝ ∗ ⌜ marksAt counts + counts .timetable .stops ≤ length (now built) ⌝
+        ∗ ⌜ x < counts .timetable .stops ⌝ }
+    ensures { λ r. ⌜ r ≡ eqb (getD (now (built .entry)) (marksAt counts + x) 0) 1 ⌝ }
 {
-    words::field(built, query_input::marks_at(n) + x) == 1
+    words::field(built, query_input::marks_at(counts) + x) == 1
 }
 
 // The earliest scheduled departure that a delay may bring to `after` or later.
@@ -178,26 +179,26 @@ fn less(after: u32, margin: u32) -> u32
 // The departures of stop x that are scanned: from the first on that is not before `m`; all of them where it has frequency trips.
 fn departures_from<'a>(
     tables: &[u32],
-    n: QueryCounts,
+    counts: QueryCounts,
     built: &'a [u32],
     x: usize,
     has_freq: bool,
     m: u32,
 ) -> &'a [u32]
-    requires { ⌜ Limits n ⌝
-        ∗ ⌜ marksAt n ≤ length (now built) ⌝
-        ∗ ⌜ RunsListed (n .timetable) (stopRuns (now built) n) (n .departures) ⌝
-        ∗ ⌜ x < n .timetable .stops ⌝
-        ∗ ⌜ RowsOrdered (now tables) (n .timetable) (listAt (now built) n x) (length (listAt (now built) n x) / 2) ⌝ }
-    ensures { λ r. ⌜ RowsKnown (now (tables .entry)) (n .timetable) (now r) (length (now r) / 2) ⌝
-        ∗ ⌜ ((T : Tables) → T .timetable ≡ timetable (now (tables .entry)) (n .timetable) → listedRows (now r)
-        ≡ scanned T «has_freq» m (listedRows (listAt (now (built .entry)) n x))) ⌝ }
+    requires { ⌜ Limits counts ⌝
+        ∗ ⌜ marksAt counts ≤ length (now built) ⌝
+        ∗ ⌜ RunsListed (counts .timetable) (stopRuns (now built) counts) (counts .departures) ⌝
+        ∗ ⌜ x < counts .timetable .stops ⌝
+        ∗ ⌜ RowsOrdered (now tables) (counts .timetable) (listAt (now built) counts x) (length (listAt (now built) counts x) / 2) ⌝ }
+    ensures { λ r. ⌜ RowsKnown (now (tables .entry)) (counts .timetable) (now r) (length (now r) / 2) ⌝
+        ∗ ⌜ ((T : Tables) → T .timetable ≡ timetable (now (tables .entry)) (counts .timetable) → listedRows (now r)
+        ≡ scanned T «has_freq» m (listedRows (listAt (now (built .entry)) counts x))) ⌝ }
 {
-    let list = departure_scan::departures_at(n, built, x);
+    let list = departure_scan::departures_at(counts, built, x);
     if has_freq {
         return list;
     }
-    departure_scan::not_before(tables, n.timetable, list, m)
+    departure_scan::not_before(tables, counts.timetable, list, m)
 }
 
 // The departures of stop x, reached before, are scanned where they can be before the best total.
@@ -216,8 +217,8 @@ fn scan_stop(
     queue: &mut [u32],
     h: Head,
 ) -> Head
-    requires { ⌜ Going (p .context) (slices (now tables) (now «delay_rows») (now «stop_rows») (now built) (now patterns) (now transfers)) (p .stamp)
-        (memory (now work) (now labels) (now «label_distances») h) (now queue) ⌝
+    requires { ⌜ Going (p .context) (slices (now tables) (now «delay_rows») (now «stop_rows») (now built) (now patterns) (now transfers))
+        (p .stamp) (memory (now work) (now labels) (now «label_distances») h) (now queue) ⌝
         ∗ ⌜ x < p .context .counts .timetable .stops ⌝
         ∗ ⌜ getD (now work) x 0 ≤ 108003224 ⌝
         ∗ ⌜ p .change ≤ timeLimit ⌝ }
@@ -276,8 +277,8 @@ fn scan_stops(
     queue: &mut [u32],
     h: Head,
 ) -> Head
-    requires { ⌜ Going (p .context) (slices (now tables) (now «delay_rows») (now «stop_rows») (now built) (now patterns) (now transfers)) (p .stamp)
-        (memory (now work) (now labels) (now «label_distances») h) (now queue) ⌝
+    requires { ⌜ Going (p .context) (slices (now tables) (now «delay_rows») (now «stop_rows») (now built) (now patterns) (now transfers))
+        (p .stamp) (memory (now work) (now labels) (now «label_distances») h) (now queue) ⌝
         ∗ ⌜ Waiting (p .context .lay) (now work) count ⌝
         ∗ ⌜ p .change ≤ timeLimit ⌝ }
     ensures { λ r. ⌜ Rode (p .context .lay) (p .stamp)
@@ -339,7 +340,8 @@ pub fn ride_phase(
     queue: &mut [u32],
     h: Head,
 ) -> Head
-    requires { ⌜ Laid (p .context) (slices (now tables) (now «delay_rows») (now «stop_rows») (now built) (now patterns) (now transfers)) (now work) ⌝
+    requires { ⌜ Laid (p .context) (slices (now tables) (now «delay_rows») (now «stop_rows») (now built) (now patterns) (now transfers))
+        (now work) ⌝
         ∗ ⌜ Opening (p .context .counts .timetable) (p .context .lay) (p .stamp) (p .change)
         (memory (now work) (now labels) (now «label_distances») h) (now from) ⌝ }
     ensures { λ x. ⌜ RidePhase (p .context .lay) (p .context .flagged) (p .stamp) (p .change)

@@ -20,8 +20,8 @@ use Rattle.departures.specs.declared.DepartureRow.{DepartureRow}
 use Rattle.event_transfers.specs.Transfers.{Transfer}
 use Rattle.model.specs.Tables.{never, Tables, Query, changeBefore, stopCount, stopAt, departure, noDropOff, noWindows, edgesFrom, edgeTo, walkTime, permitted}
 use Rattle.model.specs.Search.{Segment, Arrivals, State, at, holdsTarget, departuresAt, markAt, notBefore, delayOf, skipped, arrivalNow, marginOf, improve, relax, resolve, enqueue, takeTransfers, alightings, transferring, scanTripForward, logged, rideSegments, boarding, board, scanDepartures, scanStops, walkFrom, walkAll}
-use Rattle.model.proofs.Moves.{pushed}
-use Rattle.model.proofs.Stores.{set-le}
+use Rattle.answer_laws.proofs.Moves.{pushed}
+use Rattle.answer_laws.proofs.Stores.{set-le}
 use Rattle.trip_scan.proofs.Taking.{enqueue-grows}
 
 -- b is no later than a at any stop, and has no fewer segments queued

@@ -30,7 +30,8 @@ pub record Going (ctx : Context) (sl : Slices) (stamp : ℕ) (a : Memory) (queue
   pub room : Open (a .head) (length queue)
 
 -- THE CONTRACT of a part of the ride phase: it boards as f does and, where all segments fit, raises no earliest arrival
-pub record Rode (lay : Lay) (stamp : ℕ) (agree : Tables → Query → Type 0) (f : Tables → Query → State → State) (a b : Memory) (q q′ : List ℕ) : Type 0 where
+pub record Rode (lay : Lay) (stamp : ℕ) (agree : Tables → Query → Type 0) (f : Tables → Query → State → State)
+    (a b : Memory) (q q′ : List ℕ) : Type 0 where
   pub step : RideStep lay stamp agree f a b q q′
   pub falls : b .head .full ≡ false → Falls lay (a .work) (b .work)
 
@@ -50,7 +51,8 @@ takenBy T Q flagged round stamp x d (Board b) s =
 
 -- ONE LISTED DEPARTURE of stop x, without the test whether it is too late
 abbrev pub taken : Tables → Query → (flagged : Bool) (round stamp x after : ℕ) (d : DepartureRow) (s : State) → State
-taken T Q flagged round stamp x after d s = takenBy T Q flagged round stamp x d (boarding T Q stamp after (delayOf Q (d .trip)) (d .trip) (d .offset) s) s
+taken T Q flagged round stamp x after d s = takenBy T Q flagged round stamp x d
+    (boarding T Q stamp after (delayOf Q (d .trip)) (d .trip) (d .offset) s) s
 
 -- the ride of a segment
 abbrev pub rideOf : ℕ → Segment → Ride

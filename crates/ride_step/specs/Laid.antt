@@ -12,7 +12,7 @@ use Rattle.departures.specs.Listed.{RowsListed}
 use Rattle.model.specs.Tables.{Tables, Query}
 use Rattle.query_types.specs.declared.Lay.{Lay}
 use Rattle.search_state.specs.Part.{part}
-use Rattle.query_types.specs.Layout.{restAt, tripStampsAt, eventsAt}
+use Rattle.query_types.specs.Layout.{restAt, tripStampsAt, eventsAt, listRoom}
 use Rattle.search_state.specs.Places.{otherAt}
 use Rattle.search_state.specs.View.{segmentAt}
 use Rattle.target_resolving.specs.Resolving.{linedOf}
@@ -25,7 +25,8 @@ use Rattle.query_types.specs.declared.Context.{Context}
 -- tables and a query that hold what the ride phase reads: what a scanned trip reads, and each stop's departures and mark
 pub record Rides (ctx : Context) (sl : Slices) (w : List ℕ) (T : Tables) (Q : Query) : Type 0 where
   pub nets : Nets ctx sl w T Q
-  pub departures : (x : ℕ) → x < ctx .counts .timetable .stops → T .departures x ≡ listedAt (stopRuns (sl .built) (ctx .counts)) (departureRows (sl .built) (ctx .counts)) x
+  pub departures : (x : ℕ) → x < ctx .counts .timetable .stops
+      → T .departures x ≡ listedAt (stopRuns (sl .built) (ctx .counts)) (departureRows (sl .built) (ctx .counts)) x
   pub mark : (x : ℕ) → x < ctx .counts .timetable .stops → T .mark x ≡ getD (sl .built) (marksAt (ctx .counts) + x) 0
 
 -- the slices are as the door and a query's beginning leave them: some tables and a query that the door admits are in them
@@ -34,19 +35,20 @@ pub record Laid (ctx : Context) (sl : Slices) (w : List ℕ) : Type 0 where
   pub rides : Rides ctx sl w (netted .T) (netted .Q)
   pub limits : Limits (ctx .counts)
   pub long : marksAt (ctx .counts) + ctx .counts .timetable .stops ≤ length (sl .built)
-  pub listed : RowsListed (sl .tables) (ctx .counts .timetable) (stopRuns (sl .built) (ctx .counts)) (departureRows (sl .built) (ctx .counts)) (ctx .counts .departures)
+  pub listed : RowsListed (sl .tables) (ctx .counts .timetable) (stopRuns (sl .built) (ctx .counts)) (departureRows (sl .built) (ctx .counts))
+      (ctx .counts .departures)
   pub lined : ctx .net .lined ≡ linedOf (ctx .counts .timetable) (ctx .lay .lines)
   pub events : ctx .net .events ≡ eventsAt (ctx .lay)
 
 -- as it came: the other list, and what is read of the working numbers (egress table, positions, FIFO flags, events before each trip)
 pub record Kept (lay : Lay) (w w′ : List ℕ) : Type 0 where
   pub size : length w′ ≡ length w
-  pub list : part w′ (lay .other) (lay .stops + 64) ≡ part w (lay .other) (lay .stops + 64)
+  pub list : part w′ (lay .other) (listRoom (lay .stops)) ≡ part w (lay .other) (listRoom (lay .stops))
   pub rest : (i : ℕ) → restAt lay ≤ i → i < tripStampsAt lay → getD w′ i 0 ≡ getD w i 0
 
 -- the n stops of the other list, to be boarded at: each one of the table's, and reached by 108,003,224, the latest arrival
 pub record Waiting (lay : Lay) (w : List ℕ) (n : ℕ) : Type 0 where
-  pub few : n ≤ lay .stops + 64
+  pub few : n ≤ listRoom (lay .stops)
   pub inside : (i : ℕ) → i < n → otherAt lay w i < lay .stops
   pub early : (i : ℕ) → i < n → getD w (otherAt lay w i) 0 ≤ 108003224
 

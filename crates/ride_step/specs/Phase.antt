@@ -24,7 +24,8 @@ pub record Seen (lay : Lay) (stamp : ℕ) (T : Tables) (Q : Query) (a : Memory) 
 
 -- THE CONTRACT of a call that boards trips, from queue q to q′: where all segments fit, it takes every state of the model that memory
 -- holds as f does; where one does not (question 8), f queues more segments than q has whole rows; what is read stays as it came
-pub record RideStep (lay : Lay) (stamp : ℕ) (agree : Tables → Query → Type 0) (f : Tables → Query → State → State) (a b : Memory) (q q′ : List ℕ) : Type 0 where
+pub record RideStep (lay : Lay) (stamp : ℕ) (agree : Tables → Query → Type 0) (f : Tables → Query → State → State)
+    (a b : Memory) (q q′ : List ℕ) : Type 0 where
   pub view : b .head .full ≡ false → (T : Tables) (Q : Query) → agree T Q → (s : State) → Seen lay stamp T Q a q s → Seen lay stamp T Q b q′ (f T Q s)
   pub over : b .head .full ≡ true → (T : Tables) (Q : Query) → agree T Q → (s : State) → Seen lay stamp T Q a q s
       → length q / 4 < length (f T Q s .arrivals .segQueue)
@@ -40,7 +41,7 @@ startHead h = record { best = h .best; count = 0; queued = 0; full = false }
 
 -- a state from which a ride phase may begin: `lay .other` has the stops to board at, `from` the segments to ride
 pub record Opening (c : Counts) (lay : Lay) (stamp change : ℕ) (a : Memory) (from : List ℕ) : Type 0 where
-  pub ready : Ready lay stamp (memory (a .work) (a .labels) (a .distances) (startHead (a .head)))
+  pub ready : Ready lay stamp (memory (a .work) (a .labels) (a .labelDistances) (startHead (a .head)))
   pub chains : Chains lay stamp (a .work)
   pub waiting : Waiting lay (a .work) (a .head .count)
   pub segments : Segments c from (a .head .queued)
@@ -52,11 +53,12 @@ pub record Before (lay : Lay) (stamp : ℕ) (T : Tables) (Q : Query) (a : Memory
   pub boardings : Books lay stamp T Q (a .work) (roundStart T Q s .boardings)
 
 -- THE CONTRACT of the ride phase: `from` is ridden, the stops of `lay .other` are boarded at; `lay .list` and q are filled anew
-pub record RidePhase (lay : Lay) (flagged : Bool) (stamp change : ℕ) (agree : Tables → Query → Type 0) (a b : Memory) (from q q′ : List ℕ) : Type 0 where
-  pub view : b .head .full ≡ false → (T : Tables) (Q : Query) → agree T Q → (round : ℕ) → stamp ≡ suc (suc round) → changeBefore Q round ≡ change → (s : State)
-      → Before lay stamp T Q a from s → Seen lay stamp T Q b q′ (ridePhase T Q flagged round s)
-  pub over : b .head .full ≡ true → (T : Tables) (Q : Query) → agree T Q → (round : ℕ) → stamp ≡ suc (suc round) → changeBefore Q round ≡ change → (s : State)
-      → Before lay stamp T Q a from s → length q / 4 < length (ridePhase T Q flagged round s .arrivals .segQueue)
+pub record RidePhase (lay : Lay) (flagged : Bool) (stamp change : ℕ) (agree : Tables → Query → Type 0)
+    (a b : Memory) (from q q′ : List ℕ) : Type 0 where
+  pub view : b .head .full ≡ false → (T : Tables) (Q : Query) → agree T Q → (round : ℕ) → stamp ≡ suc (suc round) → changeBefore Q round ≡ change
+      → (s : State) → Before lay stamp T Q a from s → Seen lay stamp T Q b q′ (ridePhase T Q flagged round s)
+  pub over : b .head .full ≡ true → (T : Tables) (Q : Query) → agree T Q → (round : ℕ) → stamp ≡ suc (suc round) → changeBefore Q round ≡ change
+      → (s : State) → Before lay stamp T Q a from s → length q / 4 < length (ridePhase T Q flagged round s .arrivals .segQueue)
   pub kept : Kept lay (a .work) (b .work)
   pub ready : Ready lay stamp b
   pub chains : Chains lay stamp (b .work)

@@ -8,7 +8,7 @@ use lib.ListN.{length}
 use lib.Ieee.{Float}
 use Rattle.model.specs.Tables.{Tables, Query, changeBefore}
 use Rattle.model.specs.Search.{Arrivals, Boardings, State, ridePhase, walkPhase, overflows}
-use Rattle.model.proofs.Stores.{no-both}
+use Rattle.model.proofs.Base.{no-both}
 use Rattle.query_types.specs.declared.Lay.{Lay}
 use Rattle.search_state.specs.Places.{turned}
 use Rattle.search_state.specs.View.{Memory, arrivalsOf}

@@ -10,7 +10,7 @@ use lib.Dec.{eqb}
 use lib.Ieee.{Float}
 use Rattle.model.specs.Tables.{Tables, Query, roundsOf}
 use Rattle.model.specs.Search.{Arrivals, State, idle, final, overflows}
-use Rattle.model.proofs.Stores.{no-both, or-false}
+use Rattle.model.proofs.Base.{no-both, or-false}
 use Rattle.search_state.specs.View.{Memory, queueOf}
 use Rattle.search_state.proofs.Part.{part-length}
 use Rattle.search_state.proofs.Queue.{queue-length}

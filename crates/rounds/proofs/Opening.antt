@@ -11,8 +11,8 @@ use Rattle.loops.proofs.Count.{getD-tab}
 use Rattle.tables.specs.Timetable.{Timetable}
 use Rattle.model.specs.Tables.{Tables, Query, changeBefore, stops, trips}
 use Rattle.model.specs.Search.{Segment, Arrivals, State, at, roundStart, ridePhase}
-use Rattle.model.proofs.Bounds.{Sound, run-sound, ride-sound, reached-early}
-use Rattle.model.proofs.Runs.{Ran, rode}
+use Rattle.answer_laws.proofs.Bounds.{Sound, run-sound, ride-sound, reached-early}
+use Rattle.answer_laws.proofs.Runs.{Ran, rode}
 use Rattle.query_types.specs.declared.Lay.{Lay}
 use Rattle.search_state.specs.Part.{part}
 use Rattle.search_state.specs.Places.{WorkSized, turned}

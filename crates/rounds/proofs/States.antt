@@ -12,11 +12,11 @@ use borrow.Author.Tests.{lt-ltb, le-ltb}
 use Rattle.model.specs.Tables.{Tables, Query, roundsOf}
 use Rattle.model.specs.Search.{Arrivals, Boardings, State, at, board, emptied, ridePhase, walkPhase, idle, rounds, begin, final, overflows}
 use Rattle.model.specs.Door.{Door}
-use Rattle.model.specs.Lawful.{latest}
-use Rattle.model.proofs.Moves.{rounds-keep}
-use Rattle.model.proofs.Steps.{Run, begun, round, Boards, none, listed, segment, steps-le, steps-reached}
-use Rattle.model.proofs.Labels.{rides-early, why-early}
-use Rattle.model.proofs.Runs.{Ran, boarded, begin-ran, round-ran}
+use Rattle.answer_laws.specs.Lawful.{latest}
+use Rattle.answer_laws.proofs.Moves.{rounds-keep}
+use Rattle.answer_laws.proofs.Steps.{Run, begun, round, Boards, none, listed, segment, steps-le, steps-reached}
+use Rattle.answer_laws.proofs.Labels.{rides-early, why-early}
+use Rattle.answer_laws.proofs.Runs.{Ran, boarded, begin-ran, round-ran}
 use Rattle.ride_step.proofs.Later.{walks-later}
 use Rattle.rounds.specs.Round.{stateAt}
 

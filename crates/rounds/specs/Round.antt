@@ -11,6 +11,7 @@ use Rattle.tables.specs.Sane.{OrderOk}
 use Rattle.model.specs.Tables.{Tables, Query}
 use Rattle.model.specs.Door.{Door}
 use Rattle.model.specs.Search.{State, ridePhase, walkPhase, begin, rounds, final, overflows}
+use Rattle.query_types.specs.Layout.{listRoom}
 use Rattle.query_types.specs.declared.Head.{Head}
 use Rattle.search_state.specs.Places.{Sized, Walks, turned}
 use Rattle.search_state.specs.View.{Memory, arrivalsOf, Written}
@@ -46,9 +47,9 @@ pub record Fed (ctx : Context) (sl : Slices) (distances : List Float) (T : Table
 -- what holds of memory between the rounds, whether or not all segments fitted
 pub record Between (ctx : Context) (sl : Slices) (a : Memory) : Type 0 where
   pub laid : Laid ctx sl (a .work)
-  pub sized : Sized (ctx .lay) (length (a .work)) (length (a .labels)) (length (a .distances))
+  pub sized : Sized (ctx .lay) (length (a .work)) (length (a .labels)) (length (a .labelDistances))
   pub walks : Walks (ctx .lay) (a .work)
-  pub written : Written (ctx .lay .stops * 13) (a .labels) (a .distances)
+  pub written : Written (ctx .lay .stops * 13) (a .labels) (a .labelDistances)
 
 -- BEFORE ROUND r memory holds the model's state: its stops in `lay .other`, its segments in q; all segments of the rounds before fitted
 pub record Holds (ctx : Context) (sl : Slices) (T : Tables) (Q : Query) (r : ℕ) (a : Memory) (q : List ℕ) : Type 0 where
@@ -56,7 +57,7 @@ pub record Holds (ctx : Context) (sl : Slices) (T : Tables) (Q : Query) (r : ℕ
   pub view : stateAt T Q (ctx .flagged) r .arrivals ≡ arrivalsOf (turned (ctx .lay)) a q
   pub books : Books (ctx .lay) (suc r) T Q (a .work) (stateAt T Q (ctx .flagged) r .boardings)
   pub chains : Chains (ctx .lay) (suc r) (a .work)
-  pub few : a .head .count ≤ ctx .lay .stops + 64
+  pub few : a .head .count ≤ listRoom (ctx .lay .stops)
   pub room : a .head .queued ≤ length q / 4
   pub fits : overflows (length q / 4) (stateAt T Q (ctx .flagged) r .boardings .queued) ≡ false
 
@@ -83,7 +84,8 @@ pub record Round (ctx : Context) (sl : Slices) (distances : List Float) (r : ℕ
   pub size : length q′ ≡ length q
 
 -- while the rounds run: before round r, as many rounds to come as the limit leaves; both halves of the queue have `size` numbers
-pub record Running (ctx : Context) (sl : Slices) (T : Tables) (Q : Query) (limit r : ℕ) (even : Bool) (size : ℕ) (a : Memory) (qa qb : List ℕ) : Type 0 where
+pub record Running (ctx : Context) (sl : Slices) (T : Tables) (Q : Query) (limit r : ℕ) (even : Bool) (size : ℕ) (a : Memory)
+    (qa qb : List ℕ) : Type 0 where
   pub between : Between ctx sl a
   pub reached : Reached ctx sl T Q r a (read even qa qb)
   pub onward : (k : ℕ) → r + k ≡ limit → rounds T Q (ctx .flagged) k r (stateAt T Q (ctx .flagged) r) ≡ final T Q (ctx .flagged)

@@ -26,7 +26,8 @@ pub record Started (x : Lent) (ctx : Context) (a : Memory) (qa qb : ℕ) : Type 
 -- AFTER THE ROUNDS: `full` says question 8 of all rounds' queues; where they fit, labels and earliest arrivals are the model's
 pub record Ended (x : Lent) (flagged : Bool) (room : ℕ) (lay : Lay) (b : Memory) : Type 0 where
   pub full : b .head .full ≡ overflows room (final (tablesOf x) (queryOf x) flagged .boardings .queued)
-  pub labels : b .head .full ≡ false → labelsOf (b .labels) (b .distances) (lay .stops * 13) ≡ final (tablesOf x) (queryOf x) flagged .arrivals .labels
+  pub labels : b .head .full ≡ false
+      → labelsOf (b .labels) (b .labelDistances) (lay .stops * 13) ≡ final (tablesOf x) (queryOf x) flagged .arrivals .labels
   pub earliest : b .head .full ≡ false → earliestOf lay (b .work) ≡ final (tablesOf x) (queryOf x) flagged .arrivals .earliest
-  pub sized : Sized lay (length (b .work)) (length (b .labels)) (length (b .distances))
-  pub written : Written (lay .stops * 13) (b .labels) (b .distances)
+  pub sized : Sized lay (length (b .work)) (length (b .labels)) (length (b .labelDistances))
+  pub written : Written (lay .stops * 13) (b .labels) (b .labelDistances)

@@ -26,7 +26,7 @@ fn change_before(r: u32, change: u32) -> u32
     if r == 0 { 0 } else { change }
 }
 
-// ONE ROUND: the segments in `from` are ridden, the stops of lay.other boarded at; then walks. Segments are queued in `to`.
+// ONE ROUND: the segments in `from` are ridden, the stops of lay.other boarded at; then walks. Segments are queued in `queue`.
 fn round(
     ctx: Context,
     r: u32,
@@ -41,16 +41,16 @@ fn round(
     work: &mut [u32],
     labels: &mut [u32],
     label_distances: &mut [f64],
-    to: &mut [u32],
+    queue: &mut [u32],
     h: Head,
 ) -> Head
-    requires { ⌜ BeforeRound ctx (slices (now tables) (now «delay_rows») (now «stop_rows») (now built) (now patterns) (now transfers)) (now distances)
-        r (memory (now work) (now labels) (now «label_distances») h) (now from) (length (now to)) ⌝ }
+    requires { ⌜ BeforeRound ctx (slices (now tables) (now «delay_rows») (now «stop_rows») (now built) (now patterns) (now transfers))
+        (now distances) r (memory (now work) (now labels) (now «label_distances») h) (now from) (length (now queue)) ⌝ }
     ensures { λ x. ⌜ Round ctx (slices (now (tables .entry)) (now («delay_rows» .entry)) (now («stop_rows» .entry)) (now (built .entry))
         (now (patterns .entry)) (now (transfers .entry))) (now (distances .entry)) r
         (memory (now (work .entry)) (now (labels .entry)) (now («label_distances» .entry)) h)
-        (memory (now (work .exit)) (now (labels .exit)) (now («label_distances» .exit)) x) (now (from .entry)) (now (to .entry))
-        (now (to .exit)) ⌝ }
+        (memory (now (work .exit)) (now (labels .exit)) (now («label_distances» .exit)) x) (now (from .entry)) (now (queue .entry))
+        (now (queue .exit)) ⌝ }
 {
     let stamp = r + 2;
     let change = change_before(r, ctx.change);
@@ -71,7 +71,7 @@ fn round(
         work,
         labels,
         label_distances,
-        to,
+        queue,
         h,
     );
     if g.full {
@@ -108,14 +108,15 @@ fn turn(
     queue_b: &mut [u32],
     h: Head,
 ) -> Head
-    requires { ⌜ BeforeRound ctx (slices (now tables) (now «delay_rows») (now «stop_rows») (now built) (now patterns) (now transfers)) (now distances)
-        (at .round) (memory (now work) (now labels) (now «label_distances») h) (read (at .even) (now «queue_a») (now «queue_b»))
+    requires { ⌜ BeforeRound ctx (slices (now tables) (now «delay_rows») (now «stop_rows») (now built) (now patterns) (now transfers))
+        (now distances) (at .round) (memory (now work) (now labels) (now «label_distances») h) (read (at .even) (now «queue_a») (now «queue_b»))
         (length (filled (at .even) (now «queue_a») (now «queue_b»))) ⌝ }
     ensures { λ x. ⌜ Round ctx (slices (now (tables .entry)) (now («delay_rows» .entry)) (now («stop_rows» .entry)) (now (built .entry))
         (now (patterns .entry)) (now (transfers .entry))) (now (distances .entry)) (at .round)
         (memory (now (work .entry)) (now (labels .entry)) (now («label_distances» .entry)) h)
         (memory (now (work .exit)) (now (labels .exit)) (now («label_distances» .exit)) x)
-        (read (at .even) (now («queue_a» .entry)) (now («queue_b» .entry))) (filled (at .even) (now («queue_a» .entry)) (now («queue_b» .entry)))
+        (read (at .even) (now («queue_a» .entry)) (now («queue_b» .entry)))
+        (filled (at .even) (now («queue_a» .entry)) (now («queue_b» .entry)))
         (filled (at .even) (now («queue_a» .exit)) (now («queue_b» .exit))) ⌝ }
 {
     if at.even {

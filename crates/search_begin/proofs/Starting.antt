@@ -37,12 +37,12 @@ pub record Going (n : QueryCounts) (q : List ℕ) (distances : List Float) (lay 
   pub view : (T : Tables) (Q : Query) → EgressTable (Q .egress) lay (a .work) → Q .start ≡ getD q 0 0 → (queue : List ℕ)
       → access T Q (tabFrom (originAt q distances n) k (n .origins - k)) (arrivalsOf lay b queue) ≡ access T Q (tab (originAt q distances n) (n .origins)) (arrivalsOf lay a queue)
   pub same : Same lay (a .work) (b .work)
-  pub sized : Sized lay (length (b .work)) (length (b .labels)) (length (b .distances))
+  pub sized : Sized lay (length (b .work)) (length (b .labels)) (length (b .labelDistances))
   pub walks : Walks lay (b .work)
   pub count : b .head .count ≤ a .head .count + k
   pub queued : b .head .queued ≡ a .head .queued
   pub full : b .head .full ≡ a .head .full
-  pub written : Written (lay .stops * 13) (b .labels) (b .distances)
+  pub written : Written (lay .stops * 13) (b .labels) (b .labelDistances)
 
 module _ (n : QueryCounts) (q : List ℕ) (distances : List Float) (lay : Lay) (a : Memory) where
   pub going-none : Starting lay a → Going n q distances lay a a 0

@@ -13,7 +13,7 @@ use Rattle.model.specs.Tables.{Tables, Query}
 use Rattle.model.specs.Search.{targetCells, marginOf, newBoardings, begin}
 use Rattle.query_types.specs.declared.Lay.{Lay}
 use Rattle.search_state.specs.Places.{Sized, Walks, EgressTable, turned}
-use Rattle.query_types.specs.Layout.{restAt, positionsAt, fifoAt, tripStampsAt, eventsAt, layOf}
+use Rattle.query_types.specs.Layout.{restAt, positionsAt, fifoAt, tripStampsAt, eventsAt, layOf, listRoom}
 use Rattle.search_state.specs.View.{Memory, arrivalsOf, Written}
 use Rattle.query_types.specs.declared.Terms.{Terms}
 use Rattle.target_resolving.specs.Resolving.{linedOf}
@@ -71,8 +71,10 @@ pub record LaidOut (x : Lent) (lay : Lay) (w w′ : List ℕ) : Type 0 where
   pub size : length w′ ≡ length w
   pub egress : EgressTable (queryOf x .egress) lay w′
   pub walks : Walks lay w′
-  pub position : (i : ℕ) → i < lay .trips → getD w′ (positionsAt lay + i) 0 ≡ positionIn (lineTripsIn (lineRuns (x .built) (x .n)) (lineEntries (x .built) (x .n))) (x .n .lines) i
-  pub fifo : (l : ℕ) → l < lay .lines → getD w′ (fifoAt lay + l) 0 ≡ fifoOf (timetable (x .t) (x .n .timetable)) (lineRuns (x .built) (x .n)) (lineEntries (x .built) (x .n)) l
+  pub position : (i : ℕ) → i < lay .trips
+      → getD w′ (positionsAt lay + i) 0 ≡ positionIn (lineTripsIn (lineRuns (x .built) (x .n)) (lineEntries (x .built) (x .n))) (x .n .lines) i
+  pub fifo : (l : ℕ) → l < lay .lines
+      → getD w′ (fifoAt lay + l) 0 ≡ fifoOf (timetable (x .t) (x .n .timetable)) (lineRuns (x .built) (x .n)) (lineEntries (x .built) (x .n)) l
   pub events : (i : ℕ) → i < lay .trips → getD w′ (eventsAt lay + i) 0 ≡ eventsBefore (timetable (x .t) (x .n .timetable)) i
   pub below : (i : ℕ) → i < restAt lay → getD w′ i 0 ≡ getD w i 0
   pub above : (i : ℕ) → tripStampsAt lay ≤ i → getD w′ i 0 ≡ getD w i 0
@@ -84,9 +86,9 @@ pub record Begun (x : Lent) (ctx : Context) (a : Memory) : Type 0 where
   pub view : (q : List ℕ) → begin (tablesOf x) (queryOf x) .arrivals ≡ arrivalsOf (turned (ctx .lay)) a q
   pub books : Books (ctx .lay) 1 (tablesOf x) (queryOf x) (a .work) (newBoardings (tablesOf x) (queryOf x))
   pub chains : Chains (ctx .lay) 1 (a .work)
-  pub sized : Sized (ctx .lay) (length (a .work)) (length (a .labels)) (length (a .distances))
+  pub sized : Sized (ctx .lay) (length (a .work)) (length (a .labels)) (length (a .labelDistances))
   pub walks : Walks (ctx .lay) (a .work)
-  pub few : a .head .count ≤ ctx .lay .stops + 64
+  pub few : a .head .count ≤ listRoom (ctx .lay .stops)
   pub queued : a .head .queued ≡ 0
   pub full : a .head .full ≡ false
-  pub written : Written (ctx .lay .stops * 13) (a .labels) (a .distances)
+  pub written : Written (ctx .lay .stops * 13) (a .labels) (a .labelDistances)

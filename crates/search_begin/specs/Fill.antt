@@ -22,8 +22,8 @@ newHead = record { best = never; count = 0; queued = 0; full = false }
 pub record Fresh (lay : Lay) (a : Memory) : Type 0 where
   pub head : a .head ≡ newHead
   pub view : (T : Tables) (Q : Query) → stops T ≡ lay .stops → trips T ≡ lay .trips → (q : List ℕ) → arrivalsOf lay a q ≡ newArrivals T Q
-  pub zero : (i : ℕ) → listsAt lay ≤ i → getD (a .work) i 0 ≡ 0
-  pub written : Written (lay .stops * 13) (a .labels) (a .distances)
+  pub zero : (i : ℕ) → listsAt (lay .stops) (lay .trips) ≤ i → getD (a .work) i 0 ≡ 0
+  pub written : Written (lay .stops * 13) (a .labels) (a .labelDistances)
 
 -- n egress stops (stop, duration) in the query's numbers from `first` on
 abbrev pub egressRowFrom : List ℕ → ℕ → ℕ → ℕ × ℕ

@@ -55,9 +55,9 @@ pub record Accessed (n : QueryCounts) (q : List ℕ) (distances : List Float) (l
   pub view : (T : Tables) (Q : Query) → EgressTable (Q .egress) lay (a .work) → Q .start ≡ getD q 0 0 → (queue : List ℕ)
       → arrivalsOf lay b queue ≡ access T Q (tab (originAt q distances n) (n .origins)) (arrivalsOf lay a queue)
   pub same : Same lay (a .work) (b .work)
-  pub sized : Sized lay (length (b .work)) (length (b .labels)) (length (b .distances))
+  pub sized : Sized lay (length (b .work)) (length (b .labels)) (length (b .labelDistances))
   pub walks : Walks lay (b .work)
   pub count : b .head .count ≤ a .head .count + n .origins
   pub queued : b .head .queued ≡ a .head .queued
   pub full : b .head .full ≡ a .head .full
-  pub written : Written (lay .stops * 13) (b .labels) (b .distances)
+  pub written : Written (lay .stops * 13) (b .labels) (b .labelDistances)

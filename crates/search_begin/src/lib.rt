@@ -23,7 +23,7 @@ ghost use Rattle.model.specs.Search.{setOut};
 ghost use Rattle.search_state.specs.Step.{Starting, StartStep};
 ghost use Rattle.query_types.specs.declared.Lengths.{Lengths};
 ghost use Rattle.query_input.specs.Lent.{Lent, lent, lineRuns, lineEntries, originAt};
-ghost use Rattle.query_input.specs.Sane.{Limits, Admitted};
+ghost use Rattle.query_input.specs.Sane.{Admitted};
 ghost use Rattle.search_begin.specs.Begin.{netOf, Lends, Askable, LaidOut, Begun, contextOf};
 ghost use Rattle.search_begin.specs.Laying.{LinesIn, Layable, Put, Origins, Accessed};
 use query_types::Head;
@@ -77,7 +77,8 @@ fn put_egress(lay: Lay, query: &[u32], at: usize, work: &mut [u32])
 
 // All of them, into an empty egress table, the last row first.
 fn put_egresses(lay: Lay, query: &[u32], first: usize, n: usize, work: &mut [u32])
-    requires { ⌜ WorkSized lay (length (now work)) ⌝ ∗ ⌜ EgressRows lay (now query) first n ⌝ ∗ ⌜ Egressed [] lay (now work) (now work) ⌝ }
+    requires { ⌜ WorkSized lay (length (now work)) ⌝ ∗ ⌜ EgressRows lay (now query) first n ⌝
+        ∗ ⌜ Egressed [] lay (now work) (now work) ⌝ }
     ensures { λ _. ⌜ Egressed (egressOf (now (query .entry)) first n) lay (now (work .entry)) (now (work .exit)) ⌝ }
 {
     let mut k = n;
@@ -117,74 +118,91 @@ fn turn(lay: Lay) -> Lay
 
 // Where the tables stand, and what they are asked.
 pub fn net_of(
-    n: QueryCounts,
+    counts: QueryCounts,
     tables: &[u32],
     built: &[u32],
     distances: &[f64],
     query: &[u32],
 ) -> Net
-    requires { ⌜ Askable n (now tables) (now built) (now distances) (now query) ⌝ }
-    ensures { λ r. ⌜ ((x : Lent) (l : Lengths) → Admitted x l → Lends x n (now (tables .entry)) (now (built .entry)) (now (distances .entry))
+    requires { ⌜ Askable counts (now tables) (now built) (now distances) (now query) ⌝ }
+    ensures { λ r. ⌜ ((x : Lent) (l : Lengths) → Admitted x l
+        → Lends x counts (now (tables .entry)) (now (built .entry)) (now (distances .entry))
         (now (query .entry)) → r ≡ netOf x) ⌝ }
 {
-    let c = n.timetable;
-    let rows = query_input::delay_rows(query, n);
-    let stop_rows = query_input::stop_rows(query, n);
+    let c = counts.timetable;
+    let rows = query_input::delay_rows(query, counts);
+    let stop_rows = query_input::stop_rows(query, counts);
     let margin = delay_lookup::rt_margin(rows, stop_rows, MARGIN_CAP);
-    let egress = query_input::egress_rows(query, n);
-    let target = arc_flags::target_cells(tables, c, n.cells as u32, egress);
+    let egress = query_input::egress_rows(query, counts);
+    let target = arc_flags::target_cells(tables, c, counts.cells as u32, egress);
     let terms = Terms {
         modes: query[4],
         wheelchair: query[5] == 1,
         margin,
         line_scan: LINE_SCAN,
     };
-    let lined = target_resolving::line_tables(c, n.lines);
+    let lined = target_resolving::line_tables(c, counts.lines);
     Net {
         lined,
         terms,
-        patterns: n.patterns,
+        patterns: counts.patterns,
         target,
-        runs: query_input::transfer_runs_at(n),
-        events: query_types::events_at(query_types::lay_for(c, n.lines)),
+        runs: query_input::transfer_runs_at(counts),
+        events: query_types::events_at(query_types::lay_for(c, counts.lines)),
     }
 }
 
 // Each trip's position in its line.
-fn put_positions(n: QueryCounts, built: &[u32], lay: Lay, work: &mut [u32])
-    requires { ⌜ LinesIn n (now built) ⌝ ∗ ⌜ lay ≡ layOf n ⌝ ∗ ⌜ WorkSized lay (length (now work)) ⌝ }
+fn put_positions(counts: QueryCounts, built: &[u32], lay: Lay, work: &mut [u32])
+    requires { ⌜ LinesIn counts (now built) ⌝ ∗ ⌜ lay ≡ layOf counts ⌝ ∗ ⌜ WorkSized lay (length (now work)) ⌝ }
     ensures { λ _. ⌜ Put (positionsAt lay) (lay .trips)
-        (positionIn (lineTripsIn (lineRuns (now (built .entry)) n) (lineEntries (now (built .entry)) n)) (n .lines)) (now (work .entry))
+        (positionIn (lineTripsIn (lineRuns (now (built .entry)) counts) (lineEntries (now (built .entry)) counts)) (counts .lines))
+        (now (work .entry))
         (now (work .exit)) ⌝ }
 {
     let a = query_types::positions_at(lay);
     let b = a + lay.trips;
-    let runs = query_input::line_runs(built, n);
-    let entries = query_input::line_entries(built, n);
-    line_layout::line_positions(n.timetable, n.lines, runs, entries, &mut work[a..b]);
+    let runs = query_input::line_runs(built, counts);
+    let entries = query_input::line_entries(built, counts);
+    line_layout::line_positions(
+        counts.timetable,
+        counts.lines,
+        runs,
+        entries,
+        &mut work[a..b],
+    );
 }
 
 // Each line's FIFO flag.
-fn put_fifo(n: QueryCounts, tables: &[u32], built: &[u32], lay: Lay, work: &mut [u32])
-    requires { ⌜ LinesIn n (now built) ⌝ ∗ ⌜ Sane (now tables) (n .timetable) ⌝ ∗ ⌜ lay ≡ layOf n ⌝ ∗ ⌜ WorkSized lay (length (now work)) ⌝ }
+fn put_fifo(counts: QueryCounts, tables: &[u32], built: &[u32], lay: Lay, work: &mut [u32])
+    requires { ⌜ LinesIn counts (now built) ⌝ ∗ ⌜ Sane (now tables) (counts .timetable) ⌝ ∗ ⌜ lay ≡ layOf counts ⌝
+        ∗ ⌜ WorkSized lay (length (now work)) ⌝ }
     ensures { λ _. ⌜ Put (fifoAt lay) (lay .lines)
-        (fifoOf (timetable (now (tables .entry)) (n .timetable)) (lineRuns (now (built .entry)) n) (lineEntries (now (built .entry)) n))
+        (fifoOf (timetable (now (tables .entry)) (counts .timetable)) (lineRuns (now (built .entry)) counts)
+        (lineEntries (now (built .entry)) counts))
         (now (work .entry)) (now (work .exit)) ⌝ }
 {
     let a = query_types::fifo_at(lay);
     let b = a + lay.lines;
-    let runs = query_input::line_runs(built, n);
-    let entries = query_input::line_entries(built, n);
-    line_layout::line_fifo(tables, n.timetable, n.lines, runs, entries, &mut work[a..b]);
+    let runs = query_input::line_runs(built, counts);
+    let entries = query_input::line_entries(built, counts);
+    line_layout::line_fifo(
+        tables,
+        counts.timetable,
+        counts.lines,
+        runs,
+        entries,
+        &mut work[a..b],
+    );
 }
 
 // How many stop times the trips before each trip have.
-fn put_events(n: QueryCounts, tables: &[u32], lay: Lay, work: &mut [u32])
-    requires { ⌜ Sane (now tables) (n .timetable) ⌝ ∗ ⌜ lay ≡ layOf n ⌝ ∗ ⌜ WorkSized lay (length (now work)) ⌝ }
-    ensures { λ _. ⌜ Put (eventsAt lay) (lay .trips) (eventsBefore (timetable (now (tables .entry)) (n .timetable))) (now (work .entry))
+fn put_events(counts: QueryCounts, tables: &[u32], lay: Lay, work: &mut [u32])
+    requires { ⌜ Sane (now tables) (counts .timetable) ⌝ ∗ ⌜ lay ≡ layOf counts ⌝ ∗ ⌜ WorkSized lay (length (now work)) ⌝ }
+    ensures { λ _. ⌜ Put (eventsAt lay) (lay .trips) (eventsBefore (timetable (now (tables .entry)) (counts .timetable))) (now (work .entry))
         (now (work .exit)) ⌝ }
 {
-    let c = n.timetable;
+    let c = counts.timetable;
     let a = query_types::events_at(lay);
     let trips = lay.trips;
     let mut before: usize = 0;
@@ -197,20 +215,28 @@ fn put_events(n: QueryCounts, tables: &[u32], lay: Lay, work: &mut [u32])
 }
 
 // All that the rounds read of the working numbers.
-fn set_up(n: QueryCounts, tables: &[u32], built: &[u32], query: &[u32], lay: Lay, work: &mut [u32])
-    requires { ⌜ Layable n (now tables) (now built) (now query) ⌝ ∗ ⌜ lay ≡ layOf n ⌝ ∗ ⌜ WorkSized lay (length (now work)) ⌝ }
-    ensures { λ _. ⌜ LaidOut (lent n (now (tables .entry)) (now (built .entry)) [] [] [] (now (query .entry))) lay (now (work .entry))
+fn set_up(
+    counts: QueryCounts,
+    tables: &[u32],
+    built: &[u32],
+    query: &[u32],
+    lay: Lay,
+    work: &mut [u32],
+)
+    requires { ⌜ Layable counts (now tables) (now built) (now query) ⌝ ∗ ⌜ lay ≡ layOf counts ⌝
+        ∗ ⌜ WorkSized lay (length (now work)) ⌝ }
+    ensures { λ _. ⌜ LaidOut (lent counts (now (tables .entry)) (now (built .entry)) [] [] [] (now (query .entry))) lay (now (work .entry))
         (now (work .exit)) ⌝ }
 {
-    fill_egress(lay, query, 7 + n.origins * 2, n.egress, work);
-    put_positions(n, built, lay, work);
-    put_fifo(n, tables, built, lay, work);
-    put_events(n, tables, lay, work);
+    fill_egress(lay, query, 7 + counts.origins * 2, counts.egress, work);
+    put_positions(counts, built, lay, work);
+    put_fifo(counts, tables, built, lay, work);
+    put_events(counts, tables, lay, work);
 }
 
 // Origin k.
 fn set_out_at(
-    n: QueryCounts,
+    counts: QueryCounts,
     distances: &[f64],
     query: &[u32],
     lay: Lay,
@@ -220,15 +246,15 @@ fn set_out_at(
     label_distances: &mut [f64],
     h: Head,
 ) -> Head
-    requires { ⌜ Origins n (lay .stops) (now query) (length (now distances)) ⌝
-        ∗ ⌜ k < n .origins ⌝
+    requires { ⌜ Origins counts (lay .stops) (now query) (length (now distances)) ⌝
+        ∗ ⌜ k < counts .origins ⌝
         ∗ ⌜ Starting lay (memory (now work) (now labels) (now «label_distances») h) ⌝ }
     ensures { λ x. ⌜ StartStep lay (λ T Q. EgressTable (Q .egress) lay (now (work .entry)) × (Q .start ≡ getD (now (query .entry)) 0 0))
-        (λ T Q. setOut T Q (originAt (now (query .entry)) (now (distances .entry)) n k))
+        (λ T Q. setOut T Q (originAt (now (query .entry)) (now (distances .entry)) counts k))
         (memory (now (work .entry)) (now (labels .entry)) (now («label_distances» .entry)) h)
         (memory (now (work .exit)) (now (labels .exit)) (now («label_distances» .exit)) x) ⌝ }
 {
-    let at = n.timetable.edges + k;
+    let at = counts.timetable.edges + k;
     search_state::set_out(
         lay,
         query[0],
@@ -244,7 +270,7 @@ fn set_out_at(
 
 // All origins.
 fn access(
-    n: QueryCounts,
+    counts: QueryCounts,
     distances: &[f64],
     query: &[u32],
     lay: Lay,
@@ -253,19 +279,19 @@ fn access(
     label_distances: &mut [f64],
     h: Head,
 ) -> Head
-    requires { ⌜ Origins n (lay .stops) (now query) (length (now distances)) ⌝
+    requires { ⌜ Origins counts (lay .stops) (now query) (length (now distances)) ⌝
         ∗ ⌜ h .count ≡ 0 ⌝
         ∗ ⌜ Starting lay (memory (now work) (now labels) (now «label_distances») h) ⌝ }
-    ensures { λ x. ⌜ Accessed n (now (query .entry)) (now (distances .entry)) lay
+    ensures { λ x. ⌜ Accessed counts (now (query .entry)) (now (distances .entry)) lay
         (memory (now (work .entry)) (now (labels .entry)) (now («label_distances» .entry)) h)
         (memory (now (work .exit)) (now (labels .exit)) (now («label_distances» .exit)) x) ⌝ }
 {
-    let end = n.origins;
+    let end = counts.origins;
     let mut x = h;
     let mut k: usize = 0;
     while k < end {
         x = set_out_at(
-            n,
+            counts,
             distances,
             query,
             lay,
@@ -282,7 +308,7 @@ fn access(
 
 // The state before the first round.
 pub fn begin(
-    n: QueryCounts,
+    counts: QueryCounts,
     tables: &[u32],
     built: &[u32],
     distances: &[f64],
@@ -292,17 +318,18 @@ pub fn begin(
     labels: &mut [u32],
     label_distances: &mut [f64],
 ) -> Head
-    requires { ⌜ Askable n (now tables) (now built) (now distances) (now query) ⌝
-        ∗ ⌜ lay ≡ layOf n ⌝
+    requires { ⌜ Askable counts (now tables) (now built) (now distances) (now query) ⌝
+        ∗ ⌜ lay ≡ layOf counts ⌝
         ∗ ⌜ Sized lay (length (now work)) (length (now labels)) (length (now «label_distances»)) ⌝ }
-    ensures { λ h. ⌜ ((x : Lent) (l : Lengths) → Admitted x l → Lends x n (now (tables .entry)) (now (built .entry)) (now (distances .entry))
+    ensures { λ h. ⌜ ((x : Lent) (l : Lengths) → Admitted x l
+        → Lends x counts (now (tables .entry)) (now (built .entry)) (now (distances .entry))
         (now (query .entry)) → (flagged : Bool) → Begun x (contextOf x (netOf x) lay flagged)
         (memory (now (work .exit)) (now (labels .exit)) (now («label_distances» .exit)) h)) ⌝ }
 {
     let h = reset(lay, work, labels, label_distances);
-    set_up(n, tables, built, query, lay, work);
+    set_up(counts, tables, built, query, lay, work);
     access(
-        n,
+        counts,
         distances,
         query,
         turn(lay),

@@ -55,7 +55,7 @@ module _ (lay : Lay) (w : List ℕ) (ok : WorkSized lay (length w)) where
     unfolding w3
     below-list a n l = part-above w2 a n (lay .list + count) s (omega (arith, ok .first, l))
 
-    pub entered : Entered lay stamp s v w (set (set (set w s v) (lay .stops + s) stamp) (lay .list + count) s) count
+    entered : Entered lay stamp s v w (set (set (set w s v) (lay .stops + s) stamp) (lay .list + count) s) count
     unfolding w1 w2 w3
     entered =
         let ok1 : WorkSized lay (length w1) = rw (length-set w s v) ok in
@@ -77,6 +77,10 @@ module _ (lay : Lay) (w : List ℕ) (ok : WorkSized lay (length w)) where
               same-then (same-then (same-low lay w ok s v (omega (arith, h))) (same-low lay w1 ok1 (lay .stops + s) stamp (omega (arith, h))))
               (same-list lay w2 ok2 count s room);
         }
+
+    -- the same where the stamps' start is a number that was computed
+    pub entered-at : (r : ℕ) → r ≡ lay .stops → Entered lay stamp s v w (set (set (set w s v) (r + s) stamp) (lay .list + count) s) count
+    entered-at r e = rw e entered
 
   pub stamps-length : length (stampsOf lay w) ≡ lay .stops
   stamps-length = part-length w (lay .stops) (lay .stops) (omega (arith, ok .words))

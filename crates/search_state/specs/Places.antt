@@ -1,6 +1,4 @@
--- Where the sections of a query's working numbers begin, and what they have to be. Definitions only.
--- With S stops, T trips, L lines: earliest S, stop stamps S, seg_reach T, two lists of reached stops of S + 64 each; then, from
--- `restAt` on, the egress table S, and what the boarding of trips needs (8 T + 3 L).
+-- The sections of a query's working numbers (where each begins: `query_types` specs/Layout), and what they have to be. Definitions only.
 -- Inner: nobody has to believe this.
 use Prim.Native.Nat.{ℕ, _+_, _*_, _≤_, _<_}
 use mathlib.Core.Path.{_≡_}
@@ -11,7 +9,7 @@ use lib.ListN.{length, getD, drop}
 use Rattle.model.specs.Tables.{isEgress, egressWalk}
 use Rattle.query_types.specs.declared.Lay.{Lay}
 use Rattle.search_state.specs.Part.{part, tally}
-use Rattle.query_types.specs.Layout.{stampsAt, reachAt, listsAt, restAt, workSize}
+use Rattle.query_types.specs.Layout.{stampsAt, reachAt, listsAt, listRoom, restAt, workSize}
 
 -- the numbers of a section
 abbrev pub earliestOf : Lay → List ℕ → List ℕ
@@ -29,17 +27,17 @@ pub record WorkSized (lay : Lay) (work : ℕ) : Type 0 where
   pub trips : lay .trips ≤ 4096
   pub lines : lay .lines ≤ 4096
   pub words : work ≡ workSize lay
-  pub first : listsAt lay ≤ lay .list
-  pub fits : lay .list + (lay .stops + 64) ≤ restAt lay
-  pub other-first : listsAt lay ≤ lay .other
-  pub other-fits : lay .other + (lay .stops + 64) ≤ restAt lay
-  pub apart : (lay .list + (lay .stops + 64) ≤ lay .other) ⊎ (lay .other + (lay .stops + 64) ≤ lay .list)
+  pub first : listsAt (lay .stops) (lay .trips) ≤ lay .list
+  pub fits : lay .list + listRoom (lay .stops) ≤ restAt lay
+  pub other-first : listsAt (lay .stops) (lay .trips) ≤ lay .other
+  pub other-fits : lay .other + listRoom (lay .stops) ≤ restAt lay
+  pub apart : (lay .list + listRoom (lay .stops) ≤ lay .other) ⊎ (lay .other + listRoom (lay .stops) ≤ lay .list)
 
 -- and 13 records a stop: eight words of labels and a distance each
-pub record Sized (lay : Lay) (work labels distances : ℕ) : Type 0 where
+pub record Sized (lay : Lay) (work labels labelDistances : ℕ) : Type 0 where
   pub sections : WorkSized lay work
   pub rows : labels ≡ lay .stops * 104
-  pub metres : distances ≡ lay .stops * 13
+  pub metres : labelDistances ≡ lay .stops * 13
 
 -- the same with the two lists exchanged, as from one phase to the next
 abbrev pub turned : Lay → Lay
@@ -56,7 +54,7 @@ pub record Falls (lay : Lay) (w w′ : List ℕ) : Type 0 where
 -- all else is as it came: the other list, the egress table and what follows it
 pub record Same (lay : Lay) (w w′ : List ℕ) : Type 0 where
   pub size : length w′ ≡ length w
-  pub list : part w′ (lay .other) (lay .stops + 64) ≡ part w (lay .other) (lay .stops + 64)
+  pub list : part w′ (lay .other) (listRoom (lay .stops)) ≡ part w (lay .other) (listRoom (lay .stops))
   pub rest : drop (restAt lay) w′ ≡ drop (restAt lay) w
 
 -- a list has no more stops than bear this stamp: so it never outgrows its section

@@ -17,11 +17,11 @@ use Rattle.search_state.specs.Places.{earliestOf, stampsOf, reachOf}
 
 -- the labels of n records
 unfoldable pub labelsOf : List ℕ → List Float → ℕ → List Label
-labelsOf labels distances n = tab (loaded labels distances) n
+labelsOf labels labelDistances n = tab (loaded labels labelDistances) n
 
 -- each of n records is the row of its label: no word of it is left over
-pub record Written (n : ℕ) (labels : List ℕ) (distances : List Float) : Type 0 where
-  pub row : (k : ℕ) → k < n → labelRowAt labels distances k ≡ rowOf (loaded labels distances k)
+pub record Written (n : ℕ) (labels : List ℕ) (labelDistances : List Float) : Type 0 where
+  pub row : (k : ℕ) → k < n → labelRowAt labels labelDistances k ≡ rowOf (loaded labels labelDistances k)
 
 -- the segment at row k of a queue, four numbers a row; the first n segments
 abbrev pub segmentAt : List ℕ → ℕ → Segment
@@ -38,17 +38,17 @@ putSegment g q k = set (set (set (set q (4 * k) (g .trip)) (4 * k + 1) (g .offse
 pub record Memory : Type 0 where
   pub work : List ℕ
   pub labels : List ℕ
-  pub distances : List Float
+  pub labelDistances : List Float
   pub head : Head
 
 abbrev pub memory : List ℕ → List ℕ → List Float → Head → Memory
-memory w l m h = record { work = w; labels = l; distances = m; head = h }
+memory w l m h = record { work = w; labels = l; labelDistances = m; head = h }
 
 -- the model's state, with q for the queue
 abbrev pub arrivalsOf : Lay → Memory → List ℕ → Arrivals
 arrivalsOf lay a q =
     record {
-      labels = labelsOf (a .labels) (a .distances) (lay .stops * 13);
+      labels = labelsOf (a .labels) (a .labelDistances) (lay .stops * 13);
       earliest = earliestOf lay (a .work);
       best = a .head .best;
       stopStamp = stampsOf lay (a .work);

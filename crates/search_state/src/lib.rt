@@ -20,6 +20,7 @@ ghost use Rattle.model.specs.Search.{improve as improved, relax as relaxed, enq
 ghost use Rattle.search_state.specs.Places.{WorkSized, Counted, EgressTable};
 ghost use Rattle.search_state.specs.View.{memory, putSegment};
 ghost use Rattle.search_state.specs.Step.{Ready, Step, QueueStep, Starting, StartStep, Entered, Marked, bestBy, AlightAt};
+ghost use Rattle.query_types.specs.Layout.{listRoom};
 use label::Label;
 use query_types::Head;
 use query_types::Lay;
@@ -41,10 +42,10 @@ fn best_after(word: u32, v: u32, best: u32) -> u32
 
 // Stop `s`, reached at `v`, is stamped and put at the end of the list.
 fn enter(lay: Lay, stamp: u32, s: usize, v: u32, work: &mut [u32], count: usize)
-    requires { ⌜ WorkSized lay (length (now work)) ⌝ ∗ ⌜ s < lay .stops ⌝ ∗ ⌜ count < lay .stops + 64 ⌝ }
+    requires { ⌜ WorkSized lay (length (now work)) ⌝ ∗ ⌜ s < lay .stops ⌝ ∗ ⌜ count < listRoom (lay .stops) ⌝ }
     ensures { λ _. ⌜ Entered lay stamp s v (now (work .entry)) (now (work .exit)) count ⌝ }
 {
-    let at = lay.stops + s;
+    let at = query_types::stamps_at(lay) + s;
     let end = lay.list + count;
     work[s] = v;
     work[at] = stamp;
@@ -56,7 +57,7 @@ fn mark(lay: Lay, stamp: u32, s: usize, v: u32, work: &mut [u32], count: usize) 
     requires { ⌜ WorkSized lay (length (now work)) ⌝ ∗ ⌜ Counted lay stamp (now work) count ⌝ ∗ ⌜ s < lay .stops ⌝ }
     ensures { λ n. ⌜ Marked lay stamp s v (now (work .entry)) (now (work .exit)) count n ⌝ }
 {
-    let at = lay.stops + s;
+    let at = query_types::stamps_at(lay) + s;
     if work[at] == stamp {
         work[s] = v;
         return count;
@@ -77,7 +78,8 @@ fn improve(
     label_distances: &mut [f64],
     h: Head,
 ) -> Head
-    requires { ⌜ Ready lay stamp (memory (now work) (now labels) (now «label_distances») h) ⌝ ∗ ⌜ s < lay .stops ⌝ ∗ ⌜ v < 134217728 ⌝ }
+    requires { ⌜ Ready lay stamp (memory (now work) (now labels) (now «label_distances») h) ⌝ ∗ ⌜ s < lay .stops ⌝
+        ∗ ⌜ v < 134217728 ⌝ }
     ensures { λ x. ⌜ Step lay stamp (λ T Q. EgressTable (Q .egress) lay (now (work .entry))) (λ T Q. improved T Q stamp s v how)
         (memory (now (work .entry)) (now (labels .entry)) (now («label_distances» .entry)) h)
         (memory (now (work .exit)) (now (labels .exit)) (now («label_distances» .exit)) x) ⌝ }
@@ -107,7 +109,8 @@ pub fn relax(
     label_distances: &mut [f64],
     h: Head,
 ) -> Head
-    requires { ⌜ Ready lay stamp (memory (now work) (now labels) (now «label_distances») h) ⌝ ∗ ⌜ s < lay .stops ⌝ ∗ ⌜ v < 134217728 ⌝ }
+    requires { ⌜ Ready lay stamp (memory (now work) (now labels) (now «label_distances») h) ⌝ ∗ ⌜ s < lay .stops ⌝
+        ∗ ⌜ v < 134217728 ⌝ }
     ensures { λ x. ⌜ Step lay stamp (λ T Q. EgressTable (Q .egress) lay (now (work .entry))) (λ T Q. relaxed T Q stamp s v how)
         (memory (now (work .entry)) (now (labels .entry)) (now («label_distances» .entry)) h)
         (memory (now (work .exit)) (now (labels .exit)) (now («label_distances» .exit)) x) ⌝ }

@@ -12,7 +12,8 @@ use Rattle.tables.specs.declared.TripRow.{TripRow}
 use Rattle.tables.specs.declared.WindowRow.{WindowRow}
 use Rattle.tables.specs.declared.EdgeRow.{EdgeRow}
 use Rattle.tables.specs.declared.Check.{Check}
-use Rattle.tables.specs.declared.Check.the-variants.{TripRuns, StopTimeNumbers, EdgeNumbers, StopTimeRanges, TripRanges, WindowRanges, EdgeRanges, EdgeOrder}
+use Rattle.tables.specs.declared.Check.the-variants.{TripRuns, StopTimeNumbers, EdgeNumbers, StopTimeRanges, TripRanges, WindowRanges}
+use Rattle.tables.specs.declared.Check.the-variants.{EdgeRanges, EdgeOrder}
 use Rattle.tables.specs.Tables.{timetableSize, edgeOf, stopTimeAt, tripAt, windowAt, edgeAt}
 
 -- 1: are all counts within the limits?

@@ -47,11 +47,27 @@ cellOf t c s = getD t (stopsAt c + s) 0
 -- the rows by their fields' names
 abbrev pub stopTimeAt : List ℕ → ℕ → StopTimeRow
 stopTimeAt t i =
-    record { stop = timeOf t i 0; arrival = timeOf t i 1; departure = timeOf t i 2; sequence = timeOf t i 3; pickup = timeOf t i 4; «drop_off» = timeOf t i 5 }
+    record {
+      stop = timeOf t i 0;
+      arrival = timeOf t i 1;
+      departure = timeOf t i 2;
+      sequence = timeOf t i 3;
+      pickup = timeOf t i 4;
+      «drop_off» = timeOf t i 5;
+    }
 
 abbrev pub tripAt : List ℕ → Counts → ℕ → TripRow
 tripAt t c i =
-    record { first = tripOf t c i 0; count = tripOf t c i 1; mode = tripOf t c i 2; wheelchair = tripOf t c i 3; window = tripOf t c i 4; windows = tripOf t c i 5; active = tripOf t c i 6; excluded = tripOf t c i 7 }
+    record {
+      first = tripOf t c i 0;
+      count = tripOf t c i 1;
+      mode = tripOf t c i 2;
+      wheelchair = tripOf t c i 3;
+      window = tripOf t c i 4;
+      windows = tripOf t c i 5;
+      active = tripOf t c i 6;
+      excluded = tripOf t c i 7;
+    }
 
 abbrev pub windowAt : List ℕ → Counts → ℕ → WindowRow
 windowAt t c i = record { start = windowOf t c i 0; end = windowOf t c i 1; headway = windowOf t c i 2 }

@@ -63,7 +63,13 @@ pub record Names (e : Transfer) (target off : ℕ) : Type 0 where
 -- the positions and the FIFO flags
 abbrev pub linedOf : Counts → ℕ → Lined
 linedOf c lines =
-    record { lines = lines; runs = c .trips; entries = c .trips + lines * 2; positions = positionsAt (layFor c lines); fifo = fifoAt (layFor c lines) }
+    record {
+      lines = lines;
+      runs = c .trips;
+      entries = c .trips + lines * 2;
+      positions = positionsAt (layFor c lines);
+      fifo = fifoAt (layFor c lines);
+    }
 
 -- the run of line l: its first entry, how many
 abbrev pub lineRunFirst : Lined → List ℕ → ℕ → ℕ

@@ -41,18 +41,18 @@ pub enum Resolved {
 fn too_late(
     tables: &[u32],
     c: Counts,
-    w: Terms,
+    terms: Terms,
     is_fifo: bool,
     trip: usize,
     off: usize,
     best: u32,
 ) -> bool
     requires { ⌜ Sane (now tables) c ⌝ ∗ ⌜ Event (now tables) c trip off ⌝ }
-    ensures { λ r. ⌜ ((T : Tables) (Q : Query) → T .timetable ≡ timetable (now (tables .entry)) c → Asks Q w → r
+    ensures { λ r. ⌜ ((T : Tables) (Q : Query) → T .timetable ≡ timetable (now (tables .entry)) c → Asks Q terms → r
         ≡ ((«is_fifo» && leb (best + marginOf T Q) (departure T trip off)) && noWindows T trip)) ⌝ }
 {
     let dep = trip_boarding::event_word(tables, c, trip, off, 2) as u64;
-    let late = best as u64 + w.margin as u64 <= dep;
+    let late = best as u64 + terms.margin as u64 <= dep;
     door::both(
         door::both(is_fifo, late),
         tables::trip(tables, c, trip, 5) == 0,
@@ -81,7 +81,7 @@ fn try_trip(
     c: Counts,
     delay_rows: &[u32],
     stop_rows: &[u32],
-    w: Terms,
+    terms: Terms,
     is_fifo: bool,
     trip: usize,
     off: usize,
@@ -89,8 +89,8 @@ fn try_trip(
     best: u32,
 ) -> Tried
     requires { ⌜ Ground (now tables) c (now «delay_rows») (now «stop_rows») ⌝ ∗ ⌜ after < 134217728 ⌝ }
-    ensures { λ r. ⌜ ((T : Tables) (Q : Query) → Agree T Q (now (tables .entry)) c (now («delay_rows» .entry)) (now («stop_rows» .entry)) → Asks Q w
-        → r ≡ tried T Q «is_fifo» off after best trip) ⌝ }
+    ensures { λ r. ⌜ ((T : Tables) (Q : Query) → Agree T Q (now (tables .entry)) c (now («delay_rows» .entry)) (now («stop_rows» .entry))
+        → Asks Q terms → r ≡ tried T Q «is_fifo» off after best trip) ⌝ }
 {
     if c.trips <= trip {
         return Tried::Next;
@@ -98,11 +98,11 @@ fn try_trip(
     if tables::trip(tables, c, trip, 1) <= off {
         return Tried::Next;
     }
-    if too_late(tables, c, w, is_fifo, trip, off, best) {
+    if too_late(tables, c, terms, is_fifo, trip, off, best) {
         return Tried::Stop;
     }
     let adj = trip_boarding::delay_of(delay_rows, trip as u32);
-    if trip_boarding::barred(tables, c, delay_rows, stop_rows, w, adj, trip, off) {
+    if trip_boarding::barred(tables, c, delay_rows, stop_rows, terms, adj, trip, off) {
         return Tried::Next;
     }
     let b = trip_boarding::board_at(tables, c, delay_rows, stop_rows, adj, trip, off, after);
@@ -116,7 +116,7 @@ fn resolve_in(
     delay_rows: &[u32],
     stop_rows: &[u32],
     built: &[u32],
-    w: Terms,
+    terms: Terms,
     is_fifo: bool,
     from: usize,
     k: usize,
@@ -124,9 +124,10 @@ fn resolve_in(
     after: u32,
     best: u32,
 ) -> Resolved
-    requires { ⌜ Ground (now tables) c (now «delay_rows») (now «stop_rows») ⌝ ∗ ⌜ after < 134217728 ⌝ ∗ ⌜ from + k ≤ length (now built) ⌝ }
+    requires { ⌜ Ground (now tables) c (now «delay_rows») (now «stop_rows») ⌝ ∗ ⌜ after < 134217728 ⌝
+        ∗ ⌜ from + k ≤ length (now built) ⌝ }
     ensures { λ r. ⌜ ((T : Tables) (Q : Query) (trip : ℕ → ℕ) (p : ℕ)
-        → Agree T Q (now (tables .entry)) c (now («delay_rows» .entry)) (now («stop_rows» .entry)) → Asks Q w
+        → Agree T Q (now (tables .entry)) c (now («delay_rows» .entry)) (now («stop_rows» .entry)) → Asks Q terms
         → TripsAt trip p (now (built .entry)) from k → resolvedOf r ≡ resolveIn T Q «is_fifo» off after best trip k p) ⌝ }
 {
     let mut j: usize = 0;
@@ -137,7 +138,7 @@ fn resolve_in(
             c,
             delay_rows,
             stop_rows,
-            w,
+            terms,
             is_fifo,
             trip,
             off,
@@ -190,7 +191,7 @@ fn resolve_alone(
     c: Counts,
     delay_rows: &[u32],
     stop_rows: &[u32],
-    w: Terms,
+    terms: Terms,
     is_fifo: bool,
     target: u32,
     off: usize,
@@ -198,10 +199,10 @@ fn resolve_alone(
     best: u32,
 ) -> Resolved
     requires { ⌜ Ground (now tables) c (now «delay_rows») (now «stop_rows») ⌝ ∗ ⌜ after < 134217728 ⌝ }
-    ensures { λ r. ⌜ ((T : Tables) (Q : Query) → Agree T Q (now (tables .entry)) c (now («delay_rows» .entry)) (now («stop_rows» .entry)) → Asks Q w
-        → resolvedOf r ≡ resolveIn T Q «is_fifo» off after best (λ p. target) (min 1 (Q .settings .lineScan)) 0) ⌝ }
+    ensures { λ r. ⌜ ((T : Tables) (Q : Query) → Agree T Q (now (tables .entry)) c (now («delay_rows» .entry)) (now («stop_rows» .entry))
+        → Asks Q terms → resolvedOf r ≡ resolveIn T Q «is_fifo» off after best (λ p. target) (min 1 (Q .settings .lineScan)) 0) ⌝ }
 {
-    if w.line_scan == 0 {
+    if terms.line_scan == 0 {
         return Resolved::Unresolved;
     }
     let trip = target as usize;
@@ -210,7 +211,7 @@ fn resolve_alone(
         c,
         delay_rows,
         stop_rows,
-        w,
+        terms,
         is_fifo,
         trip,
         off,
@@ -239,8 +240,8 @@ fn resolve_line(
     stop_rows: &[u32],
     built: &[u32],
     work: &[u32],
-    n: Lined,
-    w: Terms,
+    lined: Lined,
+    terms: Terms,
     line: usize,
     target: u32,
     off: usize,
@@ -249,23 +250,23 @@ fn resolve_line(
 ) -> Resolved
     requires { ⌜ Ground (now tables) c (now «delay_rows») (now «stop_rows») ⌝
         ∗ ⌜ after < 134217728 ⌝
-        ∗ ⌜ LinesHeld c n (now built) (now work) ⌝
-        ∗ ⌜ (line < n .lines) × (target < c .trips) ⌝ }
+        ∗ ⌜ LinesHeld c lined (now built) (now work) ⌝
+        ∗ ⌜ (line < lined .lines) × (target < c .trips) ⌝ }
     ensures { λ r. ⌜ ((T : Tables) (Q : Query) (e : Transfer) → Agree T Q (now (tables .entry)) c (now («delay_rows» .entry))
-        (now («stop_rows» .entry)) → Asks Q w → LinesOf T c n (now (built .entry)) (now (work .entry)) → Names e target off → line
+        (now («stop_rows» .entry)) → Asks Q terms → LinesOf T c lined (now (built .entry)) (now (work .entry)) → Names e target off → line
         ≡ lineAt T target → resolvedOf r ≡ resolve T Q e after best) ⌝ }
 {
-    let is_fifo = words::field(work, n.fifo + line) == 1;
-    let first = n.entries + words::field(built, n.runs + line * 2);
-    let count = words::field(built, n.runs + line * 2 + 1);
-    let p = words::field(work, n.positions + target as usize);
+    let is_fifo = words::field(work, lined.fifo + line) == 1;
+    let first = lined.entries + words::field(built, lined.runs + line * 2);
+    let count = words::field(built, lined.runs + line * 2 + 1);
+    let p = words::field(work, lined.positions + target as usize);
     if !stands(built, first, count, p, target as usize) {
         return resolve_alone(
             tables,
             c,
             delay_rows,
             stop_rows,
-            w,
+            terms,
             is_fifo,
             target,
             off,
@@ -273,14 +274,14 @@ fn resolve_line(
             best,
         );
     }
-    let k = words::smaller(count - p, w.line_scan as usize);
+    let k = words::smaller(count - p, terms.line_scan as usize);
     resolve_in(
         tables,
         c,
         delay_rows,
         stop_rows,
         built,
-        w,
+        terms,
         is_fifo,
         first + p,
         k,
@@ -298,26 +299,28 @@ pub fn resolve(
     stop_rows: &[u32],
     built: &[u32],
     work: &[u32],
-    n: Lined,
-    w: Terms,
+    lined: Lined,
+    terms: Terms,
     target: u32,
     off: usize,
     after: u32,
     best: u32,
 ) -> Resolved
-    requires { ⌜ Ground (now tables) c (now «delay_rows») (now «stop_rows») ⌝ ∗ ⌜ after < 134217728 ⌝ ∗ ⌜ LinesHeld c n (now built) (now work) ⌝ }
+    requires { ⌜ Ground (now tables) c (now «delay_rows») (now «stop_rows») ⌝ ∗ ⌜ after < 134217728 ⌝
+        ∗ ⌜ LinesHeld c lined (now built) (now work) ⌝ }
     ensures { λ r. ⌜ ((T : Tables) (Q : Query) (e : Transfer) → Agree T Q (now (tables .entry)) c (now («delay_rows» .entry))
-        (now («stop_rows» .entry)) → Asks Q w → LinesOf T c n (now (built .entry)) (now (work .entry)) → Names e target off → resolvedOf r
+        (now («stop_rows» .entry)) → Asks Q terms → LinesOf T c lined (now (built .entry)) (now (work .entry)) → Names e target off
+        → resolvedOf r
         ≡ resolve T Q e after best) ⌝ }
 {
     let line = line_at(c, built, target as usize);
-    if n.lines <= line {
+    if lined.lines <= line {
         return resolve_alone(
             tables,
             c,
             delay_rows,
             stop_rows,
-            w,
+            terms,
             false,
             target,
             off,
@@ -332,8 +335,8 @@ pub fn resolve(
         stop_rows,
         built,
         work,
-        n,
-        w,
+        lined,
+        terms,
         line,
         target,
         off,

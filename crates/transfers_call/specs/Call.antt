@@ -36,7 +36,13 @@ transferLent t c n lines d runs rows time = record { t = t; c = c; lineCount = n
 -- what it says
 abbrev pub inputOf : TransferLent → Input
 inputOf x =
-    record { timetable = timetable (x .t) (x .c); lines = x .lineCount; lineOf = λ i. getD (x .lines) i 0; listed = listedAt (x .runs) (x .rows); time = x .time }
+    record {
+      timetable = timetable (x .t) (x .c);
+      lines = x .lineCount;
+      lineOf = λ i. getD (x .lines) i 0;
+      listed = listedAt (x .runs) (x .rows);
+      time = x .time;
+    }
 
 -- the answer as document 01 numbers it: the question answered no, or 0 and how many transfers were written
 abbrev pub transfersAnswer : Built → Answer
@@ -75,7 +81,8 @@ transfersQuestion3 x = runsOk (x .t) (x .c) && stopRunsOk (x .runs) (x .c) (x .d
 
 -- 4: is every stop, trip and line number below its count, and each departure's stop time its trip's and at its stop?
 unfoldable pub transfersQuestion4 : TransferLent → Bool
-transfersQuestion4 x = numbersOk (x .t) (x .c) && (linesOk (x .lines) (x .c .trips) (x .lineCount) && listedOk (x .t) (x .c) (x .runs) (x .rows) (x .d))
+transfersQuestion4 x =
+    numbersOk (x .t) (x .c) && (linesOk (x .lines) (x .c .trips) (x .lineCount) && listedOk (x .t) (x .c) (x .runs) (x .rows) (x .d))
 
 -- 5: is every time and code in its range? The transfer time is at most 3,600.
 unfoldable pub transfersQuestion5 : TransferLent → Bool

@@ -15,5 +15,6 @@ walkAreas w = transferAreas (w .area) (w .evs)
 unfoldable pub settledKeys : Prepared → TransferAreas → TransfersOutcome
 settledKeys p s =
     cond (roomOk (min (length (flatten (allKeys p))) 65537) (length (s .area)))
-    (transfersOutcomeOf (Rows (min (length (flatten (allKeys p))) 65537)) (walkAreas (layEvents (p .time) 0 (allKeys p) (areaWalk 0 (s .area) (s .transferRuns)))))
+    (transfersOutcomeOf (Rows (min (length (flatten (allKeys p))) 65537))
+    (walkAreas (layEvents (p .time) 0 (allKeys p) (areaWalk 0 (s .area) (s .transferRuns)))))
     (transfersOutcomeOf (Refused 7) s)

@@ -47,7 +47,8 @@ fn settle(
     transfer_runs: &mut [u32],
     time: usize,
 ) -> Built
-    requires { ⌜ Sane (now tables) c ⌝ ∗ ⌜ RunsListed c (now runs) d ⌝ ∗ ⌜ SortedRuns c (now runs) (now work) (now ends) d ⌝ ∗ ⌜ time ≤ 3600 ⌝ }
+    requires { ⌜ Sane (now tables) c ⌝ ∗ ⌜ RunsListed c (now runs) d ⌝ ∗ ⌜ SortedRuns c (now runs) (now work) (now ends) d ⌝
+        ∗ ⌜ time ≤ 3600 ⌝ }
     ensures { λ r. ⌜ transfersOutcomeOf r (transferAreas (now (area .exit)) (now («transfer_runs» .exit)))
         ≡ settledKeys (prepared (now (tables .entry)) c (now (runs .entry)) (now (work .entry)) time)
         (transferAreas (now (area .entry)) (now («transfer_runs» .entry))) ⌝ }
@@ -77,7 +78,8 @@ fn settle(
 
 // A row as one number: its line and its departure above, its trip and offset below.
 fn pack_line(tables: &[u32], c: Counts, lines: &[u32], r: DepartureRow) -> u64
-    requires { ⌜ Sane (now tables) c ⌝ ∗ ⌜ RowKnown (now tables) c r ⌝ ∗ ⌜ length (now lines) ≡ c .trips ⌝ ∗ ⌜ getD (now lines) (r .trip) 0 < 4096 ⌝ }
+    requires { ⌜ Sane (now tables) c ⌝ ∗ ⌜ RowKnown (now tables) c r ⌝ ∗ ⌜ length (now lines) ≡ c .trips ⌝
+        ∗ ⌜ getD (now lines) (r .trip) 0 < 4096 ⌝ }
     ensures { λ x. ⌜ x ≡ packLine (now (tables .entry)) c (now (lines .entry)) r ⌝ }
 {
     let line = words::field(lines, r.trip);

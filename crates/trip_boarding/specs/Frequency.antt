@@ -9,4 +9,6 @@ use Rattle.model.specs.Tables.{departure}
 -- the earliest run of a frequency trip, whose effective departure at the boarding stop is dep
 abbrev pub freqBoardAt : Timetable → ℕ → ℕ → ℕ → FreqBoard
 freqBoardAt T trip dep after =
-    earliestFreqBoard (T .trip trip .windows) (λ i. windowFrom (T .window (T .trip trip .window + i) .start) (T .window (T .trip trip .window + i) .end) (T .window (T .trip trip .window + i) .headway)) (timeAt T trip 0 .departure) dep after
+    earliestFreqBoard (T .trip trip .windows)
+    (λ i. let w = T .window (T .trip trip .window + i) in windowFrom (w .start) (w .end) (w .headway))
+    (timeAt T trip 0 .departure) dep after

@@ -38,25 +38,27 @@ fn mode_wanted(modes: u32, mode: u32) -> bool
 }
 
 // Active, not excluded, and fit for a wheelchair where one is asked for.
-fn usable(tables: &[u32], c: Counts, w: Terms, i: usize) -> bool
+fn usable(tables: &[u32], c: Counts, terms: Terms, i: usize) -> bool
     requires { ⌜ Sane (now tables) c ⌝ ∗ ⌜ i < c .trips ⌝ }
-    ensures { λ r. ⌜ ((T : Tables) (Q : Query) → T .timetable ≡ timetable (now (tables .entry)) c → Asks Q w → r ≡ usable T Q i) ⌝ }
+    ensures { λ r. ⌜ ((T : Tables) (Q : Query) → T .timetable ≡ timetable (now (tables .entry)) c → Asks Q terms
+        → r ≡ usable T Q i) ⌝ }
 {
     let active = door::both(
         tables::trip(tables, c, i, 6) == 1,
         tables::trip(tables, c, i, 7) == 0,
     );
-    let barred = door::both(w.wheelchair, tables::trip(tables, c, i, 3) == 2);
+    let barred = door::both(terms.wheelchair, tables::trip(tables, c, i, 3) == 2);
     door::both(active, !barred)
 }
 
 // Usable, and of a wanted mode.
-pub fn permitted(tables: &[u32], c: Counts, w: Terms, i: usize) -> bool
+pub fn permitted(tables: &[u32], c: Counts, terms: Terms, i: usize) -> bool
     requires { ⌜ Sane (now tables) c ⌝ ∗ ⌜ i < c .trips ⌝ }
-    ensures { λ r. ⌜ ((T : Tables) (Q : Query) → T .timetable ≡ timetable (now (tables .entry)) c → Asks Q w → r ≡ permitted T Q i) ⌝ }
+    ensures { λ r. ⌜ ((T : Tables) (Q : Query) → T .timetable ≡ timetable (now (tables .entry)) c → Asks Q terms
+        → r ≡ permitted T Q i) ⌝ }
 {
     let mode = tables::trip(tables, c, i, 2) as u32;
-    door::both(usable(tables, c, w, i), mode_wanted(w.modes, mode))
+    door::both(usable(tables, c, terms, i), mode_wanted(terms.modes, mode))
 }
 
 // Delays
@@ -65,7 +67,8 @@ pub fn permitted(tables: &[u32], c: Counts, w: Terms, i: usize) -> bool
 pub fn delay_of(delay_rows: &[u32], trip: u32) -> Found
     requires { ⌜ DelayRows (delayRowCount (now «delay_rows»)) (delayRowAt (now «delay_rows»)) ⌝ }
     ensures { λ r. ⌜ Known (now («delay_rows» .entry)) r ⌝
-        ∗ ⌜ ((Q : Query) (stops : List ℕ) → Q .delays ≡ delayTables (now («delay_rows» .entry)) stops → hitOf r ≡ delayOf Q trip) ⌝ }
+        ∗ ⌜ ((Q : Query) (stops : List ℕ) → Q .delays ≡ delayTables (now («delay_rows» .entry)) stops
+        → hitOf r ≡ delayOf Q trip) ⌝ }
 {
     delay_lookup::delay_row(delay_rows, trip)
 }
@@ -88,7 +91,8 @@ fn delay_at(
     trip: usize,
     off: usize,
 ) -> StopDelay
-    requires { ⌜ Ground (now tables) c (now «delay_rows») (now «stop_rows») ⌝ ∗ ⌜ Known (now «delay_rows») adj ⌝ ∗ ⌜ Event (now tables) c trip off ⌝ }
+    requires { ⌜ Ground (now tables) c (now «delay_rows») (now «stop_rows») ⌝ ∗ ⌜ Known (now «delay_rows») adj ⌝
+        ∗ ⌜ Event (now tables) c trip off ⌝ }
     ensures { λ r. ⌜ Bounded r ⌝
         ∗ ⌜ ((T : Tables) (Q : Query) → Agree T Q (now (tables .entry)) c (now («delay_rows» .entry)) (now («stop_rows» .entry)) → r
         ≡ delayAt T Q (hitOf adj) trip off) ⌝ }
@@ -110,9 +114,10 @@ pub fn skipped(
     trip: usize,
     off: usize,
 ) -> bool
-    requires { ⌜ Ground (now tables) c (now «delay_rows») (now «stop_rows») ⌝ ∗ ⌜ Known (now «delay_rows») adj ⌝ ∗ ⌜ Event (now tables) c trip off ⌝ }
-    ensures { λ r. ⌜ ((T : Tables) (Q : Query) → Agree T Q (now (tables .entry)) c (now («delay_rows» .entry)) (now («stop_rows» .entry)) → r
-        ≡ skipped T Q (hitOf adj) trip off) ⌝ }
+    requires { ⌜ Ground (now tables) c (now «delay_rows») (now «stop_rows») ⌝ ∗ ⌜ Known (now «delay_rows») adj ⌝
+        ∗ ⌜ Event (now tables) c trip off ⌝ }
+    ensures { λ r. ⌜ ((T : Tables) (Q : Query) → Agree T Q (now (tables .entry)) c (now («delay_rows» .entry)) (now («stop_rows» .entry))
+        → r ≡ skipped T Q (hitOf adj) trip off) ⌝ }
 {
     stop_delay::is_skipped(delay_at(tables, c, delay_rows, stop_rows, adj, trip, off))
 }
@@ -127,7 +132,8 @@ fn departure_now(
     trip: usize,
     off: usize,
 ) -> u32
-    requires { ⌜ Ground (now tables) c (now «delay_rows») (now «stop_rows») ⌝ ∗ ⌜ Known (now «delay_rows») adj ⌝ ∗ ⌜ Event (now tables) c trip off ⌝ }
+    requires { ⌜ Ground (now tables) c (now «delay_rows») (now «stop_rows») ⌝ ∗ ⌜ Known (now «delay_rows») adj ⌝
+        ∗ ⌜ Event (now tables) c trip off ⌝ }
     ensures { λ r. ⌜ r ≤ 2097150 ⌝
         ∗ ⌜ ((T : Tables) (Q : Query) → Agree T Q (now (tables .entry)) c (now («delay_rows» .entry)) (now («stop_rows» .entry)) → r
         ≡ departureNow T Q (hitOf adj) trip off) ⌝ }
@@ -187,8 +193,8 @@ pub fn board_at(
         ∗ ⌜ Known (now «delay_rows») adj ⌝
         ∗ ⌜ Event (now tables) c trip off ⌝
         ∗ ⌜ after < 134217728 ⌝ }
-    ensures { λ r. ⌜ ((T : Tables) (Q : Query) → Agree T Q (now (tables .entry)) c (now («delay_rows» .entry)) (now («stop_rows» .entry)) → r
-        ≡ boardAt T Q (hitOf adj) trip off after) ⌝ }
+    ensures { λ r. ⌜ ((T : Tables) (Q : Query) → Agree T Q (now (tables .entry)) c (now («delay_rows» .entry)) (now («stop_rows» .entry))
+        → r ≡ boardAt T Q (hitOf adj) trip off after) ⌝ }
 {
     let dep = departure_now(tables, c, delay_rows, stop_rows, adj, trip, off);
     if tables::trip(tables, c, trip, 5) != 0 {
@@ -212,17 +218,18 @@ pub fn barred(
     c: Counts,
     delay_rows: &[u32],
     stop_rows: &[u32],
-    w: Terms,
+    terms: Terms,
     adj: Found,
     trip: usize,
     off: usize,
 ) -> bool
-    requires { ⌜ Ground (now tables) c (now «delay_rows») (now «stop_rows») ⌝ ∗ ⌜ Known (now «delay_rows») adj ⌝ ∗ ⌜ Event (now tables) c trip off ⌝ }
-    ensures { λ r. ⌜ ((T : Tables) (Q : Query) → Agree T Q (now (tables .entry)) c (now («delay_rows» .entry)) (now («stop_rows» .entry)) → Asks Q w
-        → r ≡ ((not (usable T Q trip) || noPickup T trip off) || skipped T Q (hitOf adj) trip off)) ⌝ }
+    requires { ⌜ Ground (now tables) c (now «delay_rows») (now «stop_rows») ⌝ ∗ ⌜ Known (now «delay_rows») adj ⌝
+        ∗ ⌜ Event (now tables) c trip off ⌝ }
+    ensures { λ r. ⌜ ((T : Tables) (Q : Query) → Agree T Q (now (tables .entry)) c (now («delay_rows» .entry)) (now («stop_rows» .entry))
+        → Asks Q terms → r ≡ ((not (usable T Q trip) || noPickup T trip off) || skipped T Q (hitOf adj) trip off)) ⌝ }
 {
     let unfit = door::either(
-        !usable(tables, c, w, trip),
+        !usable(tables, c, terms, trip),
         event_word(tables, c, trip, off, 4) == 1,
     );
     door::either(

@@ -22,8 +22,8 @@ use Rattle.event_transfers.specs.Transfers.{Transfer, transferAt}
 use Rattle.model.specs.Tables.{Tables, Query, trips, stopAt, noWindows}
 use Rattle.model.specs.Search.{Segment, Arrivals, at, holdsTarget, improve, relax, resolve, enqueue, takeTransfers}
 use Rattle.model.specs.Door.{Door}
-use Rattle.model.proofs.Moves.{pushed}
-use Rattle.model.proofs.Phases.{Found, found, resolve-finds}
+use Rattle.answer_laws.proofs.Moves.{pushed}
+use Rattle.answer_laws.proofs.Phases.{Found, found, resolve-finds}
 use Rattle.model.proofs.Sizes.{boards-soon}
 use Rattle.query_types.specs.declared.Lay.{Lay}
 use Rattle.search_state.specs.Places.{EgressTable}

@@ -50,7 +50,11 @@ abbrev pub eventAt : Net → List ℕ → ℕ → ℕ → ℕ
 eventAt net w i o = getD w (net .events + i) 0 + o
 
 abbrev pub eventRunAt : Net → List ℕ → List ℕ → ℕ → ℕ → StopRun
-eventRunAt net built w i o = record { first = getD built (net .runs + eventAt net w i o * 2) 0; length = getD built (net .runs + eventAt net w i o * 2 + 1) 0 }
+eventRunAt net built w i o =
+    record {
+      first = getD built (net .runs + eventAt net w i o * 2) 0;
+      length = getD built (net .runs + eventAt net w i o * 2 + 1) 0;
+    }
 
 -- tables and a query that hold what transfers read: also lines, patterns, target cells, the transfers of every event
 pub record Nets (ctx : Context) (sl : Slices) (w : List ℕ) (T : Tables) (Q : Query) : Type 0 where
@@ -60,7 +64,8 @@ pub record Nets (ctx : Context) (sl : Slices) (w : List ℕ) (T : Tables) (Q : Q
   pub lines : LinesOf T (ctx .counts .timetable) (ctx .net .lined) (sl .built) w
   pub patterned : Patterned T (sl .patterns) (ctx .net .patterns)
   pub target : ctx .net .target ≡ targetCells T Q
-  pub transfers : (i o : ℕ) → i < ctx .counts .timetable .trips → o < countOf (sl .tables) (ctx .counts .timetable) i → T .transfers i o ≡ transfersAt (sl .transfers) (eventRunAt (ctx .net) (sl .built) w i o)
+  pub transfers : (i o : ℕ) → i < ctx .counts .timetable .trips → o < countOf (sl .tables) (ctx .counts .timetable) i
+      → T .transfers i o ≡ transfersAt (sl .transfers) (eventRunAt (ctx .net) (sl .built) w i o)
 
 -- a run of transfers lies in the area, and its times are in their range
 pub record RunIn (area : List ℕ) (first n : ℕ) : Type 0 where
@@ -82,8 +87,10 @@ pub record Netted (ctx : Context) (sl : Slices) (w : List ℕ) : Type 0 where
   pub held : LinesHeld (ctx .counts .timetable) (ctx .net .lined) (sl .built) w
   pub patterns : PatternsOk (sl .patterns) (ctx .net .patterns)
   pub events : ctx .net .events + ctx .counts .timetable .trips ≤ length w
-  pub words : (i o : ℕ) → i < ctx .counts .timetable .trips → o < countOf (sl .tables) (ctx .counts .timetable) i → ctx .net .runs + eventAt (ctx .net) w i o * 2 + 2 ≤ length (sl .built)
-  pub run : (i o : ℕ) → i < ctx .counts .timetable .trips → o < countOf (sl .tables) (ctx .counts .timetable) i → RunIn (sl .transfers) (eventRunAt (ctx .net) (sl .built) w i o .first) (eventRunAt (ctx .net) (sl .built) w i o .length)
+  pub words : (i o : ℕ) → i < ctx .counts .timetable .trips → o < countOf (sl .tables) (ctx .counts .timetable) i
+      → ctx .net .runs + eventAt (ctx .net) w i o * 2 + 2 ≤ length (sl .built)
+  pub run : (i o : ℕ) → i < ctx .counts .timetable .trips → o < countOf (sl .tables) (ctx .counts .timetable) i
+      → RunIn (sl .transfers) (eventRunAt (ctx .net) (sl .built) w i o .first) (eventRunAt (ctx .net) (sl .built) w i o .length)
   pub past : PastArrivals (ctx .lay) (ctx .net)
   pub T : Tables
   pub Q : Query

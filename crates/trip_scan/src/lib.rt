@@ -39,8 +39,8 @@ fn no_drop_off(
     off: usize,
 ) -> bool
     requires { ⌜ Ground (now tables) c (now «delay_rows») (now «stop_rows») ⌝ ∗ ⌜ Event (now tables) c trip off ⌝ }
-    ensures { λ r. ⌜ ((T : Tables) (Q : Query) → Agree T Q (now (tables .entry)) c (now («delay_rows» .entry)) (now («stop_rows» .entry)) → r
-        ≡ noDropOff T trip off) ⌝ }
+    ensures { λ r. ⌜ ((T : Tables) (Q : Query) → Agree T Q (now (tables .entry)) c (now («delay_rows» .entry)) (now («stop_rows» .entry))
+        → r ≡ noDropOff T trip off) ⌝ }
 {
     let first = tables::trip(tables, c, trip, 0);
     tables::time(tables, c, first + off, 5) == 1
@@ -57,9 +57,10 @@ fn shut(
     trip: usize,
     off: usize,
 ) -> bool
-    requires { ⌜ Ground (now tables) c (now «delay_rows») (now «stop_rows») ⌝ ∗ ⌜ Known (now «delay_rows») adj ⌝ ∗ ⌜ Event (now tables) c trip off ⌝ }
-    ensures { λ r. ⌜ ((T : Tables) (Q : Query) → Agree T Q (now (tables .entry)) c (now («delay_rows» .entry)) (now («stop_rows» .entry)) → r
-        ≡ cond tested (noDropOff T trip off || skips T Q (hitOf adj) trip off) (noDropOff T trip off)) ⌝ }
+    requires { ⌜ Ground (now tables) c (now «delay_rows») (now «stop_rows») ⌝ ∗ ⌜ Known (now «delay_rows») adj ⌝
+        ∗ ⌜ Event (now tables) c trip off ⌝ }
+    ensures { λ r. ⌜ ((T : Tables) (Q : Query) → Agree T Q (now (tables .entry)) c (now («delay_rows» .entry)) (now («stop_rows» .entry))
+        → r ≡ cond tested (noDropOff T trip off || skips T Q (hitOf adj) trip off) (noDropOff T trip off)) ⌝ }
 {
     let barred = no_drop_off(tables, c, delay_rows, stop_rows, trip, off);
     if !tested {
@@ -83,7 +84,8 @@ fn alightings(
     label_distances: &mut [f64],
     h: Head,
 ) -> Head
-    requires { ⌜ Riding (now tables) (s .context .counts .timetable) (now «delay_rows») (now «stop_rows») (s .adj) (s .context .lay) (s .ride) ⌝
+    requires { ⌜ Riding (now tables) (s .context .counts .timetable) (now «delay_rows») (now «stop_rows») (s .adj) (s .context .lay)
+        (s .ride) ⌝
         ∗ ⌜ Ready (s .context .lay) (s .ride .stamp) (memory (now work) (now labels) (now «label_distances») h) ⌝ }
     ensures { λ x. ⌜ Step (s .context .lay) (s .ride .stamp)
         (Reads (now (tables .entry)) (s .context .counts .timetable) (now («delay_rows» .entry)) (now («stop_rows» .entry)) (s .context .lay)

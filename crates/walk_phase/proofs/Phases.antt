@@ -161,7 +161,7 @@ module _ (lay : Lay) (ctx : Context) (stamp : ℕ) (t : List ℕ) (d : List Floa
   module _ (ls : StopsListed (turned lay) w (h .count)) (w″ : List ℕ) (count : ℕ)
       (x : Appended (turned lay) (b .work) w″ (b .head .count) count (bearing (turned lay) stamp (b .work) (part (b .work) (lay .list) (h .count)))) where
     abbrev last : Memory
-    last = memory w″ (b .labels) (b .distances) (record { best = b .head .best; count = count; queued = b .head .queued; full = b .head .full })
+    last = memory w″ (b .labels) (b .labelDistances) (record { best = b .head .best; count = count; queued = b .head .queued; full = b .head .full })
 
     after-plain : (T : Tables) (Q : Query) (q : List ℕ) (s : Boardings) → ctx .flagged ≡ false
         → record { arrivals = arrivalsOf (turned lay) last q; boardings = noted (b .head .queued) s }
@@ -198,7 +198,7 @@ module _ (lay : Lay) (ctx : Context) (stamp : ℕ) (t : List ℕ) (d : List Floa
             ]) (sym f)
 
     pub phase-plain : ctx .flagged ≡ false → WalkPhase lay (ctx .flagged) stamp (WalksAgree lay ctx t d bs w) (memory w l m h)
-        (memory w″ (b .labels) (b .distances) (record { best = b .head .best; count = count; queued = b .head .queued; full = b .head .full }))
+        (memory w″ (b .labels) (b .labelDistances) (record { best = b .head .best; count = count; queued = b .head .queued; full = b .head .full }))
     phase-plain f =
         record {
           view = λ T Q g round e q s. after-plain T Q q s f

@@ -9,6 +9,7 @@ use lib.Dec.{eqb}
 use Rattle.sorts.specs.Orders.{keep}
 use Rattle.model.specs.Tables.{Tables, Query}
 use Rattle.model.specs.Search.{Boardings, walkPhase}
+use Rattle.query_types.specs.Layout.{listRoom}
 use Rattle.query_types.specs.declared.Lay.{Lay}
 use Rattle.search_state.specs.Part.{part}
 use Rattle.search_state.specs.Places.{Same, earliestOf, stampsOf, reachOf, otherAt, turned}
@@ -18,7 +19,7 @@ use Rattle.search_state.specs.Step.{Ready}
 -- the n stops of the other list: each one of the table's, and reached early enough (28 times 2 to the 20) that a walk from there, of at
 -- most 104,857,500 seconds, ends below 2 to the 27
 pub record StopsListed (lay : Lay) (w : List ℕ) (n : ℕ) : Type 0 where
-  pub few : n ≤ lay .stops + 64
+  pub few : n ≤ listRoom (lay .stops)
   pub inside : (i : ℕ) → i < n → otherAt lay w i < lay .stops
   pub early : (i : ℕ) → i < n → getD w (otherAt lay w i) 0 < 29360128
 

@@ -22,6 +22,7 @@ ghost use Rattle.search_state.specs.Step.{Ready, Step};
 ghost use Rattle.walk_phase.specs.Walking.{WalkGround, WalksAgree};
 ghost use Rattle.arc_flags.specs.Skipping.{Patterned, PatternsOk};
 ghost use Rattle.walk_phase.specs.Lists.{StopsListed, bearing, Appended, WalkPhase};
+ghost use Rattle.query_types.specs.Layout.{listRoom};
 use label::Label;
 use query_types::Context;
 use query_types::Head;
@@ -31,8 +32,8 @@ use tables::Counts;
 // Do the arc flags skip an edge of pattern p?
 fn skips(ctx: Context, patterns: &[u8], p: usize) -> bool
     requires { ⌜ PatternsOk (now patterns) (ctx .net .patterns) ⌝ }
-    ensures { λ r. ⌜ ((T : Tables) (Q : Query) → Patterned T (now (patterns .entry)) (ctx .net .patterns) → ctx .net .target ≡ targetCells T Q → r
-        ≡ (ctx .flagged && not (holdsTarget T Q p))) ⌝ }
+    ensures { λ r. ⌜ ((T : Tables) (Q : Query) → Patterned T (now (patterns .entry)) (ctx .net .patterns)
+        → ctx .net .target ≡ targetCells T Q → r ≡ (ctx .flagged && not (holdsTarget T Q p))) ⌝ }
 {
     if !ctx.flagged {
         return false;
@@ -213,10 +214,11 @@ fn walk_all(
 
 // Stop s is put behind the list where it bears the stamp. The answer is how many stops the list has then.
 fn append_one(lay: Lay, stamp: u32, s: usize, work: &mut [u32], count: usize) -> usize
-    requires { ⌜ Sized lay (length (now work)) (lay .stops * 104) (lay .stops * 13) ⌝ ∗ ⌜ s < lay .stops ⌝ ∗ ⌜ count < lay .stops + 64 ⌝ }
+    requires { ⌜ Sized lay (length (now work)) (lay .stops * 104) (lay .stops * 13) ⌝ ∗ ⌜ s < lay .stops ⌝
+        ∗ ⌜ count < listRoom (lay .stops) ⌝ }
     ensures { λ r. ⌜ Appended lay (now (work .entry)) (now (work .exit)) count r (bearing lay stamp (now (work .entry)) (s ∷ [])) ⌝ }
 {
-    let at = lay.stops + s;
+    let at = query_types::stamps_at(lay) + s;
     if work[at] != stamp {
         return count;
     }
@@ -229,7 +231,7 @@ fn append_one(lay: Lay, stamp: u32, s: usize, work: &mut [u32], count: usize) ->
 fn append_stamped(lay: Lay, stamp: u32, n: usize, work: &mut [u32], count: usize) -> usize
     requires { ⌜ Sized lay (length (now work)) (lay .stops * 104) (lay .stops * 13) ⌝
         ∗ ⌜ StopsListed lay (now work) n ⌝
-        ∗ ⌜ count + n ≤ lay .stops + 64 ⌝ }
+        ∗ ⌜ count + n ≤ listRoom (lay .stops) ⌝ }
     ensures { λ r. ⌜ Appended lay (now (work .entry)) (now (work .exit)) count r
         (bearing lay stamp (now (work .entry)) (part (now (work .entry)) (lay .other) n)) ⌝ }
 {

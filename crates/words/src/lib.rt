@@ -5,7 +5,7 @@
 // Assumes nothing.
 ghost use mathlib.Core.Path.{_≡_};
 ghost use Prim.Native.Nat.{_<_, min, max, _≤_};
-ghost use lib.ListN.{length, getD, replicate, set};
+ghost use lib.ListN.{length, getD, replicate};
 ghost use Rattle.words.specs.Filled.{Filled};
 
 // The smaller of two.

@@ -29,7 +29,10 @@ holds-target-requires : tie.Need-holds-target-requires Inv-loop μ-loop
 holds-target-requires c κs = let s = c .before .before .before .before .before in s .pre .1
 
 returns : tie.Need-returns Inv-loop μ-loop
-returns c = let s = c .before .before .before .before .before .before .before in λ T Q e g et. some-yes (skipsAt T Q) (c .before .before .before .before .loop .k) _ (c .before .before .before .before .loop .inv .1 T Q e g et) (skips-at T Q (now (s .args .tables)) (s .args .c) (c .before .before .before .before .loop .k) _ _ _ e (c .before .before .edge .ensures .0) (c .before .holds-target .ensures T Q g et) (not-true _ (c .if1 .taken))) (c .before .before .before .loop-test .taken)
+returns c =
+    let c₁ = c .before .before .before .before in
+    let s = c₁ .before .before .before in
+    λ T Q e g et. some-yes (skipsAt T Q) (c₁ .loop .k) _ (c₁ .loop .inv .1 T Q e g et) (skips-at T Q (now (s .args .tables)) (s .args .c) (c₁ .loop .k) _ _ _ e (c .before .before .edge .ensures .0) (c .before .holds-target .ensures T Q g et) (not-true _ (c .if1 .taken))) (c .before .before .before .loop-test .taken)
 
 add-k : tie.Need-add-k Inv-loop μ-loop
 add-k c = omega arith
@@ -38,7 +41,10 @@ loop-less : tie.Need-loop-less Inv-loop μ-loop
 loop-less c = omega arith
 
 loop-again : tie.Need-loop-again Inv-loop μ-loop
-loop-again c = let s = c .before .before .before .before .before .before .before in (c .before .before .before .before .loop .inv .0, λ T Q e g et. some-again (skipsAt T Q) (c .before .before .before .before .loop .k) _ (c .before .before .before .before .loop .inv .1 T Q e g et) (skips-at T Q (now (s .args .tables)) (s .args .c) (c .before .before .before .before .loop .k) _ _ _ e (c .before .before .edge .ensures .0) (c .before .holds-target .ensures T Q g et) (not-false _ (c .if1 .left))) (c .before .before .before .loop-test .taken))
+loop-again c =
+    let c₁ = c .before .before .before .before in
+    let s = c₁ .before .before .before in
+    (c₁ .loop .inv .0, λ T Q e g et. some-again (skipsAt T Q) (c₁ .loop .k) _ (c₁ .loop .inv .1 T Q e g et) (skips-at T Q (now (s .args .tables)) (s .args .c) (c₁ .loop .k) _ _ _ e (c .before .before .edge .ensures .0) (c .before .holds-target .ensures T Q g et) (not-false _ (c .if1 .left))) (c .before .before .before .loop-test .taken))
 
 returns-2 : tie.Need-returns-2 Inv-loop μ-loop
 returns-2 c = λ T Q e g et. some-left (skipsAt T Q) (c .before .loop .k) _ (c .before .loop .inv .1 T Q e g et) (c .loop-test .left)

@@ -46,7 +46,10 @@ counted-before-requires-2 : tie.Need-counted-before-requires-2 Inv-loop μ-loop
 counted-before-requires-2 c κs = let s = c .before .before .before .before .before .before .before in s .pre
 
 returns : tie.Need-returns Inv-loop μ-loop
-returns c = let s = c .before .before .before .before .before .before .before .before .before in let w = c .before .before .before .before .before .before .loop in λ f h. let g = withinRun f (s .args .from) (s .args .n) in some-yes (runSome g (now (s .args .runs))) (w .e) _ (w .inv .1 f h) (run-counted g (now (s .args .runs)) (w .e) _ _ _ _ _ (c .before .before .before .before .field .ensures .0) (c .before .before .before .field2 .ensures .0) (c .before .before .counted-before .ensures f h) (c .before .counted-before2 .ensures f h) (lt-ltb _ _ (c .if1 .taken))) (c .before .before .before .before .before .loop-test .taken)
+returns c =
+    let c₁ = c .before .before .before .before .before .before in
+    let s = c₁ .before .before .before in
+    let w = c₁ .loop in λ f h. let g = withinRun f (s .args .from) (s .args .n) in some-yes (runSome g (now (s .args .runs))) (w .e) _ (w .inv .1 f h) (run-counted g (now (s .args .runs)) (w .e) _ _ _ _ _ (c .before .before .before .before .field .ensures .0) (c .before .before .before .field2 .ensures .0) (c .before .before .counted-before .ensures f h) (c .before .counted-before2 .ensures f h) (lt-ltb _ _ (c .if1 .taken))) (c .before .before .before .before .before .loop-test .taken)
 
 add-e : tie.Need-add-e Inv-loop μ-loop
 add-e c = omega arith
@@ -55,7 +58,10 @@ loop-less : tie.Need-loop-less Inv-loop μ-loop
 loop-less c = omega arith
 
 loop-again : tie.Need-loop-again Inv-loop μ-loop
-loop-again c = let s = c .before .before .before .before .before .before .before .before .before in let w = c .before .before .before .before .before .before .loop in (w .inv .0, λ f h. let g = withinRun f (s .args .from) (s .args .n) in some-again (runSome g (now (s .args .runs))) (w .e) _ (w .inv .1 f h) (run-counted g (now (s .args .runs)) (w .e) _ _ _ _ _ (c .before .before .before .before .field .ensures .0) (c .before .before .before .field2 .ensures .0) (c .before .before .counted-before .ensures f h) (c .before .counted-before2 .ensures f h) (le-ltb _ _ (c .if1 .left))) (c .before .before .before .before .before .loop-test .taken))
+loop-again c =
+    let c₁ = c .before .before .before .before .before .before in
+    let s = c₁ .before .before .before in
+    let w = c₁ .loop in (w .inv .0, λ f h. let g = withinRun f (s .args .from) (s .args .n) in some-again (runSome g (now (s .args .runs))) (w .e) _ (w .inv .1 f h) (run-counted g (now (s .args .runs)) (w .e) _ _ _ _ _ (c .before .before .before .before .field .ensures .0) (c .before .before .before .field2 .ensures .0) (c .before .before .counted-before .ensures f h) (c .before .counted-before2 .ensures f h) (le-ltb _ _ (c .if1 .left))) (c .before .before .before .before .before .loop-test .taken))
 
 returns-2 : tie.Need-returns-2 Inv-loop μ-loop
 returns-2 c = let s = c .before .before .before .before in let w = c .before .loop in λ f h. some-left (runSome (withinRun f (s .args .from) (s .args .n)) (now (s .args .runs))) (w .e) _ (w .inv .1 f h) (c .loop-test .left)

@@ -9,11 +9,11 @@ use Rattle.arc_flags.proofs.some_window_skips.Statement.{statement}
 use Rattle.arc_flags.proofs.some_window_skips.Tie as tie
 
 abbrev Inv-loop : tie.InvT-loop
-Inv-loop runs transfers rows patterns count target from₀ from =
-    (from ≤ rows) × ((T : Tables) (Q : Query) → Aimed T Q patterns count target → NoneBelow (rowSkipped T Q transfers) runs from)
+Inv-loop runs transfers «transfer_rows» patterns count target from₀ from =
+    (from ≤ «transfer_rows») × ((T : Tables) (Q : Query) → Aimed T Q patterns count target → NoneBelow (rowSkipped T Q transfers) runs from)
 
 abbrev μ-loop : tie.MeasureT-loop
-μ-loop runs transfers rows patterns count target from₀ from = rows - from
+μ-loop runs transfers «transfer_rows» patterns count target from₀ from = «transfer_rows» - from
 
 loop-holds : tie.Need-loop-holds Inv-loop μ-loop
 loop-holds c = (omega arith, λ T Q a e k l u v. absurd (omega arith))
@@ -40,7 +40,7 @@ loop-again : tie.Need-loop-again Inv-loop μ-loop
 loop-again c = let s = c .before .before .before .before .before .before .before .before in let w = c .before .before .before .before .loop in (omega (arith, c .before .before .smaller .ensures), λ T Q a. window-no (rowSkipped T Q (now (s .args .transfers))) (now (s .args .runs)) (w .from) _ (w .inv .1 T Q a) (c .before .window-skips .ensures .says T Q a) (c .if1 .left))
 
 returns-2 : tie.Need-returns-2 Inv-loop μ-loop
-returns-2 c = let s = c .before .before .before .before .before in let w = c .before .loop in record { says = λ T Q a. windows-left (rowSkipped T Q (now (s .args .transfers))) (now (s .args .runs)) (w .from) (s .args .rows) (s .pre .1 .1) (w .inv .1 T Q a) (c .loop-test .left) }
+returns-2 c = let s = c .before .before .before .before .before in let w = c .before .loop in record { says = λ T Q a. windows-left (rowSkipped T Q (now (s .args .transfers))) (now (s .args .runs)) (w .from) (s .args .transfer-rows) (s .pre .1 .1) (w .inv .1 T Q a) (c .loop-test .left) }
 
 pub some-window-skips-spec : {M : Type 1} → statement M
 some-window-skips-spec =

@@ -72,7 +72,9 @@ loop-less : tie.Need-loop-less Inv-loop μ-loop
 loop-less c = omega arith
 
 loop-again : tie.Need-loop-again Inv-loop μ-loop
-loop-again c = let w = c .before .before .before .before .loop in let s = c .before .before .before .before .before .before .before .before .before .before .before .before in (w .inv .0, omega arith, w .inv .2, w .inv .3, λ T Q ec en eq. w .inv .4 T Q ec en eq ∙ ahead-step T (now (s .args .egress)) _ (w .i) _ _ _ (c .before .before .before .loop-test .taken) (c .before .field2 .ensures .0 ∙ ap (λ (x : ℕ). getD (now (s .args .tables)) (stopsAt (s .args .c) + x) 0) (c .before .before .field .ensures .0) ∙ sym (ec _)) (c .set-bit .ensures))
+loop-again c =
+    let c₁ = c .before .before .before .before .before .before .before .before .before .before .before in
+    let w = c .before .before .before .before .loop in let s = c₁ .before in (w .inv .0, omega arith, w .inv .2, w .inv .3, λ T Q ec en eq. w .inv .4 T Q ec en eq ∙ ahead-step T (now (s .args .egress)) _ (w .i) _ _ _ (c .before .before .before .loop-test .taken) (c .before .field2 .ensures .0 ∙ ap (λ (x : ℕ). getD (now (s .args .tables)) (stopsAt (s .args .c) + x) 0) (c .before .before .field .ensures .0) ∙ sym (ec _)) (c .set-bit .ensures))
 
 returns : tie.Need-returns Inv-loop μ-loop
 returns c = let w = c .before .loop in let s = c .before .before .before .before .before .before .before .before .before in λ T Q e en eq. ahead-end T (now (s .args .egress)) _ (w .i) _ (c .loop-test .left) ∙ sym (w .inv .4 T Q (cell-is T (now (s .args .tables)) (s .args .c) e) en eq)

@@ -13,7 +13,7 @@ both-requires-2 : tie.Need-both-requires-2
 both-requires-2 c κs = search needs
 
 returns : tie.Need-returns
-returns c = let s = c .before .before .before in λ T Q ec eo et. flags-is T Q (s .args .count) (s .args .target) (s .args .off) _ _ _ ec eo et (c .before .before .is-empty .ensures) (c .before .both .ensures) (c .both2 .ensures)
+returns c = let s = c .before .before .before in λ T Q ec eo et. flags-is T Q (s .args .count) (s .args .target) (s .args .flags-off) _ _ _ ec eo et (c .before .before .is-empty .ensures) (c .before .both .ensures) (c .both2 .ensures)
 
 pub use-arc-flags-spec : {M : Type 1} → statement M
 use-arc-flags-spec = tie.close (tie.spec is-empty-requires both-requires both-requires-2 returns)

@@ -44,7 +44,10 @@ word-requires-3 : tie.Need-word-requires-3 Inv-loop μ-loop
 word-requires-3 c κs = let s = c .before .before .before .before .before .before in omega (arith, c .before .word .ensures, c .before .before .before .loop .inv .0, s .pre .0 .long, s .pre .1 .stop (c .before .before .before .loop .i) (omega (arith, c .before .before .before .loop .inv .0)))
 
 with-stop-requires : tie.Need-with-stop-requires Inv-loop μ-loop
-with-stop-requires c κs = let s = c .before .before .before .before .before .before .before in (rw (c .word3 .ensures) (s .pre .0 .small (c .before .before .word .result) (omega (arith, c .before .before .word .ensures, s .pre .1 .stop (c .before .before .before .before .loop .i) (omega (arith, c .before .before .before .before .loop .inv .0))))), omega (arith, c .before .word2 .ensures, s .pre .1 .walk (c .before .before .before .before .loop .i) (omega (arith, c .before .before .before .before .loop .inv .0))))
+with-stop-requires c κs =
+    let c₁ = c .before .before .before .before in
+    let s = c₁ .before .before .before in
+    (rw (c .word3 .ensures) (s .pre .0 .small (c .before .before .word .result) (omega (arith, c .before .before .word .ensures, s .pre .1 .stop (c₁ .loop .i) (omega (arith, c₁ .loop .inv .0))))), omega (arith, c .before .word2 .ensures, s .pre .1 .walk (c₁ .loop .i) (omega (arith, c₁ .loop .inv .0))))
 
 add-i : tie.Need-add-i Inv-loop μ-loop
 add-i c = omega arith
@@ -53,7 +56,10 @@ loop-less : tie.Need-loop-less Inv-loop μ-loop
 loop-less c = omega arith
 
 loop-again : tie.Need-loop-again Inv-loop μ-loop
-loop-again c = let s = c .before .before .before .before .before .before .before .before in let w = c .before .before .before .before .before .loop in (w .inv .0, λ T Q a g. w .inv .1 T Q a g ∙ best-step T Q a (now (s .args .egress)) _ (w .i) _ (w .total, w .stop) _ (c .before .before .before .before .loop-test .taken) (c .before .word3 .ensures ∙ ap (λ (x : ℕ). getD (now (s .args .work)) x 0) (c .before .before .before .word .ensures) ∙ sym (g .at _ (s .pre .1 .stop (w .i) (omega (arith, w .inv .0))))) (c .with-stop .ensures ∙ ap₂ (λ (x y : ℕ). withStop (w .total, w .stop) (c .before .word3 .result) x y) (c .before .before .before .word .ensures) (c .before .before .word2 .ensures)))
+loop-again c =
+    let c₁ = c .before .before .before in
+    let s = c₁ .before .before .before .before .before in
+    let w = c .before .before .before .before .before .loop in (w .inv .0, λ T Q a g. w .inv .1 T Q a g ∙ best-step T Q a (now (s .args .egress)) _ (w .i) _ (w .total, w .stop) _ (c .before .before .before .before .loop-test .taken) (c .before .word3 .ensures ∙ ap (λ (x : ℕ). getD (now (s .args .work)) x 0) (c₁ .word .ensures) ∙ sym (g .at _ (s .pre .1 .stop (w .i) (omega (arith, w .inv .0))))) (c .with-stop .ensures ∙ ap₂ (λ (x y : ℕ). withStop (w .total, w .stop) (c .before .word3 .result) x y) (c₁ .word .ensures) (c .before .before .word2 .ensures)))
 
 returns : tie.Need-returns Inv-loop μ-loop
 returns c = let s = c .before .before .before .before in let w = c .before .loop in λ T Q a g. best-end T Q a (now (s .args .egress)) _ (w .i) (w .total, w .stop) (c .loop-test .left) ∙ sym (w .inv .1 T Q a g)

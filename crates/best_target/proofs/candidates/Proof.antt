@@ -28,7 +28,7 @@ clear-words-requires c κs = search needs
 
 loop-holds : tie.Need-loop-holds Inv-loop μ-loop
 unfolding tabFrom
-loop-holds c = let s = c .before .before .before .before .before .before .before .before in (omega arith, omega arith, omega arith, zeroed (length (now (s .args .out))) (c .before .before .clear-words .ensures), λ T Q a g e d. rows-begin T Q a (s .args .top) (suc (s .args .rounds)) never)
+loop-holds c = let s = c .before .before .before .before .before .before .before .before in (omega arith, omega arith, omega arith, zeroed (length (now (s .args .candidates))) (c .before .before .clear-words .ensures), λ T Q a g e d. rows-begin T Q a (s .args .top) (suc (s .args .rounds)) never)
 
 row-target-requires : tie.Need-row-target-requires Inv-loop μ-loop
 row-target-requires c κs = let s = c .before .before .before .before .before .before .before .before .before .before in (s .pre .0, (s .pre .1 .0, omega (arith, c .loop-test .taken, s .pre .1 .1 .0)))
@@ -43,13 +43,20 @@ loop-less : tie.Need-loop-less Inv-loop μ-loop
 loop-less c = omega (arith, c .before .before .before .loop-test .taken)
 
 loop-again : tie.Need-loop-again Inv-loop μ-loop
-loop-again c = let s = c .before .before .before .before .before .before .before .before .before .before .before .before .before in let w = c .before .before .before .before .loop in (omega (arith, c .before .before .before .loop-test .taken), omega (arith, w .inv .1), w .inv .2, w .inv .3, λ T Q a g e d. w .inv .4 T Q a g e d ∙ ap (λ (l : List (ℕ × ℕ × ℕ)). candidatesIn (w .out) (w .m) ++ l) (rows-pass T Q a (s .args .top) (suc (s .args .rounds)) (w .row) (w .last) (s .args .slack) (c .before .before .row-target .result) (now (s .args .egress)) _ (omega (arith, c .before .before .before .loop-test .taken)) e d (c .before .before .row-target .ensures T Q a g) (c .before .taken .ensures) (not-true _ (c .if1 .taken))))
+loop-again c =
+    let c₁ = c .before .before .before in
+    let s = c₁ .before .before .before .before .before .before .before .before .before .before in
+    let w = c .before .before .before .before .loop in (omega (arith, c₁ .loop-test .taken), omega (arith, w .inv .1), w .inv .2, w .inv .3, λ T Q a g e d. w .inv .4 T Q a g e d ∙ ap (λ (l : List (ℕ × ℕ × ℕ)). candidatesIn (w .candidates) (w .m) ++ l) (rows-pass T Q a (s .args .top) (suc (s .args .rounds)) (w .row) (w .last) (s .args .slack) (c .before .before .row-target .result) (now (s .args .egress)) _ (omega (arith, c₁ .loop-test .taken)) e d (c .before .before .row-target .ensures T Q a g) (c .before .taken .ensures) (not-true _ (c .if1 .taken))))
 
 put-candidate-requires : tie.Need-put-candidate-requires Inv-loop μ-loop
 put-candidate-requires c κs = let s = c .before .before .before .before .before .before .before .before .before .before .before .before .before .before in let w = c .before .before .before .before .before .loop in omega (arith, w .inv .1, w .inv .2, c .before .before .before .before .loop-test .taken, s .pre .1 .1 .0)
 
 add-m : tie.Need-add-m Inv-loop μ-loop
-add-m c = let s = c .before .before .before .before .before .before .before .before .before .before .before .before .before .before .before .before .before in let w = c .before .before .before .before .before .before .before .before .loop in omega (arith, w .inv .1, c .before .before .before .before .before .before .before .loop-test .taken, s .pre .1 .1 .0)
+add-m c =
+    let c₁ = c .before .before .before .before .before .before .before in
+    let c₂ = c₁ .before in
+    let s = c₂ .before .before .before .before .before .before .before .before .before in
+    let w = c₂ .loop in omega (arith, w .inv .1, c₁ .loop-test .taken, s .pre .1 .1 .0)
 
 add-row-2 : tie.Need-add-row-2 Inv-loop μ-loop
 add-row-2 c = let s = c .before .before .before .before .before .before .before .before .before .before .before .before .before .before .before .before .before in omega (arith, c .before .before .before .before .before .before .before .loop-test .taken, s .pre .1 .1 .0)
@@ -58,13 +65,18 @@ loop-less-2 : tie.Need-loop-less-2 Inv-loop μ-loop
 loop-less-2 c = omega (arith, c .before .before .before .before .before .before .before .loop-test .taken)
 
 loop-again-2 : tie.Need-loop-again-2 Inv-loop μ-loop
-loop-again-2 c = let s = c .before .before .before .before .before .before .before .before .before .before .before .before .before .before .before .before .before in let w = c .before .before .before .before .before .before .before .before .loop in let p = c .before .before .put-candidate .ensures in (omega (arith, c .before .before .before .before .before .before .before .loop-test .taken), omega (arith, w .inv .1), p .size ∙ w .inv .2, put-zeros _ _ _ _ _ _ p (w .inv .3), λ T Q a g e d. rows-put T Q a (s .args .top) (suc (s .args .rounds)) _ _ (w .m) _ _ _ _ _ _ p (w .inv .4 T Q a g e d ∙ ap (λ (l : List (ℕ × ℕ × ℕ)). candidatesIn (w .out) (w .m) ++ l) (rows-take T Q a (s .args .top) (suc (s .args .rounds)) (w .row) (w .last) (s .args .slack) (c .before .before .before .before .before .before .row-target .result) (now (s .args .egress)) _ (omega (arith, c .before .before .before .before .before .before .before .loop-test .taken)) e d (c .before .before .before .before .before .before .row-target .ensures T Q a g) (c .before .before .before .before .before .taken .ensures) (not-false _ (c .before .before .before .before .if1 .left)))))
+loop-again-2 c =
+    let c₁ = c .before .before .before .before .before .before in
+    let c₂ = c₁ .before in
+    let c₃ = c₂ .before in
+    let s = c₃ .before .before .before .before .before .before .before .before .before in
+    let w = c₃ .loop in let p = c .before .before .put-candidate .ensures in (omega (arith, c₂ .loop-test .taken), omega (arith, w .inv .1), p .size ∙ w .inv .2, put-zeros _ _ _ _ _ _ p (w .inv .3), λ T Q a g e d. rows-put T Q a (s .args .top) (suc (s .args .rounds)) _ _ (w .m) _ _ _ _ _ _ p (w .inv .4 T Q a g e d ∙ ap (λ (l : List (ℕ × ℕ × ℕ)). candidatesIn (w .candidates) (w .m) ++ l) (rows-take T Q a (s .args .top) (suc (s .args .rounds)) (w .row) (w .last) (s .args .slack) (c₁ .row-target .result) (now (s .args .egress)) _ (omega (arith, c₂ .loop-test .taken)) e d (c₁ .row-target .ensures T Q a g) (c .before .before .before .before .before .taken .ensures) (not-false _ (c .before .before .before .before .if1 .left)))))
 
 same-length : tie.Need-same-length Inv-loop μ-loop
 same-length c = let s = c .before .before .before .before .before .before .before .before .before .before in omega (arith, c .before .loop .inv .2, s .pre .1 .1 .1)
 
 returns : tie.Need-returns Inv-loop μ-loop
-returns c = let s = c .before .before .before .before .before .before .before .before .before .before in let w = c .before .loop in (w .inv .3, (λ T Q a g e d. rows-end T Q a (s .args .top) (suc (s .args .rounds)) (w .row) (w .last) (candidatesIn (w .out) (w .m)) (omega (arith, c .loop-test .left)) ∙ sym (w .inv .4 T Q a g e d), omega (arith, w .inv .0, w .inv .1, s .pre .1 .1 .0)))
+returns c = let s = c .before .before .before .before .before .before .before .before .before .before in let w = c .before .loop in (w .inv .3, (λ T Q a g e d. rows-end T Q a (s .args .top) (suc (s .args .rounds)) (w .row) (w .last) (candidatesIn (w .candidates) (w .m)) (omega (arith, c .loop-test .left)) ∙ sym (w .inv .4 T Q a g e d), omega (arith, w .inv .0, w .inv .1, s .pre .1 .1 .0)))
 
 pub candidates-spec : {M : Type 1} → statement M
 candidates-spec =

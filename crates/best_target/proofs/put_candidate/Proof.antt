@@ -9,48 +9,48 @@ use Rattle.best_target.proofs.put_candidate.Tie as tie
 mul-at : tie.Need-mul-at
 mul-at c = search needs
 
-mul-out : tie.Need-mul-out
-mul-out c = search needs
+mul-candidates : tie.Need-mul-candidates
+mul-candidates c = search needs
 
-slice-write-out : tie.Need-slice-write-out
-slice-write-out c = search needs
+slice-write-candidates : tie.Need-slice-write-candidates
+slice-write-candidates c = search needs
 
-add-out : tie.Need-add-out
-add-out c = search needs
+add-candidates : tie.Need-add-candidates
+add-candidates c = search needs
 
-mul-out-2 : tie.Need-mul-out-2
-mul-out-2 c = search needs
+mul-candidates-2 : tie.Need-mul-candidates-2
+mul-candidates-2 c = search needs
 
-slice-write-out-2 : tie.Need-slice-write-out-2
-slice-write-out-2 c = simp length-set (omega arith)
+slice-write-candidates-2 : tie.Need-slice-write-candidates-2
+slice-write-candidates-2 c = simp length-set (omega arith)
 
-add-out-2 : tie.Need-add-out-2
-add-out-2 c = search needs
+add-candidates-2 : tie.Need-add-candidates-2
+add-candidates-2 c = search needs
 
-mul-out-3 : tie.Need-mul-out-3
-mul-out-3 c = search needs
+mul-candidates-3 : tie.Need-mul-candidates-3
+mul-candidates-3 c = search needs
 
-slice-write-out-3 : tie.Need-slice-write-out-3
-slice-write-out-3 c = simp length-set (omega arith)
+slice-write-candidates-3 : tie.Need-slice-write-candidates-3
+slice-write-candidates-3 c = simp length-set (omega arith)
 
 same-length : tie.Need-same-length
 same-length c = search needs
 
 returns : tie.Need-returns
-returns c = let s = c in put-is (now (s .args .out)) (s .args .m) (s .args .b .total) (s .args .b .stop) (s .args .row) (s .pre)
+returns c = let s = c in put-is (now (s .args .candidates)) (s .args .m) (s .args .b .total) (s .args .b .stop) (s .args .row) (s .pre)
 
 pub put-candidate-spec : {M : Type 1} → statement M
 put-candidate-spec =
     tie.close
     (tie.spec
     mul-at
-    mul-out
-    slice-write-out
-    add-out
-    mul-out-2
-    slice-write-out-2
-    add-out-2
-    mul-out-3
-    slice-write-out-3
+    mul-candidates
+    slice-write-candidates
+    add-candidates
+    mul-candidates-2
+    slice-write-candidates-2
+    add-candidates-2
+    mul-candidates-3
+    slice-write-candidates-3
     same-length
     returns)

@@ -41,7 +41,10 @@ reached-in-requires : tie.Need-reached-in-requires Inv-loop μ-loop
 reached-in-requires c κs = let s = c .before .before .before .before .before .before .before in (s .pre .0, (omega (arith, c .before .word .ensures, (s .pre .1 .0 .stop (c .before .before .before .loop .i) (omega (arith, c .before .before .before .loop .inv .0)))), s .pre .1 .1))
 
 with-reach-requires : tie.Need-with-reach-requires Inv-loop μ-loop
-with-reach-requires c κs = let s = c .before .before .before .before .before .before .before .before in (omega (arith, c .reached-in .ensures, s .pre .0 .small (c .before .before .word .result) (s .args .row) (omega (arith, c .before .before .word .ensures, (s .pre .1 .0 .stop (c .before .before .before .before .loop .i) (omega (arith, c .before .before .before .before .loop .inv .0))))) (s .pre .1 .1)), omega (arith, c .before .word2 .ensures, s .pre .1 .0 .walk (c .before .before .before .before .loop .i) (omega (arith, c .before .before .before .before .loop .inv .0))))
+with-reach-requires c κs =
+    let c₁ = c .before .before .before .before in
+    let s = c₁ .before .before .before .before in
+    (omega (arith, c .reached-in .ensures, s .pre .0 .small (c .before .before .word .result) (s .args .row) (omega (arith, c .before .before .word .ensures, (s .pre .1 .0 .stop (c₁ .loop .i) (omega (arith, c₁ .loop .inv .0))))) (s .pre .1 .1)), omega (arith, c .before .word2 .ensures, s .pre .1 .0 .walk (c₁ .loop .i) (omega (arith, c₁ .loop .inv .0))))
 
 add-i : tie.Need-add-i Inv-loop μ-loop
 add-i c = omega arith
@@ -50,7 +53,11 @@ loop-less : tie.Need-loop-less Inv-loop μ-loop
 loop-less c = omega arith
 
 loop-again : tie.Need-loop-again Inv-loop μ-loop
-loop-again c = let s = c .before .before .before .before .before .before .before .before .before in let w = c .before .before .before .before .before .loop in (w .inv .0, λ T Q a g. w .inv .1 T Q a g ∙ row-step T Q a (s .args .row) (now (s .args .egress)) _ (w .i) _ (w .total, w .stop) _ (c .before .before .before .before .loop-test .taken) (c .before .reached-in .ensures ∙ ap (λ (x : ℕ). reachedBy (loaded (now (s .args .labels)) (now (s .args .label-distances)) (recordOf x (s .args .row)))) (c .before .before .before .word .ensures) ∙ ap reachedBy (sym (g .at _ (s .args .row) (s .pre .1 .0 .stop (c .before .before .before .before .before .loop .i) (omega (arith, c .before .before .before .before .before .loop .inv .0))) (s .pre .1 .1)))) (c .with-reach .ensures ∙ ap₂ (λ (x y : ℕ). withReach (w .total, w .stop) (c .before .reached-in .result) x y) (c .before .before .before .word .ensures) (c .before .before .word2 .ensures)))
+loop-again c =
+    let c₁ = c .before .before .before in
+    let c₂ = c₁ .before .before in
+    let s = c₂ .before .before .before .before in
+    let w = c₂ .loop in (w .inv .0, λ T Q a g. w .inv .1 T Q a g ∙ row-step T Q a (s .args .row) (now (s .args .egress)) _ (w .i) _ (w .total, w .stop) _ (c .before .before .before .before .loop-test .taken) (c .before .reached-in .ensures ∙ ap (λ (x : ℕ). reachedBy (loaded (now (s .args .labels)) (now (s .args .label-distances)) (recordOf x (s .args .row)))) (c₁ .word .ensures) ∙ ap reachedBy (sym (g .at _ (s .args .row) (s .pre .1 .0 .stop (c₂ .loop .i) (omega (arith, c₂ .loop .inv .0))) (s .pre .1 .1)))) (c .with-reach .ensures ∙ ap₂ (λ (x y : ℕ). withReach (w .total, w .stop) (c .before .reached-in .result) x y) (c₁ .word .ensures) (c .before .before .word2 .ensures)))
 
 returns : tie.Need-returns Inv-loop μ-loop
 returns c = let s = c .before .before .before .before .before in let w = c .before .loop in λ T Q a g. row-end T Q a (s .args .row) (now (s .args .egress)) _ (w .i) (w .total, w .stop) (c .loop-test .left) ∙ sym (w .inv .1 T Q a g)

@@ -22,7 +22,9 @@ larger-word-requires : tie.Need-larger-word-requires
 larger-word-requires c κs = search needs
 
 returns : tie.Need-returns
-returns c = c .larger-word .ensures ∙ ap₂ max (c .before .before .before .size-if .ensures ∙ ap (λ (b : Bool). cond b (sizeOf (c .before .before .before .before .before .args .row .«departure_delay»)) 0) (c .before .before .before .before .departure-given .ensures)) (c .before .size-if2 .ensures ∙ ap (λ (b : Bool). cond b (sizeOf (c .before .before .before .before .before .args .row .«arrival_delay»)) 0) (c .before .before .arrival-given .ensures))
+returns c =
+    let c₁ = c .before .before .before .before .before in
+    c .larger-word .ensures ∙ ap₂ max (c .before .before .before .size-if .ensures ∙ ap (λ (b : Bool). cond b (sizeOf (c₁ .args .row .«departure_delay»)) 0) (c .before .before .before .before .departure-given .ensures)) (c .before .size-if2 .ensures ∙ ap (λ (b : Bool). cond b (sizeOf (c₁ .args .row .«arrival_delay»)) 0) (c .before .before .arrival-given .ensures))
 
 pub given-size-spec : {M : Type 1} → statement M
 given-size-spec =

@@ -11,10 +11,10 @@ use Rattle.delay_lookup.proofs.largest_trip.Statement.{statement}
 use Rattle.delay_lookup.proofs.largest_trip.Tie as tie
 
 abbrev Inv-loop : tie.InvT-loop
-Inv-loop rows n most₀ i₀ most i = (n ≡ delayRowCount rows) × (largest (λ k. sizeOf (delayRowAt rows k .delay)) (delayRowCount rows) ≡ range (orLarger (λ k. sizeOf (delayRowAt rows k .delay))) i n most)
+Inv-loop «delay_rows» n most₀ i₀ most i = (n ≡ delayRowCount «delay_rows») × (largest (λ k. sizeOf (delayRowAt «delay_rows» k .delay)) (delayRowCount «delay_rows») ≡ range (orLarger (λ k. sizeOf (delayRowAt «delay_rows» k .delay))) i n most)
 
 abbrev μ-loop : tie.MeasureT-loop
-μ-loop rows n most₀ i₀ most i = n - i
+μ-loop «delay_rows» n most₀ i₀ most i = n - i
 
 loop-holds : tie.Need-loop-holds Inv-loop μ-loop
 loop-holds c = (refl, refl)

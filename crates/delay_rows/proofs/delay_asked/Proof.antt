@@ -27,7 +27,10 @@ asked-requires : tie.Need-asked-requires
 asked-requires c κs = search needs
 
 returns : tie.Need-returns
-returns c = simp (c .asked .ensures, c .before .size-ok .ensures, c .before .before .trip-numbered .ensures, c .before .before .before .either .ensures, c .before .before .before .before .trips-rise .ensures, c .before .before .before .before .before .delay-row-at2 .ensures, c .before .before .before .before .before .before .previous .ensures, c .before .before .before .before .before .before .before .delay-row-at .ensures)
+returns c =
+    let c₁ = c .before .before .before .before .before .before in
+    let c₂ = c₁ .before in
+    simp (c .asked .ensures, c .before .size-ok .ensures, c .before .before .trip-numbered .ensures, c .before .before .before .either .ensures, c .before .before .before .before .trips-rise .ensures, c .before .before .before .before .before .delay-row-at2 .ensures, c₁ .previous .ensures, c₂ .delay-row-at .ensures)
 
 pub delay-asked-spec : {M : Type 1} → statement M
 delay-asked-spec =

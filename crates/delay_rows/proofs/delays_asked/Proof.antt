@@ -10,10 +10,10 @@ use Rattle.delay_rows.proofs.delays_asked.Statement.{statement}
 use Rattle.delay_rows.proofs.delays_asked.Tie as tie
 
 abbrev Inv-loop : tie.InvT-loop
-Inv-loop question trips rows n i₀ i = (n ≡ delayRowCount rows) × (everyIn (delayAsked question trips (delayRowAt rows)) 0 (delayRowCount rows) ≡ everyIn (delayAsked question trips (delayRowAt rows)) i n)
+Inv-loop question trips «delay_rows» n i₀ i = (n ≡ delayRowCount «delay_rows») × (everyIn (delayAsked question trips (delayRowAt «delay_rows»)) 0 (delayRowCount «delay_rows») ≡ everyIn (delayAsked question trips (delayRowAt «delay_rows»)) i n)
 
 abbrev μ-loop : tie.MeasureT-loop
-μ-loop question trips rows n i₀ i = n - i
+μ-loop question trips «delay_rows» n i₀ i = n - i
 
 loop-holds : tie.Need-loop-holds Inv-loop μ-loop
 loop-holds c = (refl, refl)

@@ -27,7 +27,10 @@ asked-requires : tie.Need-asked-requires
 asked-requires c κs = search needs
 
 returns : tie.Need-returns
-returns c = simp (c .asked .ensures, c .before .stop-in-range .ensures, c .before .before .row-numbered .ensures, c .before .before .before .either .ensures, c .before .before .before .before .stops-rise .ensures, c .before .before .before .before .before .stop-row-at2 .ensures, c .before .before .before .before .before .before .previous .ensures, c .before .before .before .before .before .before .before .stop-row-at .ensures)
+returns c =
+    let c₁ = c .before .before .before .before .before .before in
+    let c₂ = c₁ .before in
+    simp (c .asked .ensures, c .before .stop-in-range .ensures, c .before .before .row-numbered .ensures, c .before .before .before .either .ensures, c .before .before .before .before .stops-rise .ensures, c .before .before .before .before .before .stop-row-at2 .ensures, c₁ .previous .ensures, c₂ .stop-row-at .ensures)
 
 pub stop-asked-spec : {M : Type 1} → statement M
 stop-asked-spec =

@@ -19,10 +19,10 @@ departure-rows-requires : tie.Need-departure-rows-requires
 departure-rows-requires c κs = search needs
 
 departures-of-requires : tie.Need-departures-of-requires
-departures-of-requires c κs = let s = c .before .before .before .before in run-fits (stopRuns (now (s .args .built)) (s .args .n)) (departureRows (now (s .args .built)) (s .args .n)) _ _ (s .args .x) _ (c .before .before .stop-runs .ensures) (c .before .stop-run .ensures .0) (c .departure-rows .ensures) _ (s .pre .1 .1 .0 .run (s .args .x) (s .pre .1 .1 .1)) (rows-size (now (s .args .built)) (s .args .n) (s .pre .1 .0))
+departures-of-requires c κs = let s = c .before .before .before .before in run-fits (stopRuns (now (s .args .built)) (s .args .counts)) (departureRows (now (s .args .built)) (s .args .counts)) _ _ (s .args .x) _ (c .before .before .stop-runs .ensures) (c .before .stop-run .ensures .0) (c .departure-rows .ensures) _ (s .pre .1 .1 .0 .run (s .args .x) (s .pre .1 .1 .1)) (rows-size (now (s .args .built)) (s .args .counts) (s .pre .1 .0))
 
 returns : tie.Need-returns
-returns c = let s = c .before .before .before .before .before in run-names (stopRuns (now (s .args .built)) (s .args .n)) (departureRows (now (s .args .built)) (s .args .n)) _ _ (s .args .x) _ (c .before .before .before .stop-runs .ensures) (c .before .before .stop-run .ensures .0) (c .before .departure-rows .ensures) _ (c .departures-of .ensures)
+returns c = let s = c .before .before .before .before .before in run-names (stopRuns (now (s .args .built)) (s .args .counts)) (departureRows (now (s .args .built)) (s .args .counts)) _ _ (s .args .x) _ (c .before .before .before .stop-runs .ensures) (c .before .before .stop-run .ensures .0) (c .before .departure-rows .ensures) _ (c .departures-of .ensures)
 
 pub departures-at-spec : {M : Type 1} → statement M
 departures-at-spec =

@@ -49,34 +49,78 @@ same-length-4 : tie.Need-same-length-4 Inv-loop μ-loop
 same-length-4 c = let a = c .before .before .before .before .before .before .before .before .before .before .before .before .before .before .before .before in let x = a .args in let G = a .pre .0 in let p = c .before .before .before .before .loop .inv .1 in p .size
 
 returns : tie.Need-returns Inv-loop μ-loop
-returns c = let a = c .before .before .before .before .before .before .before .before .before .before .before .before .before .before .before .before in let x = a .args in let G = a .pre .0 in let p = c .before .before .before .before .loop .inv .1 in ride-end _ p (λ T Q y s v. from-late T Q (x .p .context .flagged) (x .at .«has_freq») (x .p .stamp - 2) (x .p .stamp) (x .at .stop) (x .at .after) (now (x .list)) (length (now (x .list)) / 2) (c .before .before .before .before .loop .i) s (omega (arith, c .before .before .before .loop-test .taken, c .before .before .before .before .loop .inv .0)) (c .before .before .departure-row .result) (c .before .before .departure-row .ensures) (late-seen v (x .at .«has_freq») _ _ (c .before .too-late .result) true (c .before .too-late .ensures T Q (y .nets .agree .timetable) (y .nets .asks)) (c .if1 .taken)))
+returns c =
+    let c₁ = c .before .before .before .before in
+    let a = c₁ .before .before .before .before .before .before .before .before .before .before .before .before in
+    let x = a .args in let G = a .pre .0 in let p = c₁ .loop .inv .1 in ride-end _ p (λ T Q y s v. from-late T Q (x .p .context .flagged) (x .at .«has_freq») (x .p .stamp - 2) (x .p .stamp) (x .at .stop) (x .at .after) (now (x .list)) (length (now (x .list)) / 2) (c₁ .loop .i) s (omega (arith, c .before .before .before .loop-test .taken, c₁ .loop .inv .0)) (c .before .before .departure-row .result) (c .before .before .departure-row .ensures) (late-seen v (x .at .«has_freq») _ _ (c .before .too-late .result) true (c .before .too-late .ensures T Q (y .nets .agree .timetable) (y .nets .asks)) (c .if1 .taken)))
 
 take-departure-requires : tie.Need-take-departure-requires Inv-loop μ-loop
-take-departure-requires c κs = let a = c .before .before .before .before .before .before .before .before .before .before .before .before .before .before .before .before .before .before .before .before in let x = a .args in let G = a .pre .0 in let p = c .before .before .before .before .before .before .before .before .loop .inv .1 in let K = a .pre .1 .0 in let e = K .known (c .before .before .before .before .before .before .before .before .loop .i) (omega (arith, c .before .before .before .before .before .before .before .loop-test .taken, c .before .before .before .before .before .before .before .before .loop .inv .0)) in (going-on G p, (subst (λ (z : DepartureRow). Event (now (x .tables)) (x .p .context .counts .timetable) (z .trip) (z .offset)) (sym (c .before .before .before .before .before .before .departure-row .ensures)) (record { trip = e .trip; offset = e .offset }), a .pre .1 .1))
+take-departure-requires c κs =
+    let c₁ = c .before .before .before .before .before .before in
+    let c₂ = c₁ .before in
+    let c₃ = c₂ .before in
+    let a = c₃ .before .before .before .before .before .before .before .before .before .before .before .before in
+    let x = a .args in let G = a .pre .0 in let p = c₃ .loop .inv .1 in let K = a .pre .1 .0 in let e = K .known (c₃ .loop .i) (omega (arith, c₂ .loop-test .taken, c₃ .loop .inv .0)) in (going-on G p, (subst (λ (z : DepartureRow). Event (now (x .tables)) (x .p .context .counts .timetable) (z .trip) (z .offset)) (sym (c₁ .departure-row .ensures)) (record { trip = e .trip; offset = e .offset }), a .pre .1 .1))
 
 same-length-5 : tie.Need-same-length-5 Inv-loop μ-loop
-same-length-5 c = let a = c .before .before .before .before .before .before .before .before .before .before .before .before .before .before .before .before .before .before .before .before .before .before .before .before .before .before .before .before .before .before in let x = a .args in let G = a .pre .0 in let p = c .before .before .before .before .before .before .before .before .before .before .before .before .before .before .before .before .before .before .loop .inv .1 in let z = c .before .before .before .before .before .before .before .before .before .take-departure .ensures in z .step .kept .size ∙ p .kept .size
+same-length-5 c =
+    let c₁ = c .before .before .before .before .before .before .before .before .before in
+    let c₂ = c₁ .before .before .before .before .before .before .before .before .before in
+    let a = c₂ .before .before .before .before .before .before .before .before .before .before .before .before in
+    let x = a .args in let G = a .pre .0 in let p = c₂ .loop .inv .1 in let z = c₁ .take-departure .ensures in z .step .kept .size ∙ p .kept .size
 
 same-length-6 : tie.Need-same-length-6 Inv-loop μ-loop
-same-length-6 c = let a = c .before .before .before .before .before .before .before .before .before .before .before .before .before .before .before .before .before .before .before .before .before .before .before .before .before .before .before .before .before .before in let x = a .args in let G = a .pre .0 in let p = c .before .before .before .before .before .before .before .before .before .before .before .before .before .before .before .before .before .before .loop .inv .1 in let z = c .before .before .before .before .before .before .before .before .before .take-departure .ensures in z .step .ready .sized .rows ∙ sym (G .ready .sized .rows)
+same-length-6 c =
+    let c₁ = c .before .before .before .before .before .before .before .before .before in
+    let c₂ = c₁ .before .before .before .before .before .before .before .before .before in
+    let a = c₂ .before .before .before .before .before .before .before .before .before .before .before .before in
+    let x = a .args in let G = a .pre .0 in let p = c₂ .loop .inv .1 in let z = c₁ .take-departure .ensures in z .step .ready .sized .rows ∙ sym (G .ready .sized .rows)
 
 same-length-7 : tie.Need-same-length-7 Inv-loop μ-loop
-same-length-7 c = let a = c .before .before .before .before .before .before .before .before .before .before .before .before .before .before .before .before .before .before .before .before .before .before .before .before .before .before .before .before .before .before in let x = a .args in let G = a .pre .0 in let p = c .before .before .before .before .before .before .before .before .before .before .before .before .before .before .before .before .before .before .loop .inv .1 in let z = c .before .before .before .before .before .before .before .before .before .take-departure .ensures in z .step .ready .sized .metres ∙ sym (G .ready .sized .metres)
+same-length-7 c =
+    let c₁ = c .before .before .before .before .before .before .before .before .before in
+    let c₂ = c₁ .before .before .before .before .before .before .before .before .before in
+    let a = c₂ .before .before .before .before .before .before .before .before .before .before .before .before in
+    let x = a .args in let G = a .pre .0 in let p = c₂ .loop .inv .1 in let z = c₁ .take-departure .ensures in z .step .ready .sized .metres ∙ sym (G .ready .sized .metres)
 
 same-length-8 : tie.Need-same-length-8 Inv-loop μ-loop
-same-length-8 c = let a = c .before .before .before .before .before .before .before .before .before .before .before .before .before .before .before .before .before .before .before .before .before .before .before .before .before .before .before .before .before .before in let x = a .args in let G = a .pre .0 in let p = c .before .before .before .before .before .before .before .before .before .before .before .before .before .before .before .before .before .before .loop .inv .1 in let z = c .before .before .before .before .before .before .before .before .before .take-departure .ensures in z .step .size ∙ p .size
+same-length-8 c =
+    let c₁ = c .before .before .before .before .before .before .before .before .before in
+    let c₂ = c₁ .before .before .before .before .before .before .before .before .before in
+    let a = c₂ .before .before .before .before .before .before .before .before .before .before .before .before in
+    let x = a .args in let G = a .pre .0 in let p = c₂ .loop .inv .1 in let z = c₁ .take-departure .ensures in z .step .size ∙ p .size
 
 returns-2 : tie.Need-returns-2 Inv-loop μ-loop
-returns-2 c = let a = c .before .before .before .before .before .before .before .before .before .before .before .before .before .before .before .before .before .before .before .before .before .before .before .before .before .before .before .before .before .before in let x = a .args in let G = a .pre .0 in let p = c .before .before .before .before .before .before .before .before .before .before .before .before .before .before .before .before .before .before .loop .inv .1 in let z = c .before .before .before .before .before .before .before .before .before .take-departure .ensures in ride-over (λ T Q. scanFrom T Q (x .p .context .flagged) (x .at .«has_freq») (x .p .stamp - 2) (x .p .stamp) (x .at .stop) (x .at .after) (now (x .list)) (length (now (x .list)) / 2) (c .before .before .before .before .before .before .before .before .before .before .before .before .before .before .before .before .before .before .loop .i + 1)) p z (λ T Q y. rides-kept (G .laid) (p .kept) y) (λ T Q y s v. from-turn T Q (x .p .context .flagged) (x .at .«has_freq») (x .p .stamp - 2) (x .p .stamp) (x .at .stop) (x .at .after) (now (x .list)) (length (now (x .list)) / 2) (c .before .before .before .before .before .before .before .before .before .before .before .before .before .before .before .before .before .before .loop .i) s (omega (arith, c .before .before .before .before .before .before .before .before .before .before .before .before .before .before .before .before .before .loop-test .taken, c .before .before .before .before .before .before .before .before .before .before .before .before .before .before .before .before .before .before .loop .inv .0)) (c .before .before .before .before .before .before .before .before .before .before .before .before .before .before .before .before .departure-row .result) (c .before .before .before .before .before .before .before .before .before .before .before .before .before .before .before .before .departure-row .ensures) (late-seen v (x .at .«has_freq») _ _ (c .before .before .before .before .before .before .before .before .before .before .before .before .before .before .before .too-late .result) false (c .before .before .before .before .before .before .before .before .before .before .before .before .before .before .before .too-late .ensures T Q (y .nets .agree .timetable) (y .nets .asks)) (c .before .before .before .before .before .before .before .before .before .before .before .before .before .before .if1 .left))) (c .if2 .taken) (λ T Q s. departures-later T Q (x .p .context .flagged) (x .at .«has_freq») (x .p .stamp - 2) (x .p .stamp) (x .at .stop) (x .at .after) _ s .queue)
+returns-2 c =
+    let c₁ = c .before .before .before .before .before .before .before .before .before in
+    let c₂ = c₁ .before .before .before .before .before in
+    let c₃ = c₂ .before in
+    let c₄ = c₃ .before in
+    let c₅ = c₄ .before in
+    let c₆ = c₅ .before in
+    let a = c₆ .before .before .before .before .before .before .before .before .before .before .before .before in
+    let x = a .args in let G = a .pre .0 in let p = c₆ .loop .inv .1 in let z = c₁ .take-departure .ensures in ride-over (λ T Q. scanFrom T Q (x .p .context .flagged) (x .at .«has_freq») (x .p .stamp - 2) (x .p .stamp) (x .at .stop) (x .at .after) (now (x .list)) (length (now (x .list)) / 2) (c₆ .loop .i + 1)) p z (λ T Q y. rides-kept (G .laid) (p .kept) y) (λ T Q y s v. from-turn T Q (x .p .context .flagged) (x .at .«has_freq») (x .p .stamp - 2) (x .p .stamp) (x .at .stop) (x .at .after) (now (x .list)) (length (now (x .list)) / 2) (c₆ .loop .i) s (omega (arith, c₅ .loop-test .taken, c₆ .loop .inv .0)) (c₄ .departure-row .result) (c₄ .departure-row .ensures) (late-seen v (x .at .«has_freq») _ _ (c₃ .too-late .result) false (c₃ .too-late .ensures T Q (y .nets .agree .timetable) (y .nets .asks)) (c₂ .if1 .left))) (c .if2 .taken) (λ T Q s. departures-later T Q (x .p .context .flagged) (x .at .«has_freq») (x .p .stamp - 2) (x .p .stamp) (x .at .stop) (x .at .after) _ s .queue)
 
 add-i : tie.Need-add-i Inv-loop μ-loop
-add-i c = let a = c .before .before .before .before .before .before .before .before .before .before .before .before .before .before .before .before .before .before .before .before .before .before .before .before .before .before .before .before .before .before in let K = a .pre .1 .0 in omega (arith, K .few, c .before .before .before .before .before .before .before .before .before .before .before .before .before .before .before .before .before .loop-test .taken, c .before .before .before .before .before .before .before .before .before .before .before .before .before .before .before .before .before .before .loop .inv .0)
+add-i c =
+    let c₁ = c .before .before .before .before .before .before .before .before .before .before .before .before .before .before .before .before .before in
+    let c₂ = c₁ .before in
+    let a = c₂ .before .before .before .before .before .before .before .before .before .before .before .before in
+    let K = a .pre .1 .0 in omega (arith, K .few, c₁ .loop-test .taken, c₂ .loop .inv .0)
 
 loop-less : tie.Need-loop-less Inv-loop μ-loop
 loop-less c = omega arith
 
 loop-again : tie.Need-loop-again Inv-loop μ-loop
-loop-again c = let a = c .before .before .before .before .before .before .before .before .before .before .before .before .before .before .before .before .before .before .before .before .before .before .before .before .before .before .before .before .before .before in let x = a .args in let G = a .pre .0 in let p = c .before .before .before .before .before .before .before .before .before .before .before .before .before .before .before .before .before .before .loop .inv .1 in let z = c .before .before .before .before .before .before .before .before .before .take-departure .ensures in (c .before .before .before .before .before .before .before .before .before .before .before .before .before .before .before .before .before .before .loop .inv .0, ride-turn _ p z (λ T Q y. rides-kept (G .laid) (p .kept) y) (λ T Q y s v. from-turn T Q (x .p .context .flagged) (x .at .«has_freq») (x .p .stamp - 2) (x .p .stamp) (x .at .stop) (x .at .after) (now (x .list)) (length (now (x .list)) / 2) (c .before .before .before .before .before .before .before .before .before .before .before .before .before .before .before .before .before .before .loop .i) s (omega (arith, c .before .before .before .before .before .before .before .before .before .before .before .before .before .before .before .before .before .loop-test .taken, c .before .before .before .before .before .before .before .before .before .before .before .before .before .before .before .before .before .before .loop .inv .0)) (c .before .before .before .before .before .before .before .before .before .before .before .before .before .before .before .before .departure-row .result) (c .before .before .before .before .before .before .before .before .before .before .before .before .before .before .before .before .departure-row .ensures) (late-seen v (x .at .«has_freq») _ _ (c .before .before .before .before .before .before .before .before .before .before .before .before .before .before .before .too-late .result) false (c .before .before .before .before .before .before .before .before .before .before .before .before .before .before .before .too-late .ensures T Q (y .nets .agree .timetable) (y .nets .asks)) (c .before .before .before .before .before .before .before .before .before .before .before .before .before .before .if1 .left))) (c .if2 .left))
+loop-again c =
+    let c₁ = c .before .before .before .before .before .before .before .before .before in
+    let c₂ = c₁ .before .before .before .before .before in
+    let c₃ = c₂ .before in
+    let c₄ = c₃ .before in
+    let c₅ = c₄ .before in
+    let c₆ = c₅ .before in
+    let a = c₆ .before .before .before .before .before .before .before .before .before .before .before .before in
+    let x = a .args in let G = a .pre .0 in let p = c₆ .loop .inv .1 in let z = c₁ .take-departure .ensures in (c₆ .loop .inv .0, ride-turn _ p z (λ T Q y. rides-kept (G .laid) (p .kept) y) (λ T Q y s v. from-turn T Q (x .p .context .flagged) (x .at .«has_freq») (x .p .stamp - 2) (x .p .stamp) (x .at .stop) (x .at .after) (now (x .list)) (length (now (x .list)) / 2) (c₆ .loop .i) s (omega (arith, c₅ .loop-test .taken, c₆ .loop .inv .0)) (c₄ .departure-row .result) (c₄ .departure-row .ensures) (late-seen v (x .at .«has_freq») _ _ (c₃ .too-late .result) false (c₃ .too-late .ensures T Q (y .nets .agree .timetable) (y .nets .asks)) (c₂ .if1 .left))) (c .if2 .left))
 
 same-length-9 : tie.Need-same-length-9 Inv-loop μ-loop
 same-length-9 c = let a = c .before .before .before .before .before .before .before .before .before .before .before .before .before in let x = a .args in let G = a .pre .0 in let p = c .before .loop .inv .1 in p .kept .size

@@ -21,7 +21,10 @@ loop-holds : tie.Need-loop-holds Inv-loop μ-loop
 loop-holds c = (refl, omega arith, omega arith, refl, refl, trips-start _ _ _ _)
 
 trip-events-requires : tie.Need-trip-events-requires Inv-loop μ-loop
-trip-events-requires c κs = (c .before .before .before .before .before .before .before .before .before .before .pre .0, (c .before .before .before .before .before .before .before .before .before .before .pre .1 .0, (c .before .before .before .before .before .before .before .before .before .before .pre .1 .1 .0, record { trip = omega arith; event = c .before .before .before .loop .inv .1; few = c .before .before .before .loop .inv .2; short = c .before .before .before .before .before .before .before .before .before .before .pre .1 .1 .1 })))
+trip-events-requires c κs =
+    let c₁ = c .before .before .before in
+    let c₂ = c₁ .before .before .before .before .before .before .before in
+    (c₂ .pre .0, (c₂ .pre .1 .0, (c₂ .pre .1 .1 .0, record { trip = omega arith; event = c₁ .loop .inv .1; few = c₁ .loop .inv .2; short = c₂ .pre .1 .1 .1 })))
 
 trip-requires : tie.Need-trip-requires Inv-loop μ-loop
 trip-requires c κs = (search needs, (search needs, (omega arith, omega arith)))
@@ -36,7 +39,11 @@ loop-less : tie.Need-loop-less Inv-loop μ-loop
 loop-less c = omega arith
 
 loop-again : tie.Need-loop-again Inv-loop μ-loop
-loop-again c = (c .before .before .before .before .before .before .before .before .before .loop .inv .0, omega (arith, c .trip .ensures .0, c .before .before .before .before .before .before .before .before .before .before .before .before .before .before .before .before .pre .0 .counts .times, c .before .before .before .before .before .before .before .before .before .before .before .before .before .before .before .before .pre .0 .runs .run (c .before .before .before .before .before .before .before .before .before .loop .ti) (omega arith)), c .before .before .before .before .before .trip-events .ensures .1, omega arith, omega arith, trips-again (c .before .before .before .before .before .before .before .before .before .before .before .before .before .before .before .before .args .time) (c .before .before .before .before .before .before .before .before .before .loop .e) (c .before .before .before .before .before .before .before .before .before .loop .ti) (c .before .before .before .before .before .before .before .before .before .before .before .before .before .before .before .before .args .c .trips) (c .trip .result) (tripKeys (prepared (now (c .before .before .before .before .before .before .before .before .before .before .before .before .before .before .before .before .args .tables)) (c .before .before .before .before .before .before .before .before .before .before .before .before .before .before .before .before .args .c) (now (c .before .before .before .before .before .before .before .before .before .before .before .before .before .before .before .before .args .runs)) (now (c .before .before .before .before .before .before .before .before .before .before .before .before .before .before .before .before .args .work)) (c .before .before .before .before .before .before .before .before .before .before .before .before .before .before .before .before .args .time))) (areaWalk (c .before .before .before .before .before .before .before .before .before .loop .n) (c .before .before .before .before .before .before .before .before .before .loop .area) (c .before .before .before .before .before .before .before .before .before .loop .transfer-runs)) (c .before .before .before .before .before .before .before .before .before .loop .inv .5) (c .before .before .before .before .before .trip-events .ensures .0) (trip-length _ _ _ (c .trip .ensures .0)) (omega arith))
+loop-again c =
+    let c₁ = c .before .before .before .before .before in
+    let c₂ = c₁ .before .before .before .before in
+    let c₃ = c₂ .before .before .before .before .before .before .before in
+    (c₂ .loop .inv .0, omega (arith, c .trip .ensures .0, c₃ .pre .0 .counts .times, c₃ .pre .0 .runs .run (c₂ .loop .ti) (omega arith)), c₁ .trip-events .ensures .1, omega arith, omega arith, trips-again (c₃ .args .time) (c₂ .loop .e) (c₂ .loop .ti) (c₃ .args .c .trips) (c .trip .result) (tripKeys (prepared (now (c₃ .args .tables)) (c₃ .args .c) (now (c₃ .args .runs)) (now (c₃ .args .work)) (c₃ .args .time))) (areaWalk (c₂ .loop .n) (c₂ .loop .area) (c₂ .loop .transfer-runs)) (c₂ .loop .inv .5) (c₁ .trip-events .ensures .0) (trip-length _ _ _ (c .trip .ensures .0)) (omega arith))
 
 same-length : tie.Need-same-length Inv-loop μ-loop
 same-length c = omega arith
@@ -45,7 +52,9 @@ same-length-2 : tie.Need-same-length-2 Inv-loop μ-loop
 same-length-2 c = omega arith
 
 returns : tie.Need-returns Inv-loop μ-loop
-returns c = (trips-left (c .before .before .before .before .before .before .before .before .args .time) (c .before .loop .e) (c .before .loop .ti) (c .before .before .before .before .before .before .before .before .args .c .trips) (tripKeys (prepared (now (c .before .before .before .before .before .before .before .before .args .tables)) (c .before .before .before .before .before .before .before .before .args .c) (now (c .before .before .before .before .before .before .before .before .args .runs)) (now (c .before .before .before .before .before .before .before .before .args .work)) (c .before .before .before .before .before .before .before .before .args .time))) (c .before .loop .inv .5) (omega arith), c .before .loop .inv .2)
+returns c =
+    let c₁ = c .before .before .before .before .before .before .before .before in
+    (trips-left (c₁ .args .time) (c .before .loop .e) (c .before .loop .ti) (c₁ .args .c .trips) (tripKeys (prepared (now (c₁ .args .tables)) (c₁ .args .c) (now (c₁ .args .runs)) (now (c₁ .args .work)) (c₁ .args .time))) (c .before .loop .inv .5) (omega arith), c .before .loop .inv .2)
 
 pub all-events-spec : {M : Type 1} → statement M
 all-events-spec =

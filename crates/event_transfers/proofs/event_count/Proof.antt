@@ -32,10 +32,14 @@ loop-less : tie.Need-loop-less Inv-loop μ-loop
 loop-less c = omega arith
 
 loop-again : tie.Need-loop-again Inv-loop μ-loop
-loop-again c = (omega arith, omega arith, omega (arith, c .before .before .loop .inv .2, c .trip .ensures .0, events-step (timetable (now (c .before .before .before .before .args .tables)) (c .before .before .before .before .args .c)) (c .before .before .loop .i)), omega arith)
+loop-again c =
+    let c₁ = c .before .before .before .before in
+    (omega arith, omega arith, omega (arith, c .before .before .loop .inv .2, c .trip .ensures .0, events-step (timetable (now (c₁ .args .tables)) (c₁ .args .c)) (c .before .before .loop .i)), omega arith)
 
 returns : tie.Need-returns Inv-loop μ-loop
-returns c = (c .before .loop .inv .2 ∙ ap (eventsBefore (timetable (now (c .before .before .before .args .tables)) (c .before .before .before .args .c))) (all-of-them _ _ _ (c .before .loop .inv .0) (c .before .loop .inv .1) (omega arith)), omega (arith, c .before .before .before .pre .0 .trips))
+returns c =
+    let c₁ = c .before .before .before in
+    (c .before .loop .inv .2 ∙ ap (eventsBefore (timetable (now (c₁ .args .tables)) (c₁ .args .c))) (all-of-them _ _ _ (c .before .loop .inv .0) (c .before .loop .inv .1) (omega arith)), omega (arith, c₁ .pre .0 .trips))
 
 pub event-count-spec : {M : Type 1} → statement M
 event-count-spec =

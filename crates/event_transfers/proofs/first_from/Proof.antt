@@ -30,7 +30,9 @@ shared-slice-read-if1 c = omega arith
 
 returns : tie.Need-returns Inv-loop μ-loop
 unfolding hi
-returns c = halved-none _ _ (keys-stay (λ i. hi (getD (now (c .before .before .before .args .part)) i 0)) (c .before .before .before .args .key) _ (c .before .before .before .pre .0 .rising)) (c .before .before .before .pre .1 .1) (lt-leb _ _ (c .if1 .taken))
+returns c =
+    let c₁ = c .before .before .before in
+    halved-none _ _ (keys-stay (λ i. hi (getD (now (c₁ .args .part)) i 0)) (c₁ .args .key) _ (c₁ .pre .0 .rising)) (c₁ .pre .1 .1) (lt-leb _ _ (c .if1 .taken))
 
 loop-holds : tie.Need-loop-holds Inv-loop μ-loop
 loop-holds c = (refl, omega arith, halved-from _ _)
@@ -58,11 +60,15 @@ add-result c = omega arith
 
 returns-2 : tie.Need-returns-2 Inv-loop μ-loop
 unfolding hi
-returns-2 c = last-up _ _ _ _ (keys-stay (λ i. hi (getD (now (c .before .before .before .before .before .before .before .args .part)) i 0)) (c .before .before .before .before .before .before .before .args .key) _ (c .before .before .before .before .before .before .before .pre .0 .rising)) (c .before .before .before .loop .inv .2) (omega arith) (lt-leb _ _ (c .if2 .taken))
+returns-2 c =
+    let c₁ = c .before .before .before .before .before .before .before in
+    last-up _ _ _ _ (keys-stay (λ i. hi (getD (now (c₁ .args .part)) i 0)) (c₁ .args .key) _ (c₁ .pre .0 .rising)) (c .before .before .before .loop .inv .2) (omega arith) (lt-leb _ _ (c .if2 .taken))
 
 returns-3 : tie.Need-returns-3 Inv-loop μ-loop
 unfolding hi
-returns-3 c = last-down _ _ _ _ (keys-stay (λ i. hi (getD (now (c .before .before .before .before .before .before .before .args .part)) i 0)) (c .before .before .before .before .before .before .before .args .key) _ (c .before .before .before .before .before .before .before .pre .0 .rising)) (c .before .before .before .loop .inv .2) (omega arith) (le-leb _ _ (c .if2 .left))
+returns-3 c =
+    let c₁ = c .before .before .before .before .before .before .before in
+    last-down _ _ _ _ (keys-stay (λ i. hi (getD (now (c₁ .args .part)) i 0)) (c₁ .args .key) _ (c₁ .pre .0 .rising)) (c .before .before .before .loop .inv .2) (omega arith) (le-leb _ _ (c .if2 .left))
 
 pub first-from-spec : {M : Type 1} → statement M
 first-from-spec =

@@ -19,7 +19,9 @@ same-length : tie.Need-same-length
 same-length c = search needs
 
 returns-2 : tie.Need-returns-2
-returns-2 c = ap (laid (c .before .before .before .before .before .before .args .n + 1)) (c .before .before .put-row .ensures) ∙ sym (row-more _ _ _ (c .before .before .before .before .if1 .left))
+returns-2 c =
+    let c₁ = c .before .before .before .before .before .before in
+    ap (laid (c₁ .args .n + 1)) (c .before .before .put-row .ensures) ∙ sym (row-more _ _ _ (c .before .before .before .before .if1 .left))
 
 pub lay-row-spec : {M : Type 1} → statement M
 lay-row-spec = tie.close (tie.spec returns put-row-requires add-result same-length returns-2)

@@ -20,7 +20,9 @@ loop-holds : tie.Need-loop-holds Inv-loop μ-loop
 loop-holds c = (refl, most-all-start _ _ refl)
 
 most-trip-requires : tie.Need-most-trip-requires Inv-loop μ-loop
-most-trip-requires c κs = (c .before .before .before .before .before .before .pre .0, (c .before .before .before .before .before .before .pre .1 .0, (c .before .before .before .before .before .before .pre .1 .1 .0, record { below = omega arith; few = c .before .loop .inv .1 .few; short = c .before .before .before .before .before .before .pre .1 .1 .1 })))
+most-trip-requires c κs =
+    let c₁ = c .before .before .before .before .before .before in
+    (c₁ .pre .0, (c₁ .pre .1 .0, (c₁ .pre .1 .1 .0, record { below = omega arith; few = c .before .loop .inv .1 .few; short = c₁ .pre .1 .1 .1 })))
 
 add-ti : tie.Need-add-ti Inv-loop μ-loop
 add-ti c = omega arith
@@ -29,10 +31,14 @@ loop-less : tie.Need-loop-less Inv-loop μ-loop
 loop-less c = omega arith
 
 loop-again : tie.Need-loop-again Inv-loop μ-loop
-loop-again c = (c .before .before .loop .inv .0, most-again (λ k. flatten (tripKeys (prepared (now (c .before .before .before .before .before .before .before .args .tables)) (c .before .before .before .before .before .before .before .args .c) (now (c .before .before .before .before .before .before .before .args .runs)) (now (c .before .before .before .before .before .before .before .args .work)) (c .before .before .before .before .before .before .before .args .time)) k)) 0 _ (c .before .before .loop .ti) (c .before .before .before .before .before .before .before .args .c .trips) (c .before .before .loop .n) (c .most-trip .result) (c .before .before .loop .inv .1) (c .most-trip .ensures) (omega arith))
+loop-again c =
+    let c₁ = c .before .before .before .before .before .before .before in
+    (c .before .before .loop .inv .0, most-again (λ k. flatten (tripKeys (prepared (now (c₁ .args .tables)) (c₁ .args .c) (now (c₁ .args .runs)) (now (c₁ .args .work)) (c₁ .args .time)) k)) 0 _ (c .before .before .loop .ti) (c₁ .args .c .trips) (c .before .before .loop .n) (c .most-trip .result) (c .before .before .loop .inv .1) (c .most-trip .ensures) (omega arith))
 
 returns : tie.Need-returns Inv-loop μ-loop
-returns c = most-left (λ k. flatten (tripKeys (prepared (now (c .before .before .before .before .before .before .args .tables)) (c .before .before .before .before .before .before .args .c) (now (c .before .before .before .before .before .before .args .runs)) (now (c .before .before .before .before .before .before .args .work)) (c .before .before .before .before .before .before .args .time)) k)) 0 _ (c .before .loop .ti) (c .before .before .before .before .before .before .args .c .trips) (c .before .loop .n) (c .before .loop .inv .1) (omega arith)
+returns c =
+    let c₁ = c .before .before .before .before .before .before in
+    most-left (λ k. flatten (tripKeys (prepared (now (c₁ .args .tables)) (c₁ .args .c) (now (c₁ .args .runs)) (now (c₁ .args .work)) (c₁ .args .time)) k)) 0 _ (c .before .loop .ti) (c₁ .args .c .trips) (c .before .loop .n) (c .before .loop .inv .1) (omega arith)
 
 pub most-all-spec : {M : Type 1} → statement M
 most-all-spec =

@@ -28,10 +28,14 @@ loop-holds : tie.Need-loop-holds Inv-loop μ-loop
 loop-holds c = (c .trip2 .ensures .0, c .before .trip .ensures .0, most-start _ _ _ _ (c .trip2 .ensures .0) (c .before .before .before .before .before .before .pre .1 .1 .1 .few))
 
 add-most-alight : tie.Need-add-most-alight Inv-loop μ-loop
-add-most-alight c = omega (arith, event-time (now (c .before .before .before .before .before .before .before .before .args .tables)) (c .before .before .before .before .before .before .before .before .args .c) (c .before .before .before .before .before .before .before .before .args .ti) (c .before .loop .off) (c .before .before .before .trip .result) (c .before .before .before .before .before .before .before .before .pre .0) (c .before .before .before .before .before .before .before .before .pre .1 .1 .1 .below) (omega arith) (c .before .loop .inv .1), c .before .before .before .before .before .before .before .before .pre .0 .counts .times)
+add-most-alight c =
+    let c₁ = c .before .before .before .before .before .before .before .before in
+    omega (arith, event-time (now (c₁ .args .tables)) (c₁ .args .c) (c₁ .args .ti) (c .before .loop .off) (c .before .before .before .trip .result) (c₁ .pre .0) (c₁ .pre .1 .1 .1 .below) (omega arith) (c .before .loop .inv .1), c₁ .pre .0 .counts .times)
 
 most-alight-requires : tie.Need-most-alight-requires Inv-loop μ-loop
-most-alight-requires c κs = (c .before .before .before .before .before .before .before .before .pre .0, (c .before .before .before .before .before .before .before .before .pre .1 .0, (c .before .before .before .before .before .before .before .before .pre .1 .1 .0, record { below = event-time (now (c .before .before .before .before .before .before .before .before .args .tables)) (c .before .before .before .before .before .before .before .before .args .c) (c .before .before .before .before .before .before .before .before .args .ti) (c .before .loop .off) (c .before .before .before .trip .result) (c .before .before .before .before .before .before .before .before .pre .0) (c .before .before .before .before .before .before .before .before .pre .1 .1 .1 .below) (omega arith) (c .before .loop .inv .1); few = c .before .loop .inv .2 .few; short = c .before .before .before .before .before .before .before .before .pre .1 .1 .1 .short })))
+most-alight-requires c κs =
+    let c₁ = c .before .before .before .before .before .before .before .before in
+    (c₁ .pre .0, (c₁ .pre .1 .0, (c₁ .pre .1 .1 .0, record { below = event-time (now (c₁ .args .tables)) (c₁ .args .c) (c₁ .args .ti) (c .before .loop .off) (c .before .before .before .trip .result) (c₁ .pre .0) (c₁ .pre .1 .1 .1 .below) (omega arith) (c .before .loop .inv .1); few = c .before .loop .inv .2 .few; short = c₁ .pre .1 .1 .1 .short })))
 
 add-off : tie.Need-add-off Inv-loop μ-loop
 add-off c = omega arith
@@ -40,10 +44,14 @@ loop-less : tie.Need-loop-less Inv-loop μ-loop
 loop-less c = omega arith
 
 loop-again : tie.Need-loop-again Inv-loop μ-loop
-loop-again c = (c .before .before .loop .inv .0, c .before .before .loop .inv .1, most-again (eventKeys (prepared (now (c .before .before .before .before .before .before .before .before .before .args .tables)) (c .before .before .before .before .before .before .before .before .before .args .c) (now (c .before .before .before .before .before .before .before .before .before .args .runs)) (now (c .before .before .before .before .before .before .before .before .before .args .work)) (c .before .before .before .before .before .before .before .before .before .args .time)) (c .before .before .before .before .before .before .before .before .before .args .ti)) (c .before .before .before .before .before .before .before .before .before .args .n) _ (c .before .before .loop .off) (c .before .before .before .trip2 .result) (c .before .before .loop .m) (c .most-alight .result) (c .before .before .loop .inv .2) (most-event (prepared (now (c .before .before .before .before .before .before .before .before .before .args .tables)) (c .before .before .before .before .before .before .before .before .before .args .c) (now (c .before .before .before .before .before .before .before .before .before .args .runs)) (now (c .before .before .before .before .before .before .before .before .before .args .work)) (c .before .before .before .before .before .before .before .before .before .args .time)) (c .before .before .before .before .before .before .before .before .before .args .ti) (c .before .before .loop .off) (c .before .before .before .before .trip .result) (c .before .before .loop .m) (c .most-alight .result) (c .before .before .loop .inv .1) (c .most-alight .ensures (c .before .before .before .before .before .before .before .before .before .args .ti))) (omega arith))
+loop-again c =
+    let c₁ = c .before .before .before .before .before .before .before .before .before in
+    (c .before .before .loop .inv .0, c .before .before .loop .inv .1, most-again (eventKeys (prepared (now (c₁ .args .tables)) (c₁ .args .c) (now (c₁ .args .runs)) (now (c₁ .args .work)) (c₁ .args .time)) (c₁ .args .ti)) (c₁ .args .n) _ (c .before .before .loop .off) (c .before .before .before .trip2 .result) (c .before .before .loop .m) (c .most-alight .result) (c .before .before .loop .inv .2) (most-event (prepared (now (c₁ .args .tables)) (c₁ .args .c) (now (c₁ .args .runs)) (now (c₁ .args .work)) (c₁ .args .time)) (c₁ .args .ti) (c .before .before .loop .off) (c .before .before .before .before .trip .result) (c .before .before .loop .m) (c .most-alight .result) (c .before .before .loop .inv .1) (c .most-alight .ensures (c₁ .args .ti))) (omega arith))
 
 returns : tie.Need-returns Inv-loop μ-loop
-returns c = most-left (eventKeys (prepared (now (c .before .before .before .before .before .before .before .before .args .tables)) (c .before .before .before .before .before .before .before .before .args .c) (now (c .before .before .before .before .before .before .before .before .args .runs)) (now (c .before .before .before .before .before .before .before .before .args .work)) (c .before .before .before .before .before .before .before .before .args .time)) (c .before .before .before .before .before .before .before .before .args .ti)) (c .before .before .before .before .before .before .before .before .args .n) _ (c .before .loop .off) (c .before .before .trip2 .result) (c .before .loop .m) (c .before .loop .inv .2) (omega arith)
+returns c =
+    let c₁ = c .before .before .before .before .before .before .before .before in
+    most-left (eventKeys (prepared (now (c₁ .args .tables)) (c₁ .args .c) (now (c₁ .args .runs)) (now (c₁ .args .work)) (c₁ .args .time)) (c₁ .args .ti)) (c₁ .args .n) _ (c .before .loop .off) (c .before .before .trip2 .result) (c .before .loop .m) (c .before .loop .inv .2) (omega arith)
 
 pub most-trip-spec : {M : Type 1} → statement M
 most-trip-spec =

@@ -31,7 +31,9 @@ add-result c = omega (arith, at-most-once (c .before .before .before .args .size
 
 returns : tie.Need-returns
 unfolding hi
-returns c = halved-either _ _ _ _ (keys-stay (λ i. hi (getD (now (c .before .before .before .args .part)) i 0)) (c .before .before .before .args .key) _ (c .before .before .before .pre .0 .rising)) (c .before .before .before .pre .1 .1 .0) (c .before .before .before .pre .1 .1 .1) (ltb (hi (getD (now (c .before .before .before .args .part)) (c .before .before .before .args .lo + c .before .before .before .args .size / 2) 0)) (c .before .before .before .args .key)) (leb-not (hi (getD (now (c .before .before .before .args .part)) (c .before .before .before .args .lo + c .before .before .before .args .size / 2) 0)) (c .before .before .before .args .key)) _ (ap (λ (d : ℕ). c .before .before .before .args .lo + c .before .before .before .args .size / 2 * d) (c .below .ensures .0))
+returns c =
+    let c₁ = c .before .before .before in
+    halved-either _ _ _ _ (keys-stay (λ i. hi (getD (now (c₁ .args .part)) i 0)) (c₁ .args .key) _ (c₁ .pre .0 .rising)) (c₁ .pre .1 .1 .0) (c₁ .pre .1 .1 .1) (ltb (hi (getD (now (c₁ .args .part)) (c₁ .args .lo + c₁ .args .size / 2) 0)) (c₁ .args .key)) (leb-not (hi (getD (now (c₁ .args .part)) (c₁ .args .lo + c₁ .args .size / 2) 0)) (c₁ .args .key)) _ (ap (λ (d : ℕ). c₁ .args .lo + c₁ .args .size / 2 * d) (c .below .ensures .0))
 
 pub narrowed-spec : {M : Type 1} → statement M
 narrowed-spec =

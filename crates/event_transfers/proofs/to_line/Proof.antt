@@ -22,7 +22,9 @@ first-from-requires c κs = (search needs, (omega (arith, c .shared-slice-known2
 
 returns : tie.Need-returns
 unfolding lineX
-returns c = line-none (c .before .before .before .before .before .args .time) (c .before .before .before .before .before .args .ti) (c .before .before .before .before .before .args .w) (now (c .before .before .before .before .before .args .group)) _ (c .before .first-from .result) _ refl (c .before .before .before .before .before .pre .0) (c .before .first-from .ensures) (c .if1 .taken)
+returns c =
+    let c₁ = c .before .before .before .before .before in
+    line-none (c₁ .args .time) (c₁ .args .ti) (c₁ .args .w) (now (c₁ .args .group)) _ (c .before .first-from .result) _ refl (c₁ .pre .0) (c .before .first-from .ensures) (c .if1 .taken)
 
 mul-x : tie.Need-mul-x
 mul-x c = search needs
@@ -32,7 +34,10 @@ shared-slice-read-x c = search needs
 
 returns-2 : tie.Need-returns-2
 unfolding lineX unTrip
-returns-2 c = line-same (c .before .before .before .before .before .before .before .args .time) (c .before .before .before .before .before .before .before .args .ti) (c .before .before .before .before .before .before .before .args .w) (now (c .before .before .before .before .before .before .before .args .group)) _ (c .before .before .before .first-from .result) _ refl (c .before .before .before .before .before .before .before .pre .0) (c .before .before .before .first-from .ensures) (c .before .before .if1 .left) (c .if2 .taken)
+returns-2 c =
+    let c₁ = c .before .before .before in
+    let c₂ = c₁ .before .before .before .before in
+    line-same (c₂ .args .time) (c₂ .args .ti) (c₂ .args .w) (now (c₂ .args .group)) _ (c₁ .first-from .result) _ refl (c₂ .pre .0) (c₁ .first-from .ensures) (c .before .before .if1 .left) (c .if2 .taken)
 
 lay-row-requires : tie.Need-lay-row-requires
 lay-row-requires c κs = search needs
@@ -42,7 +47,11 @@ same-length c = search needs
 
 returns-3 : tie.Need-returns-3
 unfolding lineX unTrip
-returns-3 c = c .before .before .lay-row .ensures ∙ line-row (c .before .before .before .before .before .before .before .before .before .before .before .args .time) (c .before .before .before .before .before .before .before .before .before .before .before .args .ti) (c .before .before .before .before .before .before .before .before .before .before .before .args .w) (now (c .before .before .before .before .before .before .before .before .before .before .before .args .group)) _ (c .before .before .before .before .before .before .before .first-from .result) _ refl (c .before .before .before .before .before .before .before .before .before .before .before .pre .0) (c .before .before .before .before .before .before .before .first-from .ensures) (c .before .before .before .before .before .before .if1 .left) (c .before .before .before .before .if2 .left)
+returns-3 c =
+    let c₁ = c .before .before .before .before .before .before in
+    let c₂ = c₁ .before in
+    let c₃ = c₂ .before .before .before .before in
+    c .before .before .lay-row .ensures ∙ line-row (c₃ .args .time) (c₃ .args .ti) (c₃ .args .w) (now (c₃ .args .group)) _ (c₂ .first-from .result) _ refl (c₃ .pre .0) (c₂ .first-from .ensures) (c₁ .if1 .left) (c .before .before .before .before .if2 .left)
 
 pub to-line-spec : {M : Type 1} → statement M
 to-line-spec =

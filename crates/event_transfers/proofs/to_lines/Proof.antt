@@ -22,7 +22,9 @@ line-end-requires : tie.Need-line-end-requires Inv-loop μ-loop
 line-end-requires c κs = (search needs, (search needs, omega arith))
 
 add-q : tie.Need-add-q Inv-loop μ-loop
-add-q c = omega (arith, line-inside (now (c .before .before .before .before .before .before .args .run)) (c .before .before .loop .k) (c .line-end .result) (c .before .before .before .before .before .before .pre .0) (c .line-end .ensures) (omega arith))
+add-q c =
+    let c₁ = c .before .before .before .before .before .before in
+    omega (arith, line-inside (now (c₁ .args .run)) (c .before .before .loop .k) (c .line-end .result) (c₁ .pre .0) (c .line-end .ensures) (omega arith))
 
 mul-to-line : tie.Need-mul-to-line Inv-loop μ-loop
 mul-to-line c = omega arith
@@ -34,22 +36,36 @@ part-to-line-start : tie.Need-part-to-line-start Inv-loop μ-loop
 part-to-line-start c = search needs
 
 part-to-line-end : tie.Need-part-to-line-end Inv-loop μ-loop
-part-to-line-end c = omega (arith, line-inside (now (c .before .before .before .before .before .before .args .run)) (c .before .before .loop .k) (c .line-end .result) (c .before .before .before .before .before .before .pre .0) (c .line-end .ensures) (omega arith))
+part-to-line-end c =
+    let c₁ = c .before .before .before .before .before .before in
+    omega (arith, line-inside (now (c₁ .args .run)) (c .before .before .loop .k) (c .line-end .result) (c₁ .pre .0) (c .line-end .ensures) (omega arith))
 
 to-line-requires : tie.Need-to-line-requires Inv-loop μ-loop
-to-line-requires c κs = (line-group (now (c .before .before .before .before .before .before .before .before .args .run)) (c .before .before .before .before .loop .k) (c .before .before .line-end .result) (c .before .before .before .before .before .before .before .before .pre .0) (c .before .before .line-end .ensures), c .before .before .before .before .before .before .before .before .pre .1 .1)
+to-line-requires c κs =
+    let c₁ = c .before .before .before .before .before .before .before .before in
+    (line-group (now (c₁ .args .run)) (c .before .before .before .before .loop .k) (c .before .before .line-end .result) (c₁ .pre .0) (c .before .before .line-end .ensures), c₁ .pre .1 .1)
 
 loop-less : tie.Need-loop-less Inv-loop μ-loop
-loop-less c = omega (arith, c .before .before .before .before .before .line-end .ensures .some, line-inside (now (c .before .before .before .before .before .before .before .before .before .before .before .args .run)) (c .before .before .before .before .before .before .before .loop .k) (c .before .before .before .before .before .line-end .result) (c .before .before .before .before .before .before .before .before .before .before .before .pre .0) (c .before .before .before .before .before .line-end .ensures) (omega arith))
+loop-less c =
+    let c₁ = c .before .before .before .before .before in
+    let c₂ = c₁ .before .before in
+    let c₃ = c₂ .before .before .before .before in
+    omega (arith, c₁ .line-end .ensures .some, line-inside (now (c₃ .args .run)) (c₂ .loop .k) (c₁ .line-end .result) (c₃ .pre .0) (c₁ .line-end .ensures) (omega arith))
 
 loop-again : tie.Need-loop-again Inv-loop μ-loop
-loop-again c = (line-inside (now (c .before .before .before .before .before .before .before .before .before .before .before .args .run)) (c .before .before .before .before .before .before .before .loop .k) (c .before .before .before .before .before .line-end .result) (c .before .before .before .before .before .before .before .before .before .before .before .pre .0) (c .before .before .before .before .before .line-end .ensures) (omega arith), omega arith, lines-again (now (c .before .before .before .before .before .before .before .before .before .before .before .args .run)) (c .before .before .before .before .before .before .before .loop .k) (c .before .before .before .before .before .line-end .result) (c .before .before .before .before .before .before .before .before .before .before .before .pre .0) (c .before .before .before .before .before .line-end .ensures) _ _ _ (laid (c .before .before .before .before .before .before .before .loop .m) (c .before .before .before .before .before .before .before .loop .area)) (c .before .before .before .before .before .before .before .loop .inv .2) (c .before .before .to-line .ensures))
+loop-again c =
+    let c₁ = c .before .before .before .before .before in
+    let c₂ = c₁ .before .before in
+    let c₃ = c₂ .before .before .before .before in
+    (line-inside (now (c₃ .args .run)) (c₂ .loop .k) (c₁ .line-end .result) (c₃ .pre .0) (c₁ .line-end .ensures) (omega arith), omega arith, lines-again (now (c₃ .args .run)) (c₂ .loop .k) (c₁ .line-end .result) (c₃ .pre .0) (c₁ .line-end .ensures) _ _ _ (laid (c₂ .loop .m) (c₂ .loop .area)) (c₂ .loop .inv .2) (c .before .before .to-line .ensures))
 
 same-length : tie.Need-same-length Inv-loop μ-loop
 same-length c = omega arith
 
 returns : tie.Need-returns Inv-loop μ-loop
-returns c = lines-left (c .before .before .before .before .before .args .time) (c .before .before .before .before .before .args .ti) (c .before .before .before .before .before .args .w) (c .before .loop .k) (now (c .before .before .before .before .before .args .run)) (c .before .loop .inv .2) (omega arith)
+returns c =
+    let c₁ = c .before .before .before .before .before in
+    lines-left (c₁ .args .time) (c₁ .args .ti) (c₁ .args .w) (c .before .loop .k) (now (c₁ .args .run)) (c .before .loop .inv .2) (omega arith)
 
 pub to-lines-spec : {M : Type 1} → statement M
 to-lines-spec =

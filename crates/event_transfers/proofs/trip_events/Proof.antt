@@ -24,10 +24,15 @@ loop-holds : tie.Need-loop-holds Inv-loop μ-loop
 loop-holds c = (c .trip .ensures .0, omega arith, c .before .before .before .before .before .before .before .pre .1 .1 .1 .few, refl, refl, events-start _ _ _ _ _ _ (c .trip .ensures .0))
 
 add-event : tie.Need-add-event Inv-loop μ-loop
-add-event c = omega (arith, c .before .before .before .before .before .before .before .before .before .before .before .pre .1 .1 .1 .event, c .before .before .before .before .before .before .before .before .before .before .before .pre .1 .1 .1 .trip, c .before .before .before .before .before .before .before .before .before .before .before .pre .0 .counts .trips, c .before .before .before .before .trip .ensures .1)
+add-event c =
+    let c₁ = c .before .before .before .before .before .before .before .before .before .before .before in
+    omega (arith, c₁ .pre .1 .1 .1 .event, c₁ .pre .1 .1 .1 .trip, c₁ .pre .0 .counts .trips, c .before .before .before .before .trip .ensures .1)
 
 event-requires : tie.Need-event-requires Inv-loop μ-loop
-event-requires c κs = (c .before .before .before .before .before .before .before .before .before .before .before .pre .0, (c .before .before .before .before .before .before .before .before .before .before .before .pre .1 .0, (c .before .before .before .before .before .before .before .before .before .before .before .pre .1 .1 .0, event-at _ _ _ _ _ _ _ _ _ (c .before .before .before .before .before .before .before .before .before .before .before .pre .0) (c .before .before .before .before .before .before .before .before .before .before .before .pre .1 .1 .1) (c .before .before .before .loop .inv .0) (omega arith) (c .before .before .before .loop .inv .2))))
+event-requires c κs =
+    let c₁ = c .before .before .before in
+    let c₂ = c₁ .before .before .before .before .before .before .before .before in
+    (c₂ .pre .0, (c₂ .pre .1 .0, (c₂ .pre .1 .1 .0, event-at _ _ _ _ _ _ _ _ _ (c₂ .pre .0) (c₂ .pre .1 .1 .1) (c₁ .loop .inv .0) (omega arith) (c₁ .loop .inv .2))))
 
 add-off : tie.Need-add-off Inv-loop μ-loop
 add-off c = omega arith
@@ -36,7 +41,12 @@ loop-less : tie.Need-loop-less Inv-loop μ-loop
 loop-less c = omega arith
 
 loop-again : tie.Need-loop-again Inv-loop μ-loop
-loop-again c = (c .before .before .before .before .before .before .before .before .loop .inv .0, omega arith, c .before .before .before .before .event .ensures .1, omega arith, omega arith, events-again (c .before .before .before .before .before .before .before .before .before .before .before .before .before .before .before .before .args .time) (c .before .before .before .before .before .before .before .before .before .before .before .before .before .before .before .before .args .e) (c .before .before .before .before .before .before .before .before .loop .off) (c .before .before .before .before .before .before .before .before .before .trip .result) (eventKeys (prepared (now (c .before .before .before .before .before .before .before .before .before .before .before .before .before .before .before .before .args .tables)) (c .before .before .before .before .before .before .before .before .before .before .before .before .before .before .before .before .args .c) (now (c .before .before .before .before .before .before .before .before .before .before .before .before .before .before .before .before .args .runs)) (now (c .before .before .before .before .before .before .before .before .before .before .before .before .before .before .before .before .args .work)) (c .before .before .before .before .before .before .before .before .before .before .before .before .before .before .before .before .args .time)) (c .before .before .before .before .before .before .before .before .before .before .before .before .before .before .before .before .args .ti)) (areaWalk (c .before .before .before .before .before .before .before .before .loop .m) (c .before .before .before .before .before .before .before .before .loop .area) (c .before .before .before .before .before .before .before .before .loop .transfer-runs)) (c .before .before .before .before .before .before .before .before .loop .inv .5) (c .before .before .before .before .event .ensures .0) (omega arith))
+loop-again c =
+    let c₁ = c .before .before .before .before in
+    let c₂ = c₁ .before .before .before .before in
+    let c₃ = c₂ .before in
+    let c₄ = c₃ .before .before .before .before .before .before .before in
+    (c₂ .loop .inv .0, omega arith, c₁ .event .ensures .1, omega arith, omega arith, events-again (c₄ .args .time) (c₄ .args .e) (c₂ .loop .off) (c₃ .trip .result) (eventKeys (prepared (now (c₄ .args .tables)) (c₄ .args .c) (now (c₄ .args .runs)) (now (c₄ .args .work)) (c₄ .args .time)) (c₄ .args .ti)) (areaWalk (c₂ .loop .m) (c₂ .loop .area) (c₂ .loop .transfer-runs)) (c₂ .loop .inv .5) (c₁ .event .ensures .0) (omega arith))
 
 same-length : tie.Need-same-length Inv-loop μ-loop
 same-length c = omega arith
@@ -45,7 +55,9 @@ same-length-2 : tie.Need-same-length-2 Inv-loop μ-loop
 same-length-2 c = omega arith
 
 returns : tie.Need-returns Inv-loop μ-loop
-returns c = (events-left (c .before .before .before .before .before .before .before .before .before .args .time) (c .before .before .before .before .before .before .before .before .before .args .e) (c .before .loop .off) (c .before .before .trip .result) (eventKeys (prepared (now (c .before .before .before .before .before .before .before .before .before .args .tables)) (c .before .before .before .before .before .before .before .before .before .args .c) (now (c .before .before .before .before .before .before .before .before .before .args .runs)) (now (c .before .before .before .before .before .before .before .before .before .args .work)) (c .before .before .before .before .before .before .before .before .before .args .time)) (c .before .before .before .before .before .before .before .before .before .args .ti)) (c .before .loop .inv .5) (omega arith), c .before .loop .inv .2)
+returns c =
+    let c₁ = c .before .before .before .before .before .before .before .before .before in
+    (events-left (c₁ .args .time) (c₁ .args .e) (c .before .loop .off) (c .before .before .trip .result) (eventKeys (prepared (now (c₁ .args .tables)) (c₁ .args .c) (now (c₁ .args .runs)) (now (c₁ .args .work)) (c₁ .args .time)) (c₁ .args .ti)) (c .before .loop .inv .5) (omega arith), c .before .loop .inv .2)
 
 pub trip-events-spec : {M : Type 1} → statement M
 trip-events-spec =

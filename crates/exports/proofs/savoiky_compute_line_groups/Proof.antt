@@ -32,7 +32,11 @@ same-length-5 : tie.Need-same-length-5
 same-length-5 c = search needs
 
 returns : tie.Need-returns
-returns c = shows _ _ _ _ (c .lines-answer .ensures) (c .before .before .before .before .before .before .before .before .before .before .before .compute-line-groups .ensures .0 ∙ ap (λ (k : Counts). linesOutcome (now (c .before .before .before .before .before .before .before .before .before .before .before .before .before .before .before .before .before .before .before .before .before .before .before .before .args .tables)) k (lineAreas (now (c .before .before .before .before .before .before .before .before .before .before .before .before .before .before .before .before .before .before .before .before .before .before .before .before .args .lines)) (now (c .before .before .before .before .before .before .before .before .before .before .before .before .before .before .before .before .before .before .before .before .before .before .before .before .args .runs)) (now (c .before .before .before .before .before .before .before .before .before .before .before .before .before .before .before .before .before .before .before .before .before .before .before .before .args .entries)) (now (c .before .before .before .before .before .before .before .before .before .before .before .before .before .before .before .before .before .before .before .before .before .before .before .before .args .work)) (now (c .before .before .before .before .before .before .before .before .before .before .before .before .before .before .before .before .before .before .before .before .before .before .before .before .args .other)))) (c .before .before .before .before .before .before .before .before .before .before .before .before .before .before .before .before .before .counts .ensures))
+returns c =
+    let c₁ = c .before .before .before .before .before .before .before .before .before .before .before in
+    let c₂ = c₁ .before .before .before .before .before .before in
+    let c₃ = c₂ .before .before .before .before .before .before .before in
+    shows _ _ _ _ (c .lines-answer .ensures) (c₁ .compute-line-groups .ensures .0 ∙ ap (λ (k : Counts). linesOutcome (now (c₃ .args .tables)) k (lineAreas (now (c₃ .args .lines)) (now (c₃ .args .runs)) (now (c₃ .args .entries)) (now (c₃ .args .work)) (now (c₃ .args .other)))) (c₂ .counts .ensures))
 
 pub savoiky-compute-line-groups-spec : {M : Type 1} → statement M
 savoiky-compute-line-groups-spec =

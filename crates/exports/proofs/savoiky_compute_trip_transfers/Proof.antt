@@ -23,7 +23,10 @@ same-length-2 : tie.Need-same-length-2
 same-length-2 c = search needs
 
 returns : tie.Need-returns
-returns c = shows-transfers _ _ _ _ (c .transfers-answer .ensures) (c .before .before .before .before .before .compute-trip-transfers .ensures ∙ ap (λ (k : Counts). transfersOutcome (transferLent (now (c .before .before .before .before .before .before .before .before .before .before .before .before .before .before .before .args .tables)) k (c .before .before .before .before .before .before .before .before .before .before .before .before .before .before .before .args .line-count) (now (c .before .before .before .before .before .before .before .before .before .before .before .before .before .before .before .args .lines)) (c .before .before .before .before .before .before .before .before .before .before .before .before .before .before .before .args .departures) (now (c .before .before .before .before .before .before .before .before .before .before .before .before .before .before .before .args .runs)) (now (c .before .before .before .before .before .before .before .before .before .before .before .before .before .before .before .args .rows)) 120) (transferAreas (now (c .before .before .before .before .before .before .before .before .before .before .before .before .before .before .before .args .area)) (now (c .before .before .before .before .before .before .before .before .before .before .before .before .before .before .before .args .transfer-runs)))) (c .before .before .before .before .before .before .before .before .counts .ensures))
+returns c =
+    let c₁ = c .before .before .before .before .before .before .before .before in
+    let c₂ = c₁ .before .before .before .before .before .before .before in
+    shows-transfers _ _ _ _ (c .transfers-answer .ensures) (c .before .before .before .before .before .compute-trip-transfers .ensures ∙ ap (λ (k : Counts). transfersOutcome (transferLent (now (c₂ .args .tables)) k (c₂ .args .line-count) (now (c₂ .args .lines)) (c₂ .args .departures) (now (c₂ .args .runs)) (now (c₂ .args .rows)) 120) (transferAreas (now (c₂ .args .area)) (now (c₂ .args .transfer-runs)))) (c₁ .counts .ensures))
 
 pub savoiky-compute-trip-transfers-spec : {M : Type 1} → statement M
 savoiky-compute-trip-transfers-spec =

@@ -25,7 +25,11 @@ same-length-4 : tie.Need-same-length-4
 same-length-4 c = search needs
 
 returns : tie.Need-returns
-returns c = let a = c .before .before .before .before .before .before .before .before .before .before .before .before .before .before .before .before .before .before .before .before .args in c .before .before .before .before .before .before .before .before .sort-stop-departures .ensures ∙ ap (λ (k : Counts). sortOutcome (now (a .tables)) k (a .departures) (now (a .runs)) (sortAreas (now (a .rows)) (now (a .marks)) (now (a .work)) (now (a .other)))) (c .before .before .before .before .before .before .before .before .before .before .before .before .before .counts .ensures)
+returns c =
+    let c₁ = c .before .before .before .before .before .before .before .before in
+    let c₂ = c₁ .before .before .before .before .before in
+    let c₃ = c₂ .before .before .before .before .before .before .before in
+    let a = c₃ .args in c₁ .sort-stop-departures .ensures ∙ ap (λ (k : Counts). sortOutcome (now (a .tables)) k (a .departures) (now (a .runs)) (sortAreas (now (a .rows)) (now (a .marks)) (now (a .work)) (now (a .other)))) (c₂ .counts .ensures)
 
 pub savoiky-sort-stop-departures-spec : {M : Type 1} → statement M
 savoiky-sort-stop-departures-spec =

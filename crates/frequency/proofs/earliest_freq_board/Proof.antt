@@ -39,7 +39,10 @@ loop-less : tie.Need-loop-less Inv-loop μ-loop
 loop-less c = omega arith
 
 loop-again : tie.Need-loop-again Inv-loop μ-loop
-loop-again c = (omega arith, ⊎-elim (λ w. again-new _ _ _ _ _ (c .before .before .before .before .before .before .pre) _ (omega arith) _ _ _ (c .before .before .before .before .loop .inv .1 .1) _ (c .before .before .run-at .ensures) _ (c .before .before .before .before .loop .inv .1 .0) _ _ _ (w .1) (w .2) (w .3) (w .0 .taken)) (λ w. again-old _ _ _ _ _ (c .before .before .before .before .before .before .pre) _ (omega arith) _ _ _ (c .before .before .before .before .loop .inv .1 .1) _ (c .before .before .run-at .ensures) _ (c .before .before .before .before .loop .inv .1 .0) _ _ _ (w .1) (w .2) (w .3) (w .0 .left)) (c .if1 .came))
+loop-again c =
+    let c₁ = c .before .before .before .before in
+    let c₂ = c₁ .before .before in
+    (omega arith, ⊎-elim (λ w. again-new _ _ _ _ _ (c₂ .pre) _ (omega arith) _ _ _ (c₁ .loop .inv .1 .1) _ (c .before .before .run-at .ensures) _ (c₁ .loop .inv .1 .0) _ _ _ (w .1) (w .2) (w .3) (w .0 .taken)) (λ w. again-old _ _ _ _ _ (c₂ .pre) _ (omega arith) _ _ _ (c₁ .loop .inv .1 .1) _ (c .before .before .run-at .ensures) _ (c₁ .loop .inv .1 .0) _ _ _ (w .1) (w .2) (w .3) (w .0 .left)) (c .if1 .came))
 
 board-at-requires : tie.Need-board-at-requires Inv-loop μ-loop
 board-at-requires c κs = (c .before .loop .inv .1 .1, (c .before .before .before .pre .template, c .before .before .before .pre .departs))

@@ -53,19 +53,27 @@ div-number : tie.Need-div-number
 div-number c = search needs
 
 mul-t : tie.Need-mul-t
-mul-t c = omega (arith, covers-div (c .before .before .before .before .args .after + c .before .before .before .before .args .base - (c .before .before .before .before .args .start + c .before .before .before .before .args .dep)) (c .before .before .before .before .args .headway) (omega arith) .least)
+mul-t c =
+    let c₁ = c .before .before .before .before in
+    omega (arith, covers-div (c₁ .args .after + c₁ .args .base - (c₁ .args .start + c₁ .args .dep)) (c₁ .args .headway) (omega arith) .least)
 
 add-t : tie.Need-add-t
-add-t c = omega (arith, covers-div (c .before .before .before .before .args .after + c .before .before .before .before .args .base - (c .before .before .before .before .args .start + c .before .before .before .before .args .dep)) (c .before .before .before .before .args .headway) (omega arith) .least)
+add-t c =
+    let c₁ = c .before .before .before .before in
+    omega (arith, covers-div (c₁ .args .after + c₁ .args .base - (c₁ .args .start + c₁ .args .dep)) (c₁ .args .headway) (omega arith) .least)
 
 returns-5 : tie.Need-returns-5
-returns-5 c = found-run _ _ _ _ _ refl (run-later _ _ _ _ _ (omega arith) (covers-div (c .before .before .before .before .before .args .after + c .before .before .before .before .before .args .base - (c .before .before .before .before .before .args .start + c .before .before .before .before .before .args .dep)) (c .before .before .before .before .before .args .headway) (omega arith)) (omega arith) (omega arith))
+returns-5 c =
+    let c₁ = c .before .before .before .before .before in
+    found-run _ _ _ _ _ refl (run-later _ _ _ _ _ (omega arith) (covers-div (c₁ .args .after + c₁ .args .base - (c₁ .args .start + c₁ .args .dep)) (c₁ .args .headway) (omega arith)) (omega arith) (omega arith))
 
 no-run-requires-4 : tie.Need-no-run-requires-4
 no-run-requires-4 c κs = search needs
 
 returns-6 : tie.Need-returns-6
-returns-6 c = found-none _ _ _ _ (c .no-run4 .ensures) (run-past _ _ _ _ _ (omega arith) (covers-div (c .before .before .before .before .before .before .args .after + c .before .before .before .before .before .before .args .base - (c .before .before .before .before .before .before .args .start + c .before .before .before .before .before .before .args .dep)) (c .before .before .before .before .before .before .args .headway) (omega arith)) (omega arith) (omega arith))
+returns-6 c =
+    let c₁ = c .before .before .before .before .before .before in
+    found-none _ _ _ _ (c .no-run4 .ensures) (run-past _ _ _ _ _ (omega arith) (covers-div (c₁ .args .after + c₁ .args .base - (c₁ .args .start + c₁ .args .dep)) (c₁ .args .headway) (omega arith)) (omega arith) (omega arith))
 
 pub first-run-spec : {M : Type 1} → statement M
 first-run-spec =

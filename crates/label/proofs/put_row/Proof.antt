@@ -81,11 +81,11 @@ mul-labels-8 c = search needs
 slice-write-labels-8 : tie.Need-slice-write-labels-8
 slice-write-labels-8 c = simp length-set (omega arith)
 
-mul-distances : tie.Need-mul-distances
-mul-distances c = search needs
+mul-label-distances : tie.Need-mul-label-distances
+mul-label-distances c = search needs
 
-slice-write-distances : tie.Need-slice-write-distances
-slice-write-distances c = search needs
+slice-write-label-distances : tie.Need-slice-write-label-distances
+slice-write-label-distances c = search needs
 
 same-length : tie.Need-same-length
 same-length c = search needs
@@ -125,8 +125,8 @@ put-row-spec =
     add-labels-7
     mul-labels-8
     slice-write-labels-8
-    mul-distances
-    slice-write-distances
+    mul-label-distances
+    slice-write-label-distances
     same-length
     same-length-2
     returns)

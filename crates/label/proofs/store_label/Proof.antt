@@ -19,7 +19,11 @@ same-length-2 : tie.Need-same-length-2
 same-length-2 c = search needs
 
 returns : tie.Need-returns
-returns c = (c .before .before .before .before .put-row .ensures .0 ∙ ap (λ (r : LabelRow). putWords r (now (c .before .before .before .before .before .before .before .before .before .before .args .labels)) (c .before .before .before .before .before .before .before .before .before .before .args .«record»)) (c .before .before .before .before .before .before .before .row-of .ensures), c .before .before .before .before .put-row .ensures .1 ∙ ap (λ (r : LabelRow). putDistance r (now (c .before .before .before .before .before .before .before .before .before .before .args .distances)) (c .before .before .before .before .before .before .before .before .before .before .args .«record»)) (c .before .before .before .before .before .before .before .row-of .ensures))
+returns c =
+    let c₁ = c .before .before .before .before in
+    let c₂ = c₁ .before .before .before in
+    let c₃ = c₂ .before .before .before in
+    (c₁ .put-row .ensures .0 ∙ ap (λ (r : LabelRow). putWords r (now (c₃ .args .labels)) (c₃ .args .«record»)) (c₂ .row-of .ensures), c₁ .put-row .ensures .1 ∙ ap (λ (r : LabelRow). putDistance r (now (c₃ .args .label-distances)) (c₃ .args .«record»)) (c₂ .row-of .ensures))
 
 pub store-label-spec : {M : Type 1} → statement M
 store-label-spec =

@@ -17,11 +17,11 @@ abbrev μ-loop : tie.MeasureT-loop
 loop-holds : tie.Need-loop-holds Inv-loop μ-loop
 loop-holds c = (omega arith, refl, λ k h. absurd (omega arith))
 
-mul-distances : tie.Need-mul-distances Inv-loop μ-loop
-mul-distances c = omega (arith, c .before .loop .inv .1)
+mul-label-distances : tie.Need-mul-label-distances Inv-loop μ-loop
+mul-label-distances c = omega (arith, c .before .loop .inv .1)
 
-slice-write-distances : tie.Need-slice-write-distances Inv-loop μ-loop
-slice-write-distances c = omega (arith, c .before .loop .inv .1)
+slice-write-label-distances : tie.Need-slice-write-label-distances Inv-loop μ-loop
+slice-write-label-distances c = omega (arith, c .before .loop .inv .1)
 
 add-i : tie.Need-add-i Inv-loop μ-loop
 add-i c = omega (arith, c .before .loop .inv .1)
@@ -31,7 +31,7 @@ loop-less c = omega (arith, c .before .loop .inv .1)
 
 loop-again : tie.Need-loop-again Inv-loop μ-loop
 unfolding Ieee.ofBits
-loop-again c = (omega (arith, c .before .loop .inv .1), length-set (c .before .loop .distances) (c .before .loop .i) noDistance ∙ c .before .loop .inv .1, one-more (c .before .loop .distances) (c .before .loop .i) noDistance (c .before .loop .inv .2) (omega (arith, c .before .loop .inv .1)))
+loop-again c = (omega (arith, c .before .loop .inv .1), length-set (c .before .loop .label-distances) (c .before .loop .i) noDistance ∙ c .before .loop .inv .1, one-more (c .before .loop .label-distances) (c .before .loop .i) noDistance (c .before .loop .inv .2) (omega (arith, c .before .loop .inv .1)))
 
 same-length : tie.Need-same-length Inv-loop μ-loop
 same-length c = c .before .loop .inv .1
@@ -46,8 +46,8 @@ zero-distances-spec =
     Inv-loop
     μ-loop
     loop-holds
-    mul-distances
-    slice-write-distances
+    mul-label-distances
+    slice-write-label-distances
     add-i
     loop-less
     loop-again

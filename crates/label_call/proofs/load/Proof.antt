@@ -25,7 +25,10 @@ refused-label-requires-2 : tie.Need-refused-label-requires-2
 refused-label-requires-2 c κs = search needs
 
 returns-2 : tie.Need-returns-2
-returns-2 c = c .refused-label2 .ensures ∙ load-no-kind _ _ _ _ _ (sym (c .before .before .before .before .before .before .place .ensures) ∙ c .before .before .before .before .before .if1 .left) _ (c .before .before .before .before .record-of .ensures) (c .before .before .before .get-row .result) (c .before .before .before .get-row .ensures) (omega arith)
+returns-2 c =
+    let c₁ = c .before .before .before in
+    let c₂ = c₁ .before .before .before in
+    c .refused-label2 .ensures ∙ load-no-kind _ _ _ _ _ (sym (c₂ .place .ensures) ∙ c .before .before .before .before .before .if1 .left) _ (c .before .before .before .before .record-of .ensures) (c₁ .get-row .result) (c₁ .get-row .ensures) (omega arith)
 
 label-of-requires : tie.Need-label-of-requires
 label-of-requires c κs = search needs
@@ -34,7 +37,11 @@ row-of-requires : tie.Need-row-of-requires
 row-of-requires c κs = search needs
 
 returns-3 : tie.Need-returns-3
-returns-3 c = (λ p. record { code = 0; row = (c .row-of .ensures ∙ ap rowOf (c .before .label-of .ensures)) p }) ∙ load-made _ _ _ _ _ (sym (c .before .before .before .before .before .before .before .place .ensures) ∙ c .before .before .before .before .before .before .if1 .left) _ (c .before .before .before .before .before .record-of .ensures) (c .before .before .before .before .get-row .result) (c .before .before .before .before .get-row .ensures) (omega arith)
+returns-3 c =
+    let c₁ = c .before .before .before .before in
+    let c₂ = c₁ .before .before in
+    let c₃ = c₂ .before in
+    (λ p. record { code = 0; row = (c .row-of .ensures ∙ ap rowOf (c .before .label-of .ensures)) p }) ∙ load-made _ _ _ _ _ (sym (c₃ .place .ensures) ∙ c₂ .if1 .left) _ (c .before .before .before .before .before .record-of .ensures) (c₁ .get-row .result) (c₁ .get-row .ensures) (omega arith)
 
 pub load-spec : {M : Type 1} → statement M
 load-spec =

@@ -23,11 +23,15 @@ returns-3 c = simp (le-leb (c .before .before .before .before .args .stops) 4096
 
 returns-4 : tie.Need-returns-4
 unfolding placeCode
-returns-4 c = simp (le-leb (c .before .before .before .before .before .args .stops) 4096 (omega arith), sym (c .before .before .before .lengths-right .ensures) ∙ not-false _ (c .before .before .if2 .left), not-false (c .before .before .before .before .before .args .below) (c .before .if3 .left), lt-leb (c .before .before .before .before .before .args .row) 12 (omega arith))
+returns-4 c =
+    let c₁ = c .before .before .before .before .before in
+    simp (le-leb (c₁ .args .stops) 4096 (omega arith), sym (c .before .before .before .lengths-right .ensures) ∙ not-false _ (c .before .before .if2 .left), not-false (c₁ .args .below) (c .before .if3 .left), lt-leb (c₁ .args .row) 12 (omega arith))
 
 returns-5 : tie.Need-returns-5
 unfolding placeCode
-returns-5 c = simp (le-leb (c .before .before .before .before .before .args .stops) 4096 (omega arith), sym (c .before .before .before .lengths-right .ensures) ∙ not-false _ (c .before .before .if2 .left), not-false (c .before .before .before .before .before .args .below) (c .before .if3 .left), le-leb (c .before .before .before .before .before .args .row) 12 (omega arith))
+returns-5 c =
+    let c₁ = c .before .before .before .before .before in
+    simp (le-leb (c₁ .args .stops) 4096 (omega arith), sym (c .before .before .before .lengths-right .ensures) ∙ not-false _ (c .before .before .if2 .left), not-false (c₁ .args .below) (c .before .if3 .left), le-leb (c₁ .args .row) 12 (omega arith))
 
 pub place-spec : {M : Type 1} → statement M
 place-spec =

@@ -23,7 +23,11 @@ same-length-2 : tie.Need-same-length-2
 same-length-2 c = search needs
 
 returns-2 : tie.Need-returns-2
-returns-2 c = let s = c .before .before .before .before .before .before .before .before .before .before .before .before .before .before in let z : c .before .before .before .before .before .before .before .before .questions .result ≡ 0 = omega (arith, c .before .before .before .before .before .before .before .if1 .left) in answered (now (s .args .tables)) (s .args .c) (s .args .lines) (now (s .args .runs)) (now (s .args .entries)) (layoutAreas (now (s .args .positions)) (now (s .args .fifo))) _ _ _ (c .before .before .before .before .before .before .before .before .questions .ensures) z (c .before .before .before .before .lay-out .ensures)
+returns-2 c =
+    let c₁ = c .before .before .before .before .before .before .before in
+    let c₂ = c₁ .before in
+    let s = c₂ .before .before .before .before .before .before in
+    let z : c₂ .questions .result ≡ 0 = omega (arith, c₁ .if1 .left) in answered (now (s .args .tables)) (s .args .c) (s .args .lines) (now (s .args .runs)) (now (s .args .entries)) (layoutAreas (now (s .args .positions)) (now (s .args .fifo))) _ _ _ (c₂ .questions .ensures) z (c .before .before .before .before .lay-out .ensures)
 
 pub line-layout-spec : {M : Type 1} → statement M
 line-layout-spec =

@@ -91,13 +91,18 @@ both-requires-4 c κs = search needs
 
 returns-3 : tie.Need-returns-3
 unfolding layoutVerdict
-returns-3 c = ask-on 1 _ (q1 (c .before .before .before .before .before .before .before .before)) (ask-on 2 _ (q2 (c .before .before .before .before)) (ask-no 3 _ _ (found-no (c .before .both4 .ensures) (c .before .before .before .runs-ok .ensures) (c .before .before .line-runs-ok .ensures) (c .if3 .taken))))
+returns-3 c =
+    let c₁ = c .before .before .before in
+    let c₂ = c₁ .before .before .before .before in
+    ask-on 1 _ (q1 (c₂ .before)) (ask-on 2 _ (q2 (c₁ .before)) (ask-no 3 _ _ (found-no (c .before .both4 .ensures) (c₁ .runs-ok .ensures) (c .before .before .line-runs-ok .ensures) (c .if3 .taken))))
 
 entries-ok-requires : tie.Need-entries-ok-requires
 entries-ok-requires c κs = (sizes (c .before .before .before .before)) .entriesIs
 
 rows-ok-requires : tie.Need-rows-ok-requires
-rows-ok-requires c κs = ((limits (c .before .before .before .before .before .before .before .before .before)) .counts, (sizes (c .before .before .before .before .before)) .slices)
+rows-ok-requires c κs =
+    let c₁ = c .before .before .before .before .before .before .before .before in
+    ((limits (c₁ .before)) .counts, (sizes (c .before .before .before .before .before)) .slices)
 
 both-requires-5 : tie.Need-both-requires-5
 both-requires-5 c κs = search needs
@@ -115,14 +120,19 @@ rows-yes c =
     record { one = ap₂ _&&_ (y .one) (x .one); two = y .two }
 
 order-ok-requires : tie.Need-order-ok-requires
-order-ok-requires c κs = ((limits (c .before .before .before .before .before .before .before .before .before .before .before .before)) .counts, (sizes (c .before .before .before .before .before .before .before .before)) .slices)
+order-ok-requires c κs =
+    let c₁ = c .before .before .before .before .before .before .before in
+    let c₂ = c₁ .before .before .before .before in
+    ((limits (c₂ .before)) .counts, (sizes (c₁ .before)) .slices)
 
 returns-4 : tie.Need-returns-4
 unfolding layoutVerdict
 returns-4 c =
+    let c₁ = c .before .before .before .before .before .before .before .before .before in
+    let c₂ = c₁ .before .before .before .before in
     let e = rows-yes (c .before .before) in
-    ask-on 1 _ (q1 (c .before .before .before .before .before .before .before .before .before .before .before .before .before .before))
-    (ask-on 2 _ (q2 (c .before .before .before .before .before .before .before .before .before .before))
+    ask-on 1 _ (q1 (c₂ .before))
+    (ask-on 2 _ (q2 (c₁ .before))
     (ask-on 3 _ (q3 (c .before .before .before .before .before .before))
     (ask-on 4 _ (e .one)
     (ask-on 5 _ (e .two)
@@ -131,16 +141,21 @@ returns-4 c =
 returns-5 : tie.Need-returns-5
 unfolding layoutVerdict
 returns-5 c =
+    let c₁ = c .before .before .before .before .before .before .before .before .before in
+    let c₂ = c₁ .before .before .before .before in
     let e = rows-yes (c .before .before) in
-    ask-on 1 _ (q1 (c .before .before .before .before .before .before .before .before .before .before .before .before .before .before))
-    (ask-on 2 _ (q2 (c .before .before .before .before .before .before .before .before .before .before))
+    ask-on 1 _ (q1 (c₂ .before))
+    (ask-on 2 _ (q2 (c₁ .before))
     (ask-on 3 _ (q3 (c .before .before .before .before .before .before))
     (ask-on 4 _ (e .one)
     (ask-on 5 _ (e .two)
     (ask-no 6 _ _ (sym (c .before .order-ok .ensures) ∙ c .if5 .left))))))
 
 numbers-ok-requires : tie.Need-numbers-ok-requires
-numbers-ok-requires c κs = ((limits (c .before .before .before .before .before .before .before .before .before .before .before .before)) .counts, (sizes (c .before .before .before .before .before .before .before .before)) .slices)
+numbers-ok-requires c κs =
+    let c₁ = c .before .before .before .before .before .before .before in
+    let c₂ = c₁ .before .before .before .before in
+    ((limits (c₂ .before)) .counts, (sizes (c₁ .before)) .slices)
 
 both-requires-6 : tie.Need-both-requires-6
 both-requires-6 c κs = search needs
@@ -148,22 +163,28 @@ both-requires-6 c κs = search needs
 returns-6 : tie.Need-returns-6
 unfolding layoutVerdict
 returns-6 c =
-    ask-on 1 _ (q1 (c .before .before .before .before .before .before .before .before .before .before .before .before .before .before .before))
-    (ask-on 2 _ (q2 (c .before .before .before .before .before .before .before .before .before .before .before))
-    (ask-on 3 _ (q3 (c .before .before .before .before .before .before .before))
-    (ask-no 4 _ _ (found-no (c .before .both6 .ensures) (c .before .before .numbers-ok .ensures) (c .before .before .before .before .before .before .entries-ok .ensures) (c .if6 .taken)))))
+    let c₁ = c .before .before .before .before .before .before in
+    let c₂ = c₁ .before .before .before .before in
+    let c₃ = c₂ .before .before .before .before in
+    ask-on 1 _ (q1 (c₃ .before))
+    (ask-on 2 _ (q2 (c₂ .before))
+    (ask-on 3 _ (q3 (c₁ .before))
+    (ask-no 4 _ _ (found-no (c .before .both6 .ensures) (c .before .before .numbers-ok .ensures) (c₁ .entries-ok .ensures) (c .if6 .taken)))))
 
 returns-7 : tie.Need-returns-7
 unfolding layoutVerdict
 returns-7 c =
-    let s = c .before .before .before .before .before .before .before .before .before .before .before .before .before .before .before .before .before .before .before .before .before .before in
+    let c₁ = c .before .before .before .before .before .before in
+    let c₂ = c₁ .before .before .before .before in
+    let c₃ = c₂ .before .before .before .before in
+    let s = c₃ .before .before .before .before .before .before .before .before in
     let n = numbersOk (now (s .args .tables)) (s .args .c) in
     let e = entriesOk (s .args .c) (now (s .args .entries)) (s .args .n) in
     let x = two n e (q4 c) in
-    let y = second-no e (n && asked5 s) (sym (c .before .before .before .before .both5 .ensures ∙ ap₂ _&&_ (c .before .before .before .before .before .before .entries-ok .ensures) (c .before .before .before .before .before .rows-ok .ensures)) ∙ c .before .before .before .if4 .left) (x .two) in
-    ask-on 1 _ (q1 (c .before .before .before .before .before .before .before .before .before .before .before .before .before .before .before))
-    (ask-on 2 _ (q2 (c .before .before .before .before .before .before .before .before .before .before .before))
-    (ask-on 3 _ (q3 (c .before .before .before .before .before .before .before))
+    let y = second-no e (n && asked5 s) (sym (c .before .before .before .before .both5 .ensures ∙ ap₂ _&&_ (c₁ .entries-ok .ensures) (c .before .before .before .before .before .rows-ok .ensures)) ∙ c .before .before .before .if4 .left) (x .two) in
+    ask-on 1 _ (q1 (c₃ .before))
+    (ask-on 2 _ (q2 (c₂ .before))
+    (ask-on 3 _ (q3 (c₁ .before))
     (ask-on 4 _ (q4 c)
     (ask-no 5 _ _ (second-no n (asked5 s) y (x .one))))))
 

@@ -28,7 +28,9 @@ both-requires c κs = search needs
 
 returns-3 : tie.Need-returns-3
 unfolding delaysDoor
-returns-3 c = ask-on 1 _ (sym (c .before .before .before .before .before .before .delay-counts .ensures) ∙ not-false _ (c .before .before .before .before .before .if1 .left)) (ask-on 2 _ (sym (c .before .before .before .before .delay-lengths .ensures) ∙ not-false _ (c .before .before .before .if2 .left)) (ask-no 4 _ _ (sym (rw (c .before .before .rows-asked .ensures) at (c .before .both .ensures)) ∙ not-true _ (c .if3 .taken))))
+returns-3 c =
+    let c₁ = c .before .before .before .before .before .before in
+    ask-on 1 _ (sym (c₁ .delay-counts .ensures) ∙ not-false _ (c .before .before .before .before .before .if1 .left)) (ask-on 2 _ (sym (c .before .before .before .before .delay-lengths .ensures) ∙ not-false _ (c .before .before .before .if2 .left)) (ask-no 4 _ _ (sym (rw (c .before .before .rows-asked .ensures) at (c .before .both .ensures)) ∙ not-true _ (c .if3 .taken))))
 
 rows-asked-requires-2 : tie.Need-rows-asked-requires-2
 rows-asked-requires-2 c κs = search needs
@@ -38,18 +40,37 @@ both-requires-2 c κs = search needs
 
 returns-4 : tie.Need-returns-4
 unfolding delaysDoor
-returns-4 c = ask-on 1 _ (sym (c .before .before .before .before .before .before .before .before .before .delay-counts .ensures) ∙ not-false _ (c .before .before .before .before .before .before .before .before .if1 .left)) (ask-on 2 _ (sym (c .before .before .before .before .before .before .before .delay-lengths .ensures) ∙ not-false _ (c .before .before .before .before .before .before .if2 .left)) (ask-on 4 _ (sym (rw (c .before .before .before .before .before .rows-asked .ensures) at (c .before .before .before .before .both .ensures)) ∙ not-false _ (c .before .before .before .if3 .left)) (ask-no 5 _ _ (sym (rw (c .before .before .rows-asked2 .ensures) at (c .before .both2 .ensures)) ∙ not-true _ (c .if4 .taken)))))
+returns-4 c =
+    let c₁ = c .before .before .before .before .before .before in
+    let c₂ = c₁ .before in
+    let c₃ = c₂ .before in
+    let c₄ = c₃ .before in
+    ask-on 1 _ (sym (c₄ .delay-counts .ensures) ∙ not-false _ (c₃ .if1 .left)) (ask-on 2 _ (sym (c₂ .delay-lengths .ensures) ∙ not-false _ (c₁ .if2 .left)) (ask-on 4 _ (sym (rw (c .before .before .before .before .before .rows-asked .ensures) at (c .before .before .before .before .both .ensures)) ∙ not-false _ (c .before .before .before .if3 .left)) (ask-no 5 _ _ (sym (rw (c .before .before .rows-asked2 .ensures) at (c .before .both2 .ensures)) ∙ not-true _ (c .if4 .taken)))))
 
 rows-asked-requires-3 : tie.Need-rows-asked-requires-3
 rows-asked-requires-3 c κs = search needs
 
 returns-5 : tie.Need-returns-5
 unfolding delaysDoor
-returns-5 c = ask-on 1 _ (sym (c .before .before .before .before .before .before .before .before .before .before .before .delay-counts .ensures) ∙ not-false _ (c .before .before .before .before .before .before .before .before .before .before .if1 .left)) (ask-on 2 _ (sym (c .before .before .before .before .before .before .before .before .before .delay-lengths .ensures) ∙ not-false _ (c .before .before .before .before .before .before .before .before .if2 .left)) (ask-on 4 _ (sym (rw (c .before .before .before .before .before .before .before .rows-asked .ensures) at (c .before .before .before .before .before .before .both .ensures)) ∙ not-false _ (c .before .before .before .before .before .if3 .left)) (ask-on 5 _ (sym (rw (c .before .before .before .before .rows-asked2 .ensures) at (c .before .before .before .both2 .ensures)) ∙ not-false _ (c .before .before .if4 .left)) (ask-no 6 _ _ (sym (c .before .rows-asked3 .ensures) ∙ not-true _ (c .if5 .taken))))))
+returns-5 c =
+    let c₁ = c .before .before .before .before .before .before in
+    let c₂ = c₁ .before in
+    let c₃ = c₂ .before in
+    let c₄ = c₃ .before in
+    let c₅ = c₄ .before in
+    let c₆ = c₅ .before in
+    ask-on 1 _ (sym (c₆ .delay-counts .ensures) ∙ not-false _ (c₅ .if1 .left)) (ask-on 2 _ (sym (c₄ .delay-lengths .ensures) ∙ not-false _ (c₃ .if2 .left)) (ask-on 4 _ (sym (rw (c₂ .rows-asked .ensures) at (c₁ .both .ensures)) ∙ not-false _ (c .before .before .before .before .before .if3 .left)) (ask-on 5 _ (sym (rw (c .before .before .before .before .rows-asked2 .ensures) at (c .before .before .before .both2 .ensures)) ∙ not-false _ (c .before .before .if4 .left)) (ask-no 6 _ _ (sym (c .before .rows-asked3 .ensures) ∙ not-true _ (c .if5 .taken))))))
 
 returns-6 : tie.Need-returns-6
 unfolding delaysDoor
-returns-6 c = ask-on 1 _ (sym (c .before .before .before .before .before .before .before .before .before .before .before .delay-counts .ensures) ∙ not-false _ (c .before .before .before .before .before .before .before .before .before .before .if1 .left)) (ask-on 2 _ (sym (c .before .before .before .before .before .before .before .before .before .delay-lengths .ensures) ∙ not-false _ (c .before .before .before .before .before .before .before .before .if2 .left)) (ask-on 4 _ (sym (rw (c .before .before .before .before .before .before .before .rows-asked .ensures) at (c .before .before .before .before .before .before .both .ensures)) ∙ not-false _ (c .before .before .before .before .before .if3 .left)) (ask-on 5 _ (sym (rw (c .before .before .before .before .rows-asked2 .ensures) at (c .before .before .before .both2 .ensures)) ∙ not-false _ (c .before .before .if4 .left)) (ask-on 6 _ (sym (c .before .rows-asked3 .ensures) ∙ not-false _ (c .if5 .left)) refl))))
+returns-6 c =
+    let c₁ = c .before .before .before .before .before .before in
+    let c₂ = c₁ .before in
+    let c₃ = c₂ .before in
+    let c₄ = c₃ .before in
+    let c₅ = c₄ .before in
+    let c₆ = c₅ .before in
+    ask-on 1 _ (sym (c₆ .delay-counts .ensures) ∙ not-false _ (c₅ .if1 .left)) (ask-on 2 _ (sym (c₄ .delay-lengths .ensures) ∙ not-false _ (c₃ .if2 .left)) (ask-on 4 _ (sym (rw (c₂ .rows-asked .ensures) at (c₁ .both .ensures)) ∙ not-false _ (c .before .before .before .before .before .if3 .left)) (ask-on 5 _ (sym (rw (c .before .before .before .before .rows-asked2 .ensures) at (c .before .before .before .both2 .ensures)) ∙ not-false _ (c .before .before .if4 .left)) (ask-on 6 _ (sym (c .before .rows-asked3 .ensures) ∙ not-false _ (c .if5 .left)) refl))))
 
 pub delays-door-spec : {M : Type 1} → statement M
 delays-door-spec =

@@ -43,10 +43,18 @@ no-board-requires-4 : tie.Need-no-board-requires-4
 no-board-requires-4 c κs = search needs
 
 returns-4 : tie.Need-returns-4
-returns-4 c = let a = c .before .before .before .before .before .before .before .before .before .args in answered (a .count) (a .windows .now) (a .base) (a .dep) (a .after) Nothing (c .no-board4 .ensures) (sym (c .before .enum-told .given .1) ∙ c .before .before .before .earliest-freq-board .ensures) (sym (c .before .before .before .before .before .freq-in-range .ensures) ∙ not-false _ (c .before .before .before .before .if3 .left)) (c .before .before .before .before .before .before .if2 .left) (c .before .before .before .before .before .before .before .if1 .left)
+returns-4 c =
+    let c₁ = c .before .before .before .before .before .before in
+    let c₂ = c₁ .before in
+    let c₃ = c₂ .before .before in
+    let a = c₃ .args in answered (a .count) (a .windows .now) (a .base) (a .dep) (a .after) Nothing (c .no-board4 .ensures) (sym (c .before .enum-told .given .1) ∙ c .before .before .before .earliest-freq-board .ensures) (sym (c .before .before .before .before .before .freq-in-range .ensures) ∙ not-false _ (c .before .before .before .before .if3 .left)) (c₁ .if2 .left) (c₂ .if1 .left)
 
 returns-5 : tie.Need-returns-5
-returns-5 c = let a = c .before .before .before .before .before .before .before .before .before .args in answered (a .count) (a .windows .now) (a .base) (a .dep) (a .after) (Board (c .before .b .given .0 .0)) refl (sym (c .before .b .given .1) ∙ c .before .before .before .earliest-freq-board .ensures) (sym (c .before .before .before .before .before .freq-in-range .ensures) ∙ not-false _ (c .before .before .before .before .if3 .left)) (c .before .before .before .before .before .before .if2 .left) (c .before .before .before .before .before .before .before .if1 .left)
+returns-5 c =
+    let c₁ = c .before .before .before .before .before .before in
+    let c₂ = c₁ .before in
+    let c₃ = c₂ .before .before in
+    let a = c₃ .args in answered (a .count) (a .windows .now) (a .base) (a .dep) (a .after) (Board (c .before .b .given .0 .0)) refl (sym (c .before .b .given .1) ∙ c .before .before .before .earliest-freq-board .ensures) (sym (c .before .before .before .before .before .freq-in-range .ensures) ∙ not-false _ (c .before .before .before .before .if3 .left)) (c₁ .if2 .left) (c₂ .if1 .left)
 
 pub freq-board-spec : {M : Type 1} → statement M
 freq-board-spec =

@@ -32,7 +32,10 @@ loop-less : tie.Need-loop-less Inv-loop μ-loop
 loop-less c = omega arith
 
 loop-again : tie.Need-loop-again Inv-loop μ-loop
-loop-again c = let s = c .before .before .before .before .before .before .before .before .before .before in (omega arith, positions-again _ _ _ (c .before .before .before .before .before .before .loop .inv .1) (c .before .before .place-run .ensures ∙ ap (λ (r : LineRun). tab (placed (tripsIn (now (s .args .entries)) r) (c .before .before .before .before .before .before .loop .positions)) (s .args .c .trips)) (c .before .before .before .line-run .ensures .0)))
+loop-again c =
+    let c₁ = c .before .before .before .before .before .before in
+    let s = c₁ .before .before .before .before in
+    (omega arith, positions-again _ _ _ (c₁ .loop .inv .1) (c .before .before .place-run .ensures ∙ ap (λ (r : LineRun). tab (placed (tripsIn (now (s .args .entries)) r) (c₁ .loop .positions)) (s .args .c .trips)) (c .before .before .before .line-run .ensures .0)))
 
 same-length : tie.Need-same-length Inv-loop μ-loop
 same-length c = let s = c .before .before .before .before .before in let e : length (c .before .loop .positions) ≡ s .args .c .trips = ap length (c .before .loop .inv .1) ∙ length-tab _ _ in omega (arith, ap length (s .pre .1), length-tab (λ a. unlisted) (s .args .c .trips))

@@ -28,7 +28,10 @@ loop-less : tie.Need-loop-less Inv-loop μ-loop
 loop-less c = omega arith
 
 loop-again : tie.Need-loop-again Inv-loop μ-loop
-loop-again c = let s = c .before .before .before .before .before .before .before .before in (omega arith, placed-again (now (s .args .entries)) (s .args .r .first) (c .before .before .before .before .before .loop .p) _ _ (c .before .before .before .before .before .loop .inv .1) (c .before .before .place-at .ensures) (omega (arith, s .pre .0 .trip (s .args .r .first + c .before .before .before .before .before .loop .p) (omega arith))))
+loop-again c =
+    let c₁ = c .before .before .before .before .before in
+    let s = c₁ .before .before .before in
+    (omega arith, placed-again (now (s .args .entries)) (s .args .r .first) (c₁ .loop .p) _ _ (c₁ .loop .inv .1) (c .before .before .place-at .ensures) (omega (arith, s .pre .0 .trip (s .args .r .first + c₁ .loop .p) (omega arith))))
 
 same-length : tie.Need-same-length Inv-loop μ-loop
 same-length c = let e : length (c .before .loop .positions) ≡ length (now (c .before .before .before .before .args .positions)) = ap length (c .before .loop .inv .1) ∙ length-tab _ _ in omega arith

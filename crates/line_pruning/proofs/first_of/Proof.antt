@@ -32,7 +32,9 @@ shared-slice-read-result : tie.Need-shared-slice-read-result
 shared-slice-read-result c = search needs
 
 returns-2 : tie.Need-returns-2
-returns-2 c = let s = c .before .before .before .before .before .before .args in first-yes (s .lay) (s .stamp) (now (s .work)) (s .line) _ _ (c .before .before .before .before .line-stamps-at .ensures) (c .before .heads-at .ensures) (c .before .before .if1 .left)
+returns-2 c =
+    let c₁ = c .before .before .before .before .before .before in
+    let s = c₁ .args in first-yes (s .lay) (s .stamp) (now (s .work)) (s .line) _ _ (c .before .before .before .before .line-stamps-at .ensures) (c .before .heads-at .ensures) (c .before .before .if1 .left)
 
 pub first-of-spec : {M : Type 1} → statement M
 first-of-spec =

@@ -30,7 +30,9 @@ both-requires : tie.Need-both-requires
 both-requires c κs = search needs
 
 returns : tie.Need-returns
-returns c = let s = c .before .before .before .before .before .before .args in c .both .ensures ∙ ap₂ (λ (a b : ℕ). ltb a (s .p) && leb b (s .off)) (c .before .before .before .field .ensures .0 ∙ read-at (now (s .work)) (s .trip) _ _ (c .before .before .before .before .positions-at .ensures)) (c .before .field2 .ensures .0 ∙ read-at (now (s .work)) (s .trip) _ _ (c .before .before .least-at .ensures))
+returns c =
+    let c₁ = c .before .before .before .before .before .before in
+    let s = c₁ .args in c .both .ensures ∙ ap₂ (λ (a b : ℕ). ltb a (s .p) && leb b (s .off)) (c .before .before .before .field .ensures .0 ∙ read-at (now (s .work)) (s .trip) _ _ (c .before .before .before .before .positions-at .ensures)) (c .before .field2 .ensures .0 ∙ read-at (now (s .work)) (s .trip) _ _ (c .before .before .least-at .ensures))
 
 pub is-before-spec : {M : Type 1} → statement M
 is-before-spec =

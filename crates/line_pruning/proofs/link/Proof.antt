@@ -67,7 +67,9 @@ same-length : tie.Need-same-length
 same-length c = search needs
 
 returns : tie.Need-returns
-returns c = let s = c .before .before .before .before .before .before .before .args in linked-as (s .lay) (s .stamp) (s .line) (s .trip) (s .off) (c .first-of .result) _ _ _ _ (now (s .work)) (c .before .before .before .before .before .line-stamps-at .ensures) (c .before .before .before .before .heads-at .ensures) (c .before .before .before .links-at .ensures) (c .before .before .least-at .ensures) (c .first-of .ensures)
+returns c =
+    let c₁ = c .before .before .before .before .before .before .before in
+    let s = c₁ .args in linked-as (s .lay) (s .stamp) (s .line) (s .trip) (s .off) (c .first-of .result) _ _ _ _ (now (s .work)) (c .before .before .before .before .before .line-stamps-at .ensures) (c .before .before .before .before .heads-at .ensures) (c .before .before .before .links-at .ensures) (c .before .before .least-at .ensures) (c .first-of .ensures)
 
 pub link-spec : {M : Type 1} → statement M
 link-spec =

@@ -27,7 +27,11 @@ same-length : tie.Need-same-length
 same-length c = search needs
 
 returns-2 : tie.Need-returns-2
-returns-2 c = let s = c .before .before .before .before .before .before .before .before .before in listed-seen (s .args .lay) (s .args .stamp) (s .args .line) (s .args .trip) (s .args .off) (now (s .args .work)) (s .args .prunes) _ _ (c .before .before .before .before .before .before .trip-stamps-at .ensures) (not-false _ (c .before .before .before .before .before .before .before .if1 .left)) (c .before .before .before .before .if2 .taken) (c .before .before .lower .ensures)
+returns-2 c =
+    let c₁ = c .before .before .before .before .before .before in
+    let c₂ = c₁ .before in
+    let s = c₂ .before .before in
+    listed-seen (s .args .lay) (s .args .stamp) (s .args .line) (s .args .trip) (s .args .off) (now (s .args .work)) (s .args .prunes) _ _ (c₁ .trip-stamps-at .ensures) (not-false _ (c₂ .if1 .left)) (c .before .before .before .before .if2 .taken) (c .before .before .lower .ensures)
 
 link-requires : tie.Need-link-requires
 link-requires c κs = let s = c .before .before .before .before .before .before in (s .pre .0, (s .pre .1 .0 (not-false _ (c .before .before .before .before .if1 .left)), s .pre .1 .1))
@@ -36,7 +40,11 @@ same-length-2 : tie.Need-same-length-2
 same-length-2 c = search needs
 
 returns-3 : tie.Need-returns-3
-returns-3 c = let s = c .before .before .before .before .before .before .before .before .before in listed-new (s .args .lay) (s .args .stamp) (s .args .line) (s .args .trip) (s .args .off) (now (s .args .work)) (s .args .prunes) _ _ (c .before .before .before .before .before .before .trip-stamps-at .ensures) (not-false _ (c .before .before .before .before .before .before .before .if1 .left)) (c .before .before .before .before .if2 .left) (c .before .before .link .ensures)
+returns-3 c =
+    let c₁ = c .before .before .before .before .before .before in
+    let c₂ = c₁ .before in
+    let s = c₂ .before .before in
+    listed-new (s .args .lay) (s .args .stamp) (s .args .line) (s .args .trip) (s .args .off) (now (s .args .work)) (s .args .prunes) _ _ (c₁ .trip-stamps-at .ensures) (not-false _ (c₂ .if1 .left)) (c .before .before .before .before .if2 .left) (c .before .before .link .ensures)
 
 pub list-spec : {M : Type 1} → statement M
 list-spec =

@@ -50,7 +50,11 @@ either-requires : tie.Need-either-requires
 either-requires c κs = search needs
 
 returns-2 : tie.Need-returns-2
-returns-2 c = let s = c .before .before .before .before .before .before .before .before .before .before in λ T Q b bk. passed-yes T Q (s .args .lay) (s .args .stamp) (now (s .args .work)) b bk (s .args .trip) (s .args .off) (s .args .dep) (s .pre .1) _ _ _ (c .before .before .before .before .before .before .before .before .trip-stamps-at .ensures) (c .before .before .before .before .before .boarded-offsets-at .ensures) (c .before .before .before .boarded-departures-at .ensures) _ _ (c .before .before .before .before .before .before .if1 .left) (c .before .both .ensures) (c .either .ensures)
+returns-2 c =
+    let c₁ = c .before .before .before .before .before .before in
+    let c₂ = c₁ .before .before in
+    let s = c₂ .before .before in
+    λ T Q b bk. passed-yes T Q (s .args .lay) (s .args .stamp) (now (s .args .work)) b bk (s .args .trip) (s .args .off) (s .args .dep) (s .pre .1) _ _ _ (c₂ .trip-stamps-at .ensures) (c .before .before .before .before .before .boarded-offsets-at .ensures) (c .before .before .before .boarded-departures-at .ensures) _ _ (c₁ .if1 .left) (c .before .both .ensures) (c .either .ensures)
 
 pub passed-over-spec : {M : Type 1} → statement M
 passed-over-spec =

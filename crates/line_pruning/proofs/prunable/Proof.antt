@@ -29,7 +29,11 @@ both-requires : tie.Need-both-requires
 both-requires c κs = search needs
 
 returns-2 : tie.Need-returns-2
-returns-2 c = let s = c .before .before .before .before .before .before .before .before .before in (λ e. omega (arith, c .before .before .before .before .before .before .field .ensures .0, c .before .before .before .before .if1 .left), λ T Q k ag. prunable-known T Q (s .args .lay) k (now (s .args .built)) (now (s .args .work)) (hitOf (s .args .adj)) (s .args .trip) (c .before .before .before .before .before .before .field .result) ag (s .pre .1 .1) (c .before .before .before .before .before .before .field .ensures .0) (c .before .before .before .before .if1 .left) _ _ _ (c .both .ensures) (c .before .before .undelayed .ensures) (c .before .field2 .ensures .0 ∙ read-at (now (s .args .work)) (c .before .before .before .before .before .before .field .result) _ _ (c .before .before .before .fifo-at .ensures)))
+returns-2 c =
+    let c₁ = c .before .before .before .before in
+    let c₂ = c₁ .before .before in
+    let s = c₂ .before .before .before in
+    (λ e. omega (arith, c₂ .field .ensures .0, c₁ .if1 .left), λ T Q k ag. prunable-known T Q (s .args .lay) k (now (s .args .built)) (now (s .args .work)) (hitOf (s .args .adj)) (s .args .trip) (c₂ .field .result) ag (s .pre .1 .1) (c₂ .field .ensures .0) (c₁ .if1 .left) _ _ _ (c .both .ensures) (c .before .before .undelayed .ensures) (c .before .field2 .ensures .0 ∙ read-at (now (s .args .work)) (c₂ .field .result) _ _ (c .before .before .before .fifo-at .ensures)))
 
 pub prunable-spec : {M : Type 1} → statement M
 prunable-spec =

@@ -34,10 +34,16 @@ sub-field : tie.Need-sub-field Inv-loop μ-loop
 sub-field c = omega (arith, c .before .before .if2 .left)
 
 add-field : tie.Need-add-field Inv-loop μ-loop
-add-field c = let s = c .before .before .before .before .before .before .before .before in let v = c .before .before .before .before .before .loop in let u = walking-below (s .args .lay) (now (s .args .work)) (s .args .p) (s .args .off) (s .args .first) (v .k) (v .h) (v .inv .1) (c .before .before .before .if1 .taken) (c .before .before .if2 .left) in omega (arith, u, c .before .before .before .before .before .before .links-at .ensures, s .pre .0 .sections .stops, s .pre .0 .sections .trips, s .pre .0 .sections .lines)
+add-field c =
+    let c₁ = c .before .before .before .before .before .before in
+    let s = c₁ .before .before in
+    let v = c .before .before .before .before .before .loop in let u = walking-below (s .args .lay) (now (s .args .work)) (s .args .p) (s .args .off) (s .args .first) (v .k) (v .h) (v .inv .1) (c .before .before .before .if1 .taken) (c .before .before .if2 .left) in omega (arith, u, c₁ .links-at .ensures, s .pre .0 .sections .stops, s .pre .0 .sections .trips, s .pre .0 .sections .lines)
 
 field-requires : tie.Need-field-requires Inv-loop μ-loop
-field-requires c κs = let s = c .before .before .before .before .before .before .before .before in let v = c .before .before .before .before .before .loop in let u = walking-below (s .args .lay) (now (s .args .work)) (s .args .p) (s .args .off) (s .args .first) (v .k) (v .h) (v .inv .1) (c .before .before .before .if1 .taken) (c .before .before .if2 .left) in omega (arith, u, c .before .before .before .before .before .before .links-at .ensures, s .pre .0 .sections .words)
+field-requires c κs =
+    let c₁ = c .before .before .before .before .before .before in
+    let s = c₁ .before .before in
+    let v = c .before .before .before .before .before .loop in let u = walking-below (s .args .lay) (now (s .args .work)) (s .args .p) (s .args .off) (s .args .first) (v .k) (v .h) (v .inv .1) (c .before .before .before .if1 .taken) (c .before .before .if2 .left) in omega (arith, u, c₁ .links-at .ensures, s .pre .0 .sections .words)
 
 add-k : tie.Need-add-k Inv-loop μ-loop
 add-k c = let s = c .before .before .before .before .before .before .before .before .before in omega (arith, s .pre .0 .sections .trips, c .before .before .before .before .if1 .taken)
@@ -46,7 +52,12 @@ loop-less : tie.Need-loop-less Inv-loop μ-loop
 loop-less c = omega (arith, c .before .before .before .before .if1 .taken)
 
 loop-again : tie.Need-loop-again Inv-loop μ-loop
-loop-again c = let s = c .before .before .before .before .before .before .before .before .before in let v = c .before .before .before .before .before .before .loop in (omega (arith, c .before .before .before .before .if1 .taken), walking-next (s .args .lay) (now (s .args .work)) (s .args .p) (s .args .off) (s .args .first) (v .k) (v .h) (v .inv .1) (c .before .before .before .before .if1 .taken) (c .before .before .before .if2 .left) _ (sym (c .before .before .is-before .ensures) ∙ c .before .if3 .left) (c .field .ensures .0 ∙ read-at (now (s .args .work)) (v .h - 1) _ _ (c .before .before .before .before .before .before .before .links-at .ensures)))
+loop-again c =
+    let c₁ = c .before .before .before .before in
+    let c₂ = c₁ .before .before in
+    let c₃ = c₂ .before in
+    let s = c₃ .before .before in
+    let v = c₂ .loop in (omega (arith, c₁ .if1 .taken), walking-next (s .args .lay) (now (s .args .work)) (s .args .p) (s .args .off) (s .args .first) (v .k) (v .h) (v .inv .1) (c₁ .if1 .taken) (c .before .before .before .if2 .left) _ (sym (c .before .before .is-before .ensures) ∙ c .before .if3 .left) (c .field .ensures .0 ∙ read-at (now (s .args .work)) (v .h - 1) _ _ (c₃ .links-at .ensures)))
 
 returns-3 : tie.Need-returns-3 Inv-loop μ-loop
 returns-3 c = let s = c .before .before .before .before .before in let v = c .before .before .loop in walking-end (s .args .lay) (now (s .args .work)) (s .args .p) (s .args .off) (s .args .first) (v .k) (v .h) (v .inv .1) (c .if1 .left)

@@ -12,22 +12,37 @@ lay-for-requires : tie.Need-lay-for-requires
 lay-for-requires c κs = let k = c .before .before .before .before .before .before .before .before .before .before .before .pre .admitted .limits .counts in (k .stops, k .trips)
 
 net-of-requires : tie.Need-net-of-requires
-net-of-requires c κs = askable (c .before .before .before .before .before .before .before .before .before .before .before .before .pre .admitted)
+net-of-requires c κs =
+    let c₁ = c .before .before .before .before .before .before .before .before .before .before .before .before in
+    askable (c₁ .pre .admitted)
 
 field-requires : tie.Need-field-requires
-field-requires c κs = omega (arith, c .before .before .before .before .before .before .before .before .before .before .before .before .before .pre .admitted .sized .queryIs)
+field-requires c κs =
+    let c₁ = c .before .before .before .before .before .before .before .before .before .before .before .before .before in
+    omega (arith, c₁ .pre .admitted .sized .queryIs)
 
 in-use-requires : tie.Need-in-use-requires
-in-use-requires c κs = flagging (c .before .before .before .before .before .before .before .before .before .before .before .before .before .before .pre .admitted)
+in-use-requires c κs =
+    let c₁ = c .before .before .before .before .before .before .before .before .before .before .before .before .before .before in
+    flagging (c₁ .pre .admitted)
 
 begin-requires : tie.Need-begin-requires
-begin-requires c κs = let A = c .before .before .before .before .before .before .before .before .before .before .before .before .before .before .before .before .before .before .pre .admitted in (askable A, (c .before .before .before .before .before .before .lay-for .ensures, sized-at A (c .before .before .before .before .before .before .lay-for .ensures)))
+begin-requires c κs =
+    let c₁ = c .before .before .before .before .before .before in
+    let c₂ = c₁ .before .before .before .before .before .before .before .before .before .before .before .before in
+    let A = c₂ .pre .admitted in (askable A, (c₁ .lay-for .ensures, sized-at A (c₁ .lay-for .ensures)))
 
 shared-slice-read-change : tie.Need-shared-slice-read-change
-shared-slice-read-change c = omega (arith, c .before .before .before .before .before .before .before .before .before .before .before .before .before .before .before .before .before .before .before .before .before .before .before .before .before .before .pre .admitted .sized .queryIs)
+shared-slice-read-change c =
+    let c₁ = c .before .before .before .before .before .before .before .before .before .before .before .before .before .before .before .before .before .before .before .before .before .before .before .before .before .before in
+    omega (arith, c₁ .pre .admitted .sized .queryIs)
 
 rounds-requires : tie.Need-rounds-requires
-rounds-requires c κs = let A = c .before .before .before .before .before .before .before .before .before .before .before .before .before .before .before .before .before .before .before .before .before .before .before .before .before .before .before .before .before .before .before .pre .admitted in started A (c .before .before .before .before .before .before .before .before .before .before .before .before .before .before .before .before .before .before .net-of .ensures _ _ A (lends A)) (c .before .before .before .before .before .before .before .before .before .before .before .before .begin .ensures _ _ A (lends A) _) (search needs)
+rounds-requires c κs =
+    let c₁ = c .before .before .before .before .before .before .before .before .before .before .before .before in
+    let c₂ = c₁ .before .before .before .before .before .before in
+    let c₃ = c₂ .before .before .before .before .before .before .before .before .before .before .before .before .before in
+    let A = c₃ .pre .admitted in started A (c₂ .net-of .ensures _ _ A (lends A)) (c₁ .begin .ensures _ _ A (lends A) _) (search needs)
 
 same-length : tie.Need-same-length
 same-length c = search needs
@@ -45,7 +60,14 @@ same-length-5 : tie.Need-same-length-5
 same-length-5 c = search needs
 
 returns : tie.Need-returns
-returns c = let s = c .before .before .before .before .before .before .before .before .before .before .before .before .before .before .before .before .before .before .before .before .before .before .before .before .before .before .before .before .before .before .before .before .before .before .before .before .before .before .before .before .before .before in let A = s .pre .admitted in ended (s .args .rust) (c .before .before .before .before .before .before .before .before .before .before .rounds .ensures) (c .before .before .before .before .before .before .before .before .before .before .before .before .before .before .before .before .before .before .before .before .before .before .before .before .before .before .before .in-use .ensures (now (s .args .distances)) (now (s .args .query)) (c .before .before .before .before .before .before .before .before .before .before .before .before .before .before .before .before .before .before .before .before .before .before .before .before .before .before .before .before .before .net-of .ensures _ _ A (lends A)) (ap (λ (v : ℕ). eqb v 1) (sym (c .before .before .before .before .before .before .before .before .before .before .before .before .before .before .before .before .before .before .before .before .before .before .before .before .before .before .before .before .field .ensures .0)))) (c .before .before .before .before .before .before .before .before .before .before .before .before .before .before .before .before .before .before .before .before .before .before .before .before .before .before .before .before .before .before .lay-for .ensures)
+returns c =
+    let c₁ = c .before .before .before .before .before .before .before .before .before .before in
+    let c₂ = c₁ .before .before .before .before .before .before .before .before .before .before .before .before .before .before .before .before .before in
+    let c₃ = c₂ .before in
+    let c₄ = c₃ .before in
+    let c₅ = c₄ .before in
+    let s = c₅ .before .before .before .before .before .before .before .before .before .before .before .before in
+    let A = s .pre .admitted in ended (s .args .rust) (c₁ .rounds .ensures) (c₂ .in-use .ensures (now (s .args .distances)) (now (s .args .query)) (c₄ .net-of .ensures _ _ A (lends A)) (ap (λ (v : ℕ). eqb v 1) (sym (c₃ .field .ensures .0)))) (c₅ .lay-for .ensures)
 
 pub search-spec : {M : Type 1} → statement M
 search-spec =

@@ -40,7 +40,15 @@ both-requires-10 c κs = search needs
 
 returns : tie.Need-returns
 unfolding queryQuestion1
-returns c = c .both10 .ensures ∙ ap₂ _&&_ (c .before .before .before .before .before .before .before .before .before .before .before .before .before .before .before .before .both2 .ensures ∙ ap₂ _&&_ (c .before .before .before .before .before .before .before .before .before .before .before .before .before .before .before .before .before .before .before .before .counts-ok .ensures) (c .before .before .before .before .before .before .before .before .before .before .before .before .before .before .before .before .before .both .ensures)) (c .before .both9 .ensures ∙ ap₂ _&&_ (c .before .before .before .before .before .before .before .before .before .both5 .ensures ∙ ap₂ _&&_ (c .before .before .before .before .before .before .before .before .before .before .before .before .before .both3 .ensures) (c .before .before .before .before .before .before .before .before .before .before .both4 .ensures)) (c .before .before .both8 .ensures ∙ ap₂ _&&_ (c .before .before .before .before .before .before .both6 .ensures) (c .before .before .before .both7 .ensures)))
+returns c =
+    let c₁ = c .before .before .before .before .before .before in
+    let c₂ = c₁ .before .before .before in
+    let c₃ = c₂ .before in
+    let c₄ = c₃ .before .before .before in
+    let c₅ = c₄ .before .before .before in
+    let c₆ = c₅ .before in
+    let c₇ = c₆ .before .before .before in
+    c .both10 .ensures ∙ ap₂ _&&_ (c₅ .both2 .ensures ∙ ap₂ _&&_ (c₇ .counts-ok .ensures) (c₆ .both .ensures)) (c .before .both9 .ensures ∙ ap₂ _&&_ (c₂ .both5 .ensures ∙ ap₂ _&&_ (c₄ .both3 .ensures) (c₃ .both4 .ensures)) (c .before .before .both8 .ensures ∙ ap₂ _&&_ (c₁ .both6 .ensures) (c .before .before .before .both7 .ensures)))
 
 pub counts-ok-spec : {M : Type 1} → statement M
 counts-ok-spec =

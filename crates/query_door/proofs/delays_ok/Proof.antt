@@ -21,7 +21,9 @@ rows-asked-requires : tie.Need-rows-asked-requires
 rows-asked-requires c κs = search needs
 
 returns : tie.Need-returns
-returns c = c .rows-asked .ensures ∙ ap₂ (λ (a b : List ℕ). rowsAsked (c .before .before .before .before .before .args .question) (c .before .before .before .before .before .args .n .timetable .trips) (delayTables a b)) (c .before .before .delay-rows .ensures) (c .before .stop-rows .ensures)
+returns c =
+    let c₁ = c .before .before .before .before .before in
+    c .rows-asked .ensures ∙ ap₂ (λ (a b : List ℕ). rowsAsked (c₁ .args .question) (c₁ .args .counts .timetable .trips) (delayTables a b)) (c .before .before .delay-rows .ensures) (c .before .stop-rows .ensures)
 
 pub delays-ok-spec : {M : Type 1} → statement M
 delays-ok-spec =

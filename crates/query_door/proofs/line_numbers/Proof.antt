@@ -20,14 +20,16 @@ line-entries-requires : tie.Need-line-entries-requires
 line-entries-requires c κs = c .before .before .pre
 
 entries-ok-requires : tie.Need-entries-ok-requires
-entries-ok-requires c κs = ap length (c .line-entries .ensures) ∙ entries-size (now (c .before .before .before .args .built)) (c .before .before .before .args .n) (c .before .before .before .pre .1)
+entries-ok-requires c κs = ap length (c .line-entries .ensures) ∙ entries-size (now (c .before .before .before .args .built)) (c .before .before .before .args .counts) (c .before .before .before .pre .1)
 
 both-requires : tie.Need-both-requires
 both-requires c κs = search needs
 
 returns : tie.Need-returns
 unfolding lineNumbers
-returns c = c .both .ensures ∙ ap₂ _&&_ (c .before .before .before .column-below .ensures) (c .before .entries-ok .ensures ∙ ap (λ (l : List ℕ). entriesOk (c .before .before .before .before .before .args .n .timetable) l (c .before .before .before .before .before .args .n .entries)) (c .before .before .line-entries .ensures))
+returns c =
+    let c₁ = c .before .before .before .before .before in
+    c .both .ensures ∙ ap₂ _&&_ (c .before .before .before .column-below .ensures) (c .before .entries-ok .ensures ∙ ap (λ (l : List ℕ). entriesOk (c₁ .args .counts .timetable) l (c₁ .args .counts .entries)) (c .before .before .line-entries .ensures))
 
 pub line-numbers-spec : {M : Type 1} → statement M
 line-numbers-spec =

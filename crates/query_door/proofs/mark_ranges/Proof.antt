@@ -15,7 +15,7 @@ column-below-requires c κs = record { inside = λ i l. omega (arith, c .before 
 
 returns : tie.Need-returns
 unfolding markRanges
-returns c = c .column-below .ensures ∙ ap (λ (k : ℕ). columnBelow (now (c .before .before .before .args .built)) k 1 (c .before .before .before .args .n .timetable .stops) 2) (c .before .marks-at .ensures .0)
+returns c = c .column-below .ensures ∙ ap (λ (k : ℕ). columnBelow (now (c .before .before .before .args .built)) k 1 (c .before .before .before .args .counts .timetable .stops) 2) (c .before .marks-at .ensures .0)
 
 pub mark-ranges-spec : {M : Type 1} → statement M
 mark-ranges-spec = tie.close (tie.spec marks-at-requires column-below-requires returns)

@@ -44,7 +44,13 @@ both-requires-3 c κs = search needs
 
 returns : tie.Need-returns
 unfolding queryQuestion6
-returns c = c .both3 .ensures ∙ ap₂ _&&_ (c .before .before .before .before .before .both .ensures ∙ ap₂ _&&_ (c .before .before .before .before .before .before .order-ok .ensures) (c .before .before .before .before .before .before .before .departure-order .ensures ∙ ap₂ (λ (a b : List ℕ). departureOrder (timetable (now (c .before .before .before .before .before .before .before .before .before .before .before .before .before .before .args .tables)) (c .before .before .before .before .before .before .before .before .before .before .before .before .before .before .args .n .timetable)) a b (c .before .before .before .before .before .before .before .before .before .before .before .before .before .before .args .n .timetable .stops)) (c .before .before .before .before .before .before .before .before .before .stop-runs .ensures) (c .before .before .before .before .before .before .before .before .departure-rows .ensures))) (c .before .both2 .ensures ∙ ap₂ _&&_ (c .before .before .before .egress-order .ensures) (c .before .before .delays-ok .ensures))
+returns c =
+    let c₁ = c .before .before .before .before .before .before in
+    let c₂ = c₁ .before in
+    let c₃ = c₂ .before in
+    let c₄ = c₃ .before in
+    let c₅ = c₄ .before .before .before .before .before in
+    c .both3 .ensures ∙ ap₂ _&&_ (c .before .before .before .before .before .both .ensures ∙ ap₂ _&&_ (c₁ .order-ok .ensures) (c₂ .departure-order .ensures ∙ ap₂ (λ (a b : List ℕ). departureOrder (timetable (now (c₅ .args .tables)) (c₅ .args .counts .timetable)) a b (c₅ .args .counts .timetable .stops)) (c₄ .stop-runs .ensures) (c₃ .departure-rows .ensures))) (c .before .both2 .ensures ∙ ap₂ _&&_ (c .before .before .before .egress-order .ensures) (c .before .before .delays-ok .ensures))
 
 pub order-ok-spec : {M : Type 1} → statement M
 order-ok-spec =

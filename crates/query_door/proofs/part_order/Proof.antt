@@ -55,9 +55,10 @@ loop-less c = omega arith
 
 loop-again : tie.Need-loop-again Inv-loop μ-loop
 loop-again c =
-    let k = c .before .before .before .before .loop .k in
+    let c₁ = c .before .before .before .before in
+    let k = c₁ .loop .k in
     let e : k + 1 - 1 ≡ k = omega arith in
-    (omega arith, rw e (c .before .before .departure-at2 .ensures), every-again _ _ _ (c .before .before .before .before .loop .inv .2) (tested _ _ _ (c .before .before .before .before .loop .inv .1) (c .before .before .departure-at2 .ensures) (sym (c .before .in-order .ensures) ∙ not-false _ (c .if2 .left))) (omega arith))
+    (omega arith, rw e (c .before .before .departure-at2 .ensures), every-again _ _ _ (c₁ .loop .inv .2) (tested _ _ _ (c₁ .loop .inv .1) (c .before .before .departure-at2 .ensures) (sym (c .before .in-order .ensures) ∙ not-false _ (c .if2 .left))) (omega arith))
 
 returns-3 : tie.Need-returns-3 Inv-loop μ-loop
 returns-3 c = every-left _ _ _ (c .before .loop .inv .2) (omega arith)

@@ -32,10 +32,15 @@ departure-rows-requires : tie.Need-departure-rows-requires
 departure-rows-requires c κs = search needs
 
 in-turn-requires : tie.Need-in-turn-requires
-in-turn-requires c κs = (c .before .before .before .before .before .before .before .before .before .before .pre .1 .0 .slices, (c .before .before .before .before .before .before .before .before .before .before .pre .1 .1 .0 .trips, (rw (c .before .stop-runs .ensures) (c .before .before .before .before .before .before .before .before .before .before .pre .1 .1 .0 .stops), ap length (c .departure-rows .ensures) ∙ rows-size (now (c .before .before .before .before .before .before .before .before .before .before .args .built)) (c .before .before .before .before .before .before .before .before .before .before .args .n) (marks-room (c .before .before .before .before .before .before .before .before .before .before .pre .1 .0)))))
+in-turn-requires c κs =
+    let c₁ = c .before .before .before .before .before .before .before .before .before .before in
+    (c₁ .pre .1 .0 .slices, (c₁ .pre .1 .1 .0 .trips, (rw (c .before .stop-runs .ensures) (c₁ .pre .1 .1 .0 .stops), ap length (c .departure-rows .ensures) ∙ rows-size (now (c₁ .args .built)) (c₁ .args .counts) (marks-room (c₁ .pre .1 .0)))))
 
 returns-3 : tie.Need-returns-3
-returns-3 c = λ h. let s = c .before .before .before .before .before .before .before .before .before .before .before in let t = now (s .args .tables) in let b = now (s .args .built) in let n = s .args .n in passed-yes t b (now (s .args .transfers)) (now (s .args .query)) n (s .args .rows) (sym (c .before .before .before .before .before .before .query-ok .ensures) ∙ not-false _ (c .before .before .before .before .before .if1 .left)) (sym (c .before .before .before .before .tables-ok .ensures) ∙ not-false _ (c .before .before .before .if2 .left)) (subst (λ (l : List ℕ). InTurn t (n .timetable) l (departureRows b n) (n .departures)) (c .before .before .stop-runs .ensures) (subst (λ (l : List ℕ). InTurn t (n .timetable) (now (c .before .before .stop-runs .result)) l (n .departures)) (c .before .departure-rows .ensures) (c .in-turn .ensures h)))
+returns-3 c =
+    let c₁ = c .before .before .before .before .before .before in
+    let c₂ = c₁ .before .before .before .before in
+    λ h. let s = c₂ .before in let t = now (s .args .tables) in let b = now (s .args .built) in let counts = s .args .counts in passed-yes t b (now (s .args .transfers)) (now (s .args .query)) counts (s .args .transfer-rows) (sym (c₁ .query-ok .ensures) ∙ not-false _ (c .before .before .before .before .before .if1 .left)) (sym (c .before .before .before .before .tables-ok .ensures) ∙ not-false _ (c .before .before .before .if2 .left)) (subst (λ (l : List ℕ). InTurn t (counts .timetable) l (departureRows b counts) (counts .departures)) (c .before .before .stop-runs .ensures) (subst (λ (l : List ℕ). InTurn t (counts .timetable) (now (c .before .before .stop-runs .result)) l (counts .departures)) (c .before .departure-rows .ensures) (c .in-turn .ensures h)))
 
 pub passed-spec : {M : Type 1} → statement M
 passed-spec =

@@ -52,7 +52,16 @@ both-requires-6 c κs = search needs
 
 returns : tie.Need-returns
 unfolding queryOk
-returns c = c .both6 .ensures ∙ ap₂ _&&_ (c .before .before .before .before .before .before .before .before .before .before .before .both .ensures ∙ ap₂ _&&_ (c .before .before .before .before .before .before .before .before .before .before .before .before .before .query-numbers .ensures) (c .before .before .before .before .before .before .before .before .before .before .before .before .delays-ok .ensures)) (c .before .both5 .ensures ∙ ap₂ _&&_ (c .before .before .before .before .before .before .both3 .ensures ∙ ap₂ _&&_ (c .before .before .before .before .before .before .before .before .before .before .setting-ranges .ensures) (c .before .before .before .before .before .before .before .both2 .ensures ∙ ap₂ _&&_ (c .before .before .before .before .before .before .before .before .before .walk-ranges .ensures) (c .before .before .before .before .before .before .before .before .delays-ok2 .ensures))) (c .before .before .both4 .ensures ∙ ap₂ _&&_ (c .before .before .before .before .egress-order .ensures) (c .before .before .before .delays-ok3 .ensures)))
+returns c =
+    let c₁ = c .before .before .before .before .before .before in
+    let c₂ = c₁ .before in
+    let c₃ = c₂ .before in
+    let c₄ = c₃ .before in
+    let c₅ = c₄ .before in
+    let c₆ = c₅ .before in
+    let c₇ = c₆ .before in
+    let c₈ = c₇ .before in
+    c .both6 .ensures ∙ ap₂ _&&_ (c₆ .both .ensures ∙ ap₂ _&&_ (c₈ .query-numbers .ensures) (c₇ .delays-ok .ensures)) (c .before .both5 .ensures ∙ ap₂ _&&_ (c₁ .both3 .ensures ∙ ap₂ _&&_ (c₅ .setting-ranges .ensures) (c₂ .both2 .ensures ∙ ap₂ _&&_ (c₄ .walk-ranges .ensures) (c₃ .delays-ok2 .ensures))) (c .before .before .both4 .ensures ∙ ap₂ _&&_ (c .before .before .before .before .egress-order .ensures) (c .before .before .before .delays-ok3 .ensures)))
 
 pub query-ok-spec : {M : Type 1} → statement M
 query-ok-spec =

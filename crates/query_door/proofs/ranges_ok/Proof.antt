@@ -26,10 +26,14 @@ setting-ranges-requires : tie.Need-setting-ranges-requires
 setting-ranges-requires c κs = omega (arith, query-room (c .before .before .before .before .before .before .before .before .before .pre .1 .0))
 
 walk-ranges-requires : tie.Need-walk-ranges-requires
-walk-ranges-requires c κs = (c .before .before .before .before .before .before .before .before .before .before .pre .0, query-room (c .before .before .before .before .before .before .before .before .before .before .pre .1 .0))
+walk-ranges-requires c κs =
+    let c₁ = c .before .before .before .before .before .before .before .before .before .before in
+    (c₁ .pre .0, query-room (c₁ .pre .1 .0))
 
 delays-ok-requires : tie.Need-delays-ok-requires
-delays-ok-requires c κs = (c .before .before .before .before .before .before .before .before .before .before .before .pre .0, query-room (c .before .before .before .before .before .before .before .before .before .before .before .pre .1 .0))
+delays-ok-requires c κs =
+    let c₁ = c .before .before .before .before .before .before .before .before .before .before .before in
+    (c₁ .pre .0, query-room (c₁ .pre .1 .0))
 
 both-requires-3 : tie.Need-both-requires-3
 both-requires-3 c κs = search needs
@@ -42,7 +46,13 @@ both-requires-5 c κs = search needs
 
 returns : tie.Need-returns
 unfolding queryQuestion5
-returns c = c .both5 .ensures ∙ ap₂ _&&_ (c .before .before .before .before .before .before .both2 .ensures ∙ ap₂ _&&_ (c .before .before .before .before .before .before .before .before .before .before .ranges-ok .ensures) (c .before .before .before .before .before .before .before .both .ensures ∙ ap₂ _&&_ (c .before .before .before .before .before .before .before .before .before .mark-ranges .ensures) (c .before .before .before .before .before .before .before .before .transfer-ranges .ensures))) (c .before .both4 .ensures ∙ ap₂ _&&_ (c .before .before .before .before .before .setting-ranges .ensures) (c .before .before .both3 .ensures ∙ ap₂ _&&_ (c .before .before .before .before .walk-ranges .ensures) (c .before .before .before .delays-ok .ensures)))
+returns c =
+    let c₁ = c .before .before .before .before .before .before in
+    let c₂ = c₁ .before in
+    let c₃ = c₂ .before in
+    let c₄ = c₃ .before in
+    let c₅ = c₄ .before in
+    c .both5 .ensures ∙ ap₂ _&&_ (c₁ .both2 .ensures ∙ ap₂ _&&_ (c₅ .ranges-ok .ensures) (c₂ .both .ensures ∙ ap₂ _&&_ (c₄ .mark-ranges .ensures) (c₃ .transfer-ranges .ensures))) (c .before .both4 .ensures ∙ ap₂ _&&_ (c .before .before .before .before .before .setting-ranges .ensures) (c .before .before .both3 .ensures ∙ ap₂ _&&_ (c .before .before .before .before .walk-ranges .ensures) (c .before .before .before .delays-ok .ensures)))
 
 pub ranges-ok-spec : {M : Type 1} → statement M
 ranges-ok-spec =

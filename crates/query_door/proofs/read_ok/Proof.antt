@@ -40,7 +40,11 @@ both-requires-3 c κs = search needs
 
 returns : tie.Need-returns
 unfolding readOk
-returns c = c .both3 .ensures ∙ ap₂ _&&_ (c .before .before .before .both .ensures ∙ ap (λ (x : Bool). x && eqb (c .before .before .before .before .before .before .before .before .before .args .patterns) (c .before .before .before .before .before .before .before .before .before .args .n .patterns * 64)) (ap₂ (λ (x y : ℕ). eqb (c .before .before .before .before .before .before .before .before .before .args .built) (x + y * 2)) (c .before .before .before .before .before .before .transfer-runs-at .ensures .0) (c .before .before .before .before .before .before .before .event-count .ensures .0))) (c .before .both2 .ensures ∙ ap (λ (x : ℕ). eqb (c .before .before .before .before .before .before .before .before .before .args .distances) (c .before .before .before .before .before .before .before .before .before .args .n .timetable .edges + c .before .before .before .before .before .before .before .before .before .args .n .origins) && eqb (c .before .before .before .before .before .before .before .before .before .args .q) x) (c .before .before .query-size .ensures))
+returns c =
+    let c₁ = c .before .before .before .before .before .before in
+    let c₂ = c₁ .before in
+    let c₃ = c₂ .before .before in
+    c .both3 .ensures ∙ ap₂ _&&_ (c .before .before .before .both .ensures ∙ ap (λ (x : Bool). x && eqb (c₃ .args .patterns) (c₃ .args .counts .patterns * 64)) (ap₂ (λ (x y : ℕ). eqb (c₃ .args .built) (x + y * 2)) (c₁ .transfer-runs-at .ensures .0) (c₂ .event-count .ensures .0))) (c .before .both2 .ensures ∙ ap (λ (x : ℕ). eqb (c₃ .args .distances) (c₃ .args .counts .timetable .edges + c₃ .args .counts .origins) && eqb (c₃ .args .q) x) (c .before .before .query-size .ensures))
 
 pub read-ok-spec : {M : Type 1} → statement M
 read-ok-spec =

@@ -32,7 +32,12 @@ both-requires-4 : tie.Need-both-requires-4
 both-requires-4 c κs = search needs
 
 returns : tie.Need-returns
-returns c = ranges (now (c .before .before .before .before .before .before .before .before .before .before .args .query)) (c .before .before .before .before .before .before .before .before .field .ensures .0) (c .before .before .before .before .before .before .before .field2 .ensures .0) (c .before .before .field5 .ensures .0) (c .before .before .before .before .before .field3 .ensures .0) (c .before .before .before .before .field4 .ensures .0) (c .before .before .before .before .before .before .both .ensures) (c .before .before .before .both2 .ensures) (c .before .both3 .ensures) (c .both4 .ensures)
+returns c =
+    let c₁ = c .before .before .before .before .before .before in
+    let c₂ = c₁ .before in
+    let c₃ = c₂ .before in
+    let c₄ = c₃ .before .before in
+    ranges (now (c₄ .args .query)) (c₃ .field .ensures .0) (c₂ .field2 .ensures .0) (c .before .before .field5 .ensures .0) (c .before .before .before .before .before .field3 .ensures .0) (c .before .before .before .before .field4 .ensures .0) (c₁ .both .ensures) (c .before .before .before .both2 .ensures) (c .before .both3 .ensures) (c .both4 .ensures)
 
 pub setting-ranges-spec : {M : Type 1} → statement M
 setting-ranges-spec =

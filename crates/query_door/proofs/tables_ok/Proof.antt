@@ -34,7 +34,11 @@ both-requires-4 c κs = search needs
 
 returns : tie.Need-returns
 unfolding tablesOk
-returns c = c .both4 .ensures ∙ ap₂ _&&_ (c .before .before .before .before .before .before .both .ensures ∙ ap₂ _&&_ (c .before .before .before .before .before .before .before .before .rows-ok .ensures) (c .before .before .before .before .before .before .before .order-ok .ensures)) (c .before .both3 .ensures ∙ ap₂ _&&_ (c .before .before .line-numbers .ensures) (c .before .before .before .both2 .ensures ∙ ap₂ _&&_ (c .before .before .before .before .before .mark-ranges .ensures) (c .before .before .before .before .transfer-ranges .ensures)))
+returns c =
+    let c₁ = c .before .before .before .before .before .before in
+    let c₂ = c₁ .before in
+    let c₃ = c₂ .before in
+    c .both4 .ensures ∙ ap₂ _&&_ (c₁ .both .ensures ∙ ap₂ _&&_ (c₃ .rows-ok .ensures) (c₂ .order-ok .ensures)) (c .before .both3 .ensures ∙ ap₂ _&&_ (c .before .before .line-numbers .ensures) (c .before .before .before .both2 .ensures ∙ ap₂ _&&_ (c .before .before .before .before .before .mark-ranges .ensures) (c .before .before .before .before .transfer-ranges .ensures)))
 
 pub tables-ok-spec : {M : Type 1} → statement M
 tables-ok-spec =

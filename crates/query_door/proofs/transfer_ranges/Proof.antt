@@ -13,10 +13,10 @@ use Rattle.query_door.proofs.transfer_ranges.Statement.{statement}
 use Rattle.query_door.proofs.transfer_ranges.Tie as tie
 
 abbrev Inv-loop : tie.InvT-loop
-Inv-loop transfers rows bits₀ k₀ bits k = (k ≤ rows) × (transferRanges transfers rows ≡ leb bits 1048575 && everyIn (λ i. ltb (columnAt transfers 2 4 i) (timeLimit + 1)) k rows)
+Inv-loop transfers «transfer_rows» bits₀ k₀ bits k = (k ≤ «transfer_rows») × (transferRanges transfers «transfer_rows» ≡ leb bits 1048575 && everyIn (λ i. ltb (columnAt transfers 2 4 i) (timeLimit + 1)) k «transfer_rows»)
 
 abbrev μ-loop : tie.MeasureT-loop
-μ-loop transfers rows bits₀ k₀ bits k = rows - k
+μ-loop transfers «transfer_rows» bits₀ k₀ bits k = «transfer_rows» - k
 
 loop-holds : tie.Need-loop-holds Inv-loop μ-loop
 unfolding transferRanges columnBelow
@@ -38,10 +38,10 @@ loop-less : tie.Need-loop-less Inv-loop μ-loop
 loop-less c = omega arith
 
 loop-again : tie.Need-loop-again Inv-loop μ-loop
-loop-again c = let s = c .before .before .before .before in let l = c .before .before .loop in (omega arith, every-keep (λ i. ltb (columnAt (now (s .args .transfers)) 2 4 i) (timeLimit + 1)) (l .k) (s .args .rows) (leb (l .bits) 1048575) (l .inv .1) (time-kept (l .bits) (c .word .result) (columnAt (now (s .args .transfers)) 2 4 (l .k)) (c .word .ensures)) (omega arith))
+loop-again c = let s = c .before .before .before .before in let l = c .before .before .loop in (omega arith, every-keep (λ i. ltb (columnAt (now (s .args .transfers)) 2 4 i) (timeLimit + 1)) (l .k) (s .args .transfer-rows) (leb (l .bits) 1048575) (l .inv .1) (time-kept (l .bits) (c .word .result) (columnAt (now (s .args .transfers)) 2 4 (l .k)) (c .word .ensures)) (omega arith))
 
 returns : tie.Need-returns Inv-loop μ-loop
-returns c = let s = c .before .before .before in let l = c .before .loop in every-kept (λ i. ltb (columnAt (now (s .args .transfers)) 2 4 i) (timeLimit + 1)) (l .k) (s .args .rows) (leb (l .bits) 1048575) (l .inv .1) (omega arith)
+returns c = let s = c .before .before .before in let l = c .before .loop in every-kept (λ i. ltb (columnAt (now (s .args .transfers)) 2 4 i) (timeLimit + 1)) (l .k) (s .args .transfer-rows) (leb (l .bits) 1048575) (l .inv .1) (omega arith)
 
 pub transfer-ranges-spec : {M : Type 1} → statement M
 transfer-ranges-spec =

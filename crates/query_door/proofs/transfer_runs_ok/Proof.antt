@@ -14,10 +14,10 @@ use Rattle.query_door.proofs.transfer_runs_ok.Statement.{statement}
 use Rattle.query_door.proofs.transfer_runs_ok.Tie as tie
 
 abbrev Inv-loop : tie.InvT-loop
-Inv-loop built events rows from limit inside₀ bits₀ e₀ inside bits e = (limit ≡ rows) × (e ≤ events) × (everyIn (insideFrom built from rows) 0 events ≡ runsKept inside bits && everyIn (insideFrom built from rows) e events)
+Inv-loop built events «transfer_rows» from limit inside₀ bits₀ e₀ inside bits e = (limit ≡ «transfer_rows») × (e ≤ events) × (everyIn (insideFrom built from «transfer_rows») 0 events ≡ runsKept inside bits && everyIn (insideFrom built from «transfer_rows») e events)
 
 abbrev μ-loop : tie.MeasureT-loop
-μ-loop built events rows from limit inside₀ bits₀ e₀ inside bits e = events - e
+μ-loop built events «transfer_rows» from limit inside₀ bits₀ e₀ inside bits e = events - e
 
 transfer-runs-at-requires : tie.Need-transfer-runs-at-requires Inv-loop μ-loop
 transfer-runs-at-requires c κs = search needs
@@ -56,14 +56,14 @@ loop-less : tie.Need-loop-less Inv-loop μ-loop
 loop-less c = omega arith
 
 loop-again : tie.Need-loop-again Inv-loop μ-loop
-loop-again c = let s = c .before .before .before .before .before .before .before in let l = c .before .before .before .before .loop in let b = now (s .args .built) in let from = c .before .before .before .before .before .transfer-runs-at .result in let f = c .before .before .word .result in let m = c .before .word2 .result in (l .inv .0, omega arith, every-keep (insideFrom b from (s .args .rows)) (l .e) (s .args .events) (runsKept (l .inside) (l .bits)) (l .inv .2) (run-kept (l .inside) (l .bits) (s .args .rows) f m (s .pre .1 .1) (c .both .ensures ∙ ap (λ (x : ℕ). l .inside && leb (f % 2147483648 + m % 2147483648) x) (l .inv .0)) ∙ ap (λ (x : Bool). runsKept (l .inside) (l .bits) && x) (ap₂ (λ (x y : ℕ). leb (x + y) (s .args .rows)) (c .before .before .word .ensures) (c .before .word2 .ensures))) (omega arith))
+loop-again c = let s = c .before .before .before .before .before .before .before in let l = c .before .before .before .before .loop in let b = now (s .args .built) in let from = c .before .before .before .before .before .transfer-runs-at .result in let f = c .before .before .word .result in let m = c .before .word2 .result in (l .inv .0, omega arith, every-keep (insideFrom b from (s .args .transfer-rows)) (l .e) (s .args .events) (runsKept (l .inside) (l .bits)) (l .inv .2) (run-kept (l .inside) (l .bits) (s .args .transfer-rows) f m (s .pre .1 .1) (c .both .ensures ∙ ap (λ (x : ℕ). l .inside && leb (f % 2147483648 + m % 2147483648) x) (l .inv .0)) ∙ ap (λ (x : Bool). runsKept (l .inside) (l .bits) && x) (ap₂ (λ (x y : ℕ). leb (x + y) (s .args .transfer-rows)) (c .before .before .word .ensures) (c .before .word2 .ensures))) (omega arith))
 
 both-requires-2 : tie.Need-both-requires-2 Inv-loop μ-loop
 both-requires-2 c κs = search needs
 
 returns : tie.Need-returns Inv-loop μ-loop
 unfolding transferRunsOk runIn
-returns c = let s = c .before .before .before .before .before in let l = c .before .before .loop in let b = now (s .args .built) in let from = c .before .before .before .transfer-runs-at .result in c .both2 .ensures ∙ every-kept (insideFrom b from (s .args .rows)) (l .e) (s .args .events) (runsKept (l .inside) (l .bits)) (l .inv .2) (omega arith) ∙ ap (λ (x : ℕ). everyIn (insideFrom b x (s .args .rows)) 0 (s .args .events)) (c .before .before .before .transfer-runs-at .ensures .0)
+returns c = let s = c .before .before .before .before .before in let l = c .before .before .loop in let b = now (s .args .built) in let from = c .before .before .before .transfer-runs-at .result in c .both2 .ensures ∙ every-kept (insideFrom b from (s .args .transfer-rows)) (l .e) (s .args .events) (runsKept (l .inside) (l .bits)) (l .inv .2) (omega arith) ∙ ap (λ (x : ℕ). everyIn (insideFrom b x (s .args .transfer-rows)) 0 (s .args .events)) (c .before .before .before .transfer-runs-at .ensures .0)
 
 pub transfer-runs-ok-spec : {M : Type 1} → statement M
 transfer-runs-ok-spec =

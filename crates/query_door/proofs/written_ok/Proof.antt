@@ -32,7 +32,11 @@ both-requires-4 c κs = search needs
 
 returns : tie.Need-returns
 unfolding writtenOk
-returns c = c .both4 .ensures ∙ ap₂ _&&_ (c .before .before .before .before .both2 .ensures ∙ ap₂ _&&_ (c .before .before .before .before .before .before .before .both .ensures) (ap (eqb (c .before .before .before .before .before .before .before .before .before .before .before .before .args .l .work)) (c .before .before .before .before .before .before .work-size .ensures))) (c .before .both3 .ensures)
+returns c =
+    let c₁ = c .before .before .before .before .before .before in
+    let c₂ = c₁ .before in
+    let c₃ = c₂ .before .before .before .before .before in
+    c .both4 .ensures ∙ ap₂ _&&_ (c .before .before .before .before .both2 .ensures ∙ ap₂ _&&_ (c₂ .both .ensures) (ap (eqb (c₃ .args .l .work)) (c₁ .work-size .ensures))) (c .before .both3 .ensures)
 
 pub written-ok-spec : {M : Type 1} → statement M
 written-ok-spec =

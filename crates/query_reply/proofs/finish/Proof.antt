@@ -30,10 +30,17 @@ same-length-5 : tie.Need-same-length-5
 same-length-5 c = search needs
 
 returns : tie.Need-returns
-returns c = record { over = λ f. over-is (now (c .before .before .before .before .before .before .before .before .before .before .before .before .before .before .before .before .before .before .before .before .before .before .before .before .before .before .args .labels)) (now (c .before .before .before .before .before .before .before .before .before .before .before .before .before .before .before .before .before .before .before .before .before .before .before .before .before .before .args .label-distances)) (now (c .before .before .before .before .before .before .before .before .before .before .before .before .before .before .before .before .before .before .before .before .before .before .before .before .before .before .args .work)) (now (c .before .before .before .before .before .before .before .before .before .before .before .before .before .before .before .before .before .before .before .before .before .before .before .before .before .before .args .queue-a)) (now (c .before .before .before .before .before .before .before .before .before .before .before .before .before .before .before .before .before .before .before .before .before .before .before .before .before .before .args .queue-b)) (now (c .before .before .before .before .before .before .before .before .before .before .before .before .before .before .before .before .before .before .before .before .before .before .before .before .before .before .args .candidates)) (c .before .before .before .before .before .before .clear-words .ensures) (c .before .before .zero-distances .ensures) (c .before .before .before .before .before .before .before .before .before .before .before .before .before .before .zero-work .ensures .0) (c .before .before .before .before .before .before .before .before .before .before .before .before .before .before .zero-work .ensures .1 .0) (c .before .before .before .before .before .before .before .before .before .before .before .before .before .before .zero-work .ensures .1 .1); replied = λ f. absurd (no-both (c .before .before .before .before .before .before .before .before .before .before .before .before .before .before .before .before .before .before .if1 .taken) f); rest = λ f. absurd (no-both (c .before .before .before .before .before .before .before .before .before .before .before .before .before .before .before .before .before .before .if1 .taken) f) }
+returns c =
+    let c₁ = c .before .before .before .before .before .before in
+    let c₂ = c₁ .before .before .before .before .before .before .before .before in
+    let c₃ = c₂ .before .before .before .before in
+    let c₄ = c₃ .before .before .before .before .before .before .before .before in
+    record { over = λ f. over-is (now (c₄ .args .labels)) (now (c₄ .args .label-distances)) (now (c₄ .args .work)) (now (c₄ .args .queue-a)) (now (c₄ .args .queue-b)) (now (c₄ .args .candidates)) (c₁ .clear-words .ensures) (c .before .before .zero-distances .ensures) (c₂ .zero-work .ensures .0) (c₂ .zero-work .ensures .1 .0) (c₂ .zero-work .ensures .1 .1); replied = λ f. absurd (no-both (c₃ .if1 .taken) f); rest = λ f. absurd (no-both (c₃ .if1 .taken) f) }
 
 reply-of-requires : tie.Need-reply-of-requires
-reply-of-requires c κs = (c .before .before .before .before .before .before .before .before .before .before .before .before .pre .0 (c .before .before .before .before .if1 .left), c .before .before .before .before .before .before .before .before .before .before .before .before .pre .1)
+reply-of-requires c κs =
+    let c₁ = c .before .before .before .before .before .before .before .before .before .before .before .before in
+    (c₁ .pre .0 (c .before .before .before .before .if1 .left), c₁ .pre .1)
 
 zero-work-requires-2 : tie.Need-zero-work-requires-2
 zero-work-requires-2 c κs = search needs
@@ -57,7 +64,12 @@ same-length-11 : tie.Need-same-length-11
 same-length-11 c = search needs
 
 returns-2 : tie.Need-returns-2
-returns-2 c = record { over = λ f. absurd (no-both f (c .before .before .before .before .before .before .before .before .before .before .before .before .before .before .before .before .before .if1 .left)); replied = λ f. c .before .before .before .before .before .before .before .before .before .before .before .before .reply-of .ensures; rest = λ f. rest-is (now (c .before .before .before .before .before .before .before .before .before .before .before .before .before .before .before .before .before .before .before .before .before .before .before .before .before .args .labels)) (now (c .before .before .before .before .before .before .before .before .before .before .before .before .before .before .before .before .before .before .before .before .before .before .before .before .before .args .label-distances)) (now (c .before .before .before .before .before .before .before .before .before .before .before .before .before .before .before .before .before .before .before .before .before .before .before .before .before .args .work)) (now (c .before .before .before .before .before .before .before .before .before .before .before .before .before .before .before .before .before .before .before .before .before .before .before .before .before .args .queue-a)) (now (c .before .before .before .before .before .before .before .before .before .before .before .before .before .before .before .before .before .before .before .before .before .before .before .before .before .args .queue-b)) (now (c .before .before .before .before .before .before .before .before .before .before .before .before .before .before .before .before .before .before .before .before .before .before .before .before .before .args .candidates)) (c .before .before .before .before .before .before .zero-work2 .ensures .0) (c .before .before .before .before .before .before .zero-work2 .ensures .1 .0) (c .before .before .before .before .before .before .zero-work2 .ensures .1 .1) }
+returns-2 c =
+    let c₁ = c .before .before .before .before .before .before in
+    let c₂ = c₁ .before .before .before .before .before .before in
+    let c₃ = c₂ .before .before .before .before .before in
+    let c₄ = c₃ .before .before .before .before .before .before .before .before in
+    record { over = λ f. absurd (no-both f (c₃ .if1 .left)); replied = λ f. c₂ .reply-of .ensures; rest = λ f. rest-is (now (c₄ .args .labels)) (now (c₄ .args .label-distances)) (now (c₄ .args .work)) (now (c₄ .args .queue-a)) (now (c₄ .args .queue-b)) (now (c₄ .args .candidates)) (c₁ .zero-work2 .ensures .0) (c₁ .zero-work2 .ensures .1 .0) (c₁ .zero-work2 .ensures .1 .1) }
 
 pub finish-spec : {M : Type 1} → statement M
 finish-spec =

@@ -11,7 +11,9 @@ egress-rows-requires : tie.Need-egress-rows-requires
 egress-rows-requires c κs = search needs
 
 best-target-requires : tie.Need-best-target-requires
-best-target-requires c κs = (c .before .before .before .before .before .before .pre .0 .earliest, egress-in (c .before .before .before .before .before .before .pre .0) (c .egress-rows .ensures))
+best-target-requires c κs =
+    let c₁ = c .before .before .before .before .before .before in
+    (c₁ .pre .0 .earliest, egress-in (c₁ .pre .0) (c .egress-rows .ensures))
 
 clear-words-requires : tie.Need-clear-words-requires
 clear-words-requires c κs = search needs
@@ -20,7 +22,11 @@ same-length : tie.Need-same-length
 same-length c = search needs
 
 returns : tie.Need-returns
-returns c = λ T Q a g. no-way T Q a g (targetOf (c .before .before .before .before .before .before .best-target .result)) _ (now (c .before .before .before .before .before .before .before .before .before .before .before .before .before .args .candidates)) _ (c .before .before .before .before .before .before .before .egress-rows .ensures) (c .before .before .before .before .before .before .best-target .ensures T Q a (g .reached)) (c .before .before .before .before .if1 .taken) (c .before .before .before .before .before .before .before .before .before .before .before .before .before .pre .1) (c .before .before .clear-words .ensures)
+returns c =
+    let c₁ = c .before .before .before .before .before .before in
+    let c₂ = c₁ .before in
+    let c₃ = c₂ .before .before .before .before .before .before in
+    λ T Q a g. no-way T Q a g (targetOf (c₁ .best-target .result)) _ (now (c₃ .args .candidates)) _ (c₂ .egress-rows .ensures) (c₁ .best-target .ensures T Q a (g .reached)) (c .before .before .before .before .if1 .taken) (c₃ .pre .1) (c .before .before .clear-words .ensures)
 
 shared-slice-read-tbr-max-rounds : tie.Need-shared-slice-read-tbr-max-rounds
 shared-slice-read-tbr-max-rounds c = search needs
@@ -32,7 +38,10 @@ tbr-max-rounds-requires : tie.Need-tbr-max-rounds-requires
 tbr-max-rounds-requires c κs = search needs
 
 candidates-requires : tie.Need-candidates-requires
-candidates-requires c κs = (c .before .before .before .before .before .before .before .before .before .before .before .before .before .pre .0 .labels-ok, (egress-in (c .before .before .before .before .before .before .before .before .before .before .before .before .before .pre .0) (c .before .before .before .before .before .before .before .egress-rows .ensures), (rounds-below _ _ _ (c .before .tbr-max-rounds .ensures), c .before .before .before .before .before .before .before .before .before .before .before .before .before .pre .1)))
+candidates-requires c κs =
+    let c₁ = c .before .before .before .before .before .before .before in
+    let c₂ = c₁ .before .before .before .before .before .before in
+    (c₂ .pre .0 .labels-ok, (egress-in (c₂ .pre .0) (c₁ .egress-rows .ensures), (rounds-below _ _ _ (c .before .tbr-max-rounds .ensures), c₂ .pre .1)))
 
 cast-t17 : tie.Need-cast-t17
 cast-t17 c = search needs

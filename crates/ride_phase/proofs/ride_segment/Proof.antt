@@ -23,22 +23,39 @@ delay-of-requires : tie.Need-delay-of-requires
 delay-of-requires c κs = let a = c .before .before .before .before .before .before .before .before .before .before .before .before .before .before .before .before in let x = a .args in let G = a .pre .0 in G .laid .netted .ground .delayRows
 
 scan-trip-forward-requires : tie.Need-scan-trip-forward-requires
-scan-trip-forward-requires c κs = let a = c .before .before .before .before .before .before .before .before .before .before .before .before .before .before .before .before .before .before .before .before .before .before in let x = a .args in let G = a .pre .0 in (G .laid .netted, (segment-riding G (x .p .context .flagged) (x .p .stamp - 2) (x .k) (now (x .from)) (a .pre .1) (c .before .before .before .before .before .before .before .before .before .before .ride-of .result) (c .before .before .before .before .before .before .before .before .before .before .ride-of .ensures) (c .before .before .before .before .before .delay-of .result) (c .before .before .before .before .before .delay-of .ensures .0), (segment-ready G (x .p .context .flagged) (x .p .stamp - 2) (x .k) (now (x .from)) (a .pre .1) (c .before .before .before .before .before .before .before .before .before .before .ride-of .result) (c .before .before .before .before .before .before .before .before .before .before .ride-of .ensures), G .room)))
+scan-trip-forward-requires c κs =
+    let c₁ = c .before .before .before .before .before in
+    let c₂ = c₁ .before .before .before .before .before in
+    let a = c₂ .before .before .before .before .before .before .before .before .before .before .before .before in
+    let x = a .args in let G = a .pre .0 in (G .laid .netted, (segment-riding G (x .p .context .flagged) (x .p .stamp - 2) (x .k) (now (x .from)) (a .pre .1) (c₂ .ride-of .result) (c₂ .ride-of .ensures) (c₁ .delay-of .result) (c₁ .delay-of .ensures .0), (segment-ready G (x .p .context .flagged) (x .p .stamp - 2) (x .k) (now (x .from)) (a .pre .1) (c₂ .ride-of .result) (c₂ .ride-of .ensures), G .room)))
 
 same-length : tie.Need-same-length
 same-length c = c .before .before .before .before .before .before .before .before .scan-trip-forward .ensures .same .size
 
 same-length-2 : tie.Need-same-length-2
-same-length-2 c = c .before .before .before .before .before .before .before .before .scan-trip-forward .ensures .ready .sized .rows ∙ sym (c .before .before .before .before .before .before .before .before .before .before .before .before .before .before .before .before .before .before .before .before .before .before .before .before .before .before .before .before .before .before .before .pre .0 .ready .sized .rows)
+same-length-2 c =
+    let c₁ = c .before .before .before .before .before .before .before .before in
+    let c₂ = c₁ .before .before .before .before .before .before .before .before .before .before .before .before .before .before .before .before .before .before .before .before .before .before .before in
+    c₁ .scan-trip-forward .ensures .ready .sized .rows ∙ sym (c₂ .pre .0 .ready .sized .rows)
 
 same-length-3 : tie.Need-same-length-3
-same-length-3 c = c .before .before .before .before .before .before .before .before .scan-trip-forward .ensures .ready .sized .metres ∙ sym (c .before .before .before .before .before .before .before .before .before .before .before .before .before .before .before .before .before .before .before .before .before .before .before .before .before .before .before .before .before .before .before .pre .0 .ready .sized .metres)
+same-length-3 c =
+    let c₁ = c .before .before .before .before .before .before .before .before in
+    let c₂ = c₁ .before .before .before .before .before .before .before .before .before .before .before .before .before .before .before .before .before .before .before .before .before .before .before in
+    c₁ .scan-trip-forward .ensures .ready .sized .metres ∙ sym (c₂ .pre .0 .ready .sized .metres)
 
 same-length-4 : tie.Need-same-length-4
 same-length-4 c = c .before .before .before .before .before .before .before .before .scan-trip-forward .ensures .size
 
 returns-2 : tie.Need-returns-2
-returns-2 c = let a = c .before .before .before .before .before .before .before .before .before .before .before .before .before .before .before .before .before .before .before .before .before .before .before .before .before .before .before .before .before .before .before in let x = a .args in let G = a .pre .0 in segment-ridden G (x .p .context .flagged) (x .p .stamp - 2) (x .k) (now (x .from)) (a .pre .1) (c .before .before .before .before .before .before .before .before .before .before .before .before .before .before .before .before .before .before .before .ride-of .result) (c .before .before .before .before .before .before .before .before .before .before .before .before .before .before .before .before .before .before .before .ride-of .ensures) (c .before .before .before .before .before .before .before .before .before .before .before .before .before .before .before .before .permitted .result) (c .before .before .before .before .before .before .before .before .before .before .before .before .before .before .before .before .permitted .ensures) (c .before .before .before .before .before .before .before .before .before .before .before .before .before .before .before .if1 .left) (c .before .before .before .before .before .before .before .before .before .before .before .before .before .before .delay-of .result) (c .before .before .before .before .before .before .before .before .before .before .before .before .before .before .delay-of .ensures .1) (c .before .before .before .before .before .before .before .before .scan-trip-forward .ensures)
+returns-2 c =
+    let c₁ = c .before .before .before .before .before .before .before .before in
+    let c₂ = c₁ .before .before .before .before .before .before in
+    let c₃ = c₂ .before in
+    let c₄ = c₃ .before in
+    let c₅ = c₄ .before .before .before in
+    let a = c₅ .before .before .before .before .before .before .before .before .before .before .before .before in
+    let x = a .args in let G = a .pre .0 in segment-ridden G (x .p .context .flagged) (x .p .stamp - 2) (x .k) (now (x .from)) (a .pre .1) (c₅ .ride-of .result) (c₅ .ride-of .ensures) (c₄ .permitted .result) (c₄ .permitted .ensures) (c₃ .if1 .left) (c₂ .delay-of .result) (c₂ .delay-of .ensures .1) (c₁ .scan-trip-forward .ensures)
 
 pub ride-segment-spec : {M : Type 1} → statement M
 ride-segment-spec =

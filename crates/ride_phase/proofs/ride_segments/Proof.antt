@@ -29,28 +29,57 @@ ride-segment-requires : tie.Need-ride-segment-requires Inv-loop μ-loop
 ride-segment-requires c κs = let a = c .before .before .before .before .before .before .before .before .before .before .before .before .before .before .before .before .before in let x = a .args in let G = a .pre .0 in let p = c .before .before .before .before .before .loop .inv in (going-on G p, segments-fewer _ (a .pre .1) (omega (arith, c .before .before .before .before .loop-test .taken)))
 
 same-length : tie.Need-same-length Inv-loop μ-loop
-same-length c = let a = c .before .before .before .before .before .before .before .before .before .before .before .before .before .before .before .before .before .before .before .before .before .before .before .before .before .before .before in let x = a .args in let G = a .pre .0 in let p = c .before .before .before .before .before .before .before .before .before .before .before .before .before .before .before .loop .inv in let z = c .before .before .before .before .before .before .before .before .before .ride-segment .ensures in z .step .kept .size ∙ p .kept .size
+same-length c =
+    let c₁ = c .before .before .before .before .before .before .before .before .before in
+    let c₂ = c₁ .before .before .before .before .before .before in
+    let a = c₂ .before .before .before .before .before .before .before .before .before .before .before .before in
+    let x = a .args in let G = a .pre .0 in let p = c₂ .loop .inv in let z = c₁ .ride-segment .ensures in z .step .kept .size ∙ p .kept .size
 
 same-length-2 : tie.Need-same-length-2 Inv-loop μ-loop
-same-length-2 c = let a = c .before .before .before .before .before .before .before .before .before .before .before .before .before .before .before .before .before .before .before .before .before .before .before .before .before .before .before in let x = a .args in let G = a .pre .0 in let p = c .before .before .before .before .before .before .before .before .before .before .before .before .before .before .before .loop .inv in let z = c .before .before .before .before .before .before .before .before .before .ride-segment .ensures in z .step .ready .sized .rows ∙ sym (G .ready .sized .rows)
+same-length-2 c =
+    let c₁ = c .before .before .before .before .before .before .before .before .before in
+    let c₂ = c₁ .before .before .before .before .before .before in
+    let a = c₂ .before .before .before .before .before .before .before .before .before .before .before .before in
+    let x = a .args in let G = a .pre .0 in let p = c₂ .loop .inv in let z = c₁ .ride-segment .ensures in z .step .ready .sized .rows ∙ sym (G .ready .sized .rows)
 
 same-length-3 : tie.Need-same-length-3 Inv-loop μ-loop
-same-length-3 c = let a = c .before .before .before .before .before .before .before .before .before .before .before .before .before .before .before .before .before .before .before .before .before .before .before .before .before .before .before in let x = a .args in let G = a .pre .0 in let p = c .before .before .before .before .before .before .before .before .before .before .before .before .before .before .before .loop .inv in let z = c .before .before .before .before .before .before .before .before .before .ride-segment .ensures in z .step .ready .sized .metres ∙ sym (G .ready .sized .metres)
+same-length-3 c =
+    let c₁ = c .before .before .before .before .before .before .before .before .before in
+    let c₂ = c₁ .before .before .before .before .before .before in
+    let a = c₂ .before .before .before .before .before .before .before .before .before .before .before .before in
+    let x = a .args in let G = a .pre .0 in let p = c₂ .loop .inv in let z = c₁ .ride-segment .ensures in z .step .ready .sized .metres ∙ sym (G .ready .sized .metres)
 
 same-length-4 : tie.Need-same-length-4 Inv-loop μ-loop
-same-length-4 c = let a = c .before .before .before .before .before .before .before .before .before .before .before .before .before .before .before .before .before .before .before .before .before .before .before .before .before .before .before in let x = a .args in let G = a .pre .0 in let p = c .before .before .before .before .before .before .before .before .before .before .before .before .before .before .before .loop .inv in let z = c .before .before .before .before .before .before .before .before .before .ride-segment .ensures in z .step .size ∙ p .size
+same-length-4 c =
+    let c₁ = c .before .before .before .before .before .before .before .before .before in
+    let c₂ = c₁ .before .before .before .before .before .before in
+    let a = c₂ .before .before .before .before .before .before .before .before .before .before .before .before in
+    let x = a .args in let G = a .pre .0 in let p = c₂ .loop .inv in let z = c₁ .ride-segment .ensures in z .step .size ∙ p .size
 
 returns : tie.Need-returns Inv-loop μ-loop
-returns c = let a = c .before .before .before .before .before .before .before .before .before .before .before .before .before .before .before .before .before .before .before .before .before .before .before .before .before .before .before in let x = a .args in let G = a .pre .0 in let p = c .before .before .before .before .before .before .before .before .before .before .before .before .before .before .before .loop .inv in let z = c .before .before .before .before .before .before .before .before .before .ride-segment .ensures in ride-over (λ T Q. segmentsFrom T Q (x .p .context .flagged) (x .p .stamp - 2) (x .p .stamp) (now (x .from)) (x .m) (c .before .before .before .before .before .before .before .before .before .before .before .before .before .before .before .loop .k + 1)) p z (λ T Q y. rides-kept (G .laid) (p .kept) y) (λ T Q y s e. segments-turn T Q (x .p .context .flagged) (x .p .stamp - 2) (x .p .stamp) (now (x .from)) (x .m) (c .before .before .before .before .before .before .before .before .before .before .before .before .before .before .before .loop .k) s (c .before .before .before .before .before .before .before .before .before .before .before .before .before .before .loop-test .taken)) (c .if1 .taken) (λ T Q s. segments-later T Q (x .p .context .flagged) (x .p .stamp - 2) (x .p .stamp) _ s .queue)
+returns c =
+    let c₁ = c .before .before .before .before .before .before .before .before .before in
+    let c₂ = c₁ .before .before .before .before .before in
+    let c₃ = c₂ .before in
+    let a = c₃ .before .before .before .before .before .before .before .before .before .before .before .before in
+    let x = a .args in let G = a .pre .0 in let p = c₃ .loop .inv in let z = c₁ .ride-segment .ensures in ride-over (λ T Q. segmentsFrom T Q (x .p .context .flagged) (x .p .stamp - 2) (x .p .stamp) (now (x .from)) (x .m) (c₃ .loop .k + 1)) p z (λ T Q y. rides-kept (G .laid) (p .kept) y) (λ T Q y s e. segments-turn T Q (x .p .context .flagged) (x .p .stamp - 2) (x .p .stamp) (now (x .from)) (x .m) (c₃ .loop .k) s (c₂ .loop-test .taken)) (c .if1 .taken) (λ T Q s. segments-later T Q (x .p .context .flagged) (x .p .stamp - 2) (x .p .stamp) _ s .queue)
 
 add-k : tie.Need-add-k Inv-loop μ-loop
-add-k c = let a = c .before .before .before .before .before .before .before .before .before .before .before .before .before .before .before .before .before .before .before .before .before .before .before .before .before .before .before in omega (arith, a .fits .m .fits, c .before .before .before .before .before .before .before .before .before .before .before .before .before .before .loop-test .taken)
+add-k c =
+    let c₁ = c .before .before .before .before .before .before .before .before .before .before .before .before .before .before in
+    let a = c₁ .before .before .before .before .before .before .before .before .before .before .before .before .before in
+    omega (arith, a .fits .m .fits, c₁ .loop-test .taken)
 
 loop-less : tie.Need-loop-less Inv-loop μ-loop
 loop-less c = omega arith
 
 loop-again : tie.Need-loop-again Inv-loop μ-loop
-loop-again c = let a = c .before .before .before .before .before .before .before .before .before .before .before .before .before .before .before .before .before .before .before .before .before .before .before .before .before .before .before in let x = a .args in let G = a .pre .0 in let p = c .before .before .before .before .before .before .before .before .before .before .before .before .before .before .before .loop .inv in let z = c .before .before .before .before .before .before .before .before .before .ride-segment .ensures in ride-turn _ p z (λ T Q y. rides-kept (G .laid) (p .kept) y) (λ T Q y s e. segments-turn T Q (x .p .context .flagged) (x .p .stamp - 2) (x .p .stamp) (now (x .from)) (x .m) (c .before .before .before .before .before .before .before .before .before .before .before .before .before .before .before .loop .k) s (c .before .before .before .before .before .before .before .before .before .before .before .before .before .before .loop-test .taken)) (c .if1 .left)
+loop-again c =
+    let c₁ = c .before .before .before .before .before .before .before .before .before in
+    let c₂ = c₁ .before .before .before .before .before in
+    let c₃ = c₂ .before in
+    let a = c₃ .before .before .before .before .before .before .before .before .before .before .before .before in
+    let x = a .args in let G = a .pre .0 in let p = c₃ .loop .inv in let z = c₁ .ride-segment .ensures in ride-turn _ p z (λ T Q y. rides-kept (G .laid) (p .kept) y) (λ T Q y s e. segments-turn T Q (x .p .context .flagged) (x .p .stamp - 2) (x .p .stamp) (now (x .from)) (x .m) (c₃ .loop .k) s (c₂ .loop-test .taken)) (c .if1 .left)
 
 same-length-5 : tie.Need-same-length-5 Inv-loop μ-loop
 same-length-5 c = let a = c .before .before .before .before .before .before .before .before .before .before .before .before .before in let x = a .args in let G = a .pre .0 in let p = c .before .loop .inv in p .kept .size

@@ -38,16 +38,29 @@ same-length : tie.Need-same-length
 same-length c = c .before .before .before .before .before .before .before .before .scan-departures .ensures .step .kept .size
 
 same-length-2 : tie.Need-same-length-2
-same-length-2 c = c .before .before .before .before .before .before .before .before .scan-departures .ensures .step .ready .sized .rows ∙ sym (c .before .before .before .before .before .before .before .before .before .before .before .before .before .before .before .before .before .before .before .before .before .before .before .before .before .before .before .before .before .before .pre .0 .ready .sized .rows)
+same-length-2 c =
+    let c₁ = c .before .before .before .before .before .before .before .before in
+    let c₂ = c₁ .before .before .before .before .before .before .before .before .before .before .before .before .before .before .before .before .before .before .before .before .before .before in
+    c₁ .scan-departures .ensures .step .ready .sized .rows ∙ sym (c₂ .pre .0 .ready .sized .rows)
 
 same-length-3 : tie.Need-same-length-3
-same-length-3 c = c .before .before .before .before .before .before .before .before .scan-departures .ensures .step .ready .sized .metres ∙ sym (c .before .before .before .before .before .before .before .before .before .before .before .before .before .before .before .before .before .before .before .before .before .before .before .before .before .before .before .before .before .before .pre .0 .ready .sized .metres)
+same-length-3 c =
+    let c₁ = c .before .before .before .before .before .before .before .before in
+    let c₂ = c₁ .before .before .before .before .before .before .before .before .before .before .before .before .before .before .before .before .before .before .before .before .before .before in
+    c₁ .scan-departures .ensures .step .ready .sized .metres ∙ sym (c₂ .pre .0 .ready .sized .metres)
 
 same-length-4 : tie.Need-same-length-4
 same-length-4 c = c .before .before .before .before .before .before .before .before .scan-departures .ensures .step .size
 
 returns-2 : tie.Need-returns-2
-returns-2 c = let a = c .before .before .before .before .before .before .before .before .before .before .before .before .before .before .before .before .before .before .before .before .before .before .before .before .before .before .before .before .before .before in let x = a .args in let G = a .pre .0 in stop-scanned G (x .p .context .flagged) (x .p .stamp - 2) (x .p .change) (x .x) (a .pre .1 .0) (a .pre .1 .1 .0) (c .before .before .before .before .before .before .before .before .before .before .before .before .before .before .before .before .if1 .left) _ refl (c .before .before .before .before .before .before .before .before .before .before .before .before .before .before .before .marked .result) (c .before .before .before .before .before .before .before .before .before .before .before .before .before .before .before .marked .ensures) _ (c .before .before .before .before .before .before .before .before .before .before .before .before .before .before .less .ensures) (now (c .before .before .before .before .before .before .before .before .before .before .before .before .before .departures-from .result)) (c .before .before .before .before .before .before .before .before .before .before .before .before .before .departures-from .ensures .1) (c .before .before .before .before .before .before .before .before .scan-departures .ensures)
+returns-2 c =
+    let c₁ = c .before .before .before .before .before .before .before .before in
+    let c₂ = c₁ .before .before .before .before .before in
+    let c₃ = c₂ .before in
+    let c₄ = c₃ .before in
+    let c₅ = c₄ .before in
+    let a = c₅ .before .before .before .before .before .before .before .before .before .before .before .before .before .before in
+    let x = a .args in let G = a .pre .0 in stop-scanned G (x .p .context .flagged) (x .p .stamp - 2) (x .p .change) (x .x) (a .pre .1 .0) (a .pre .1 .1 .0) (c₅ .if1 .left) _ refl (c₄ .marked .result) (c₄ .marked .ensures) _ (c₃ .less .ensures) (now (c₂ .departures-from .result)) (c₂ .departures-from .ensures .1) (c₁ .scan-departures .ensures)
 
 pub scan-stop-spec : {M : Type 1} → statement M
 scan-stop-spec =

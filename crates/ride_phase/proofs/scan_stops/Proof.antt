@@ -40,31 +40,65 @@ cast-x : tie.Need-cast-x Inv-loop μ-loop
 cast-x c = let a = c .before .before .before .before .before .before .before .before .before .before .before .before .before .before in let x = a .args in let G = a .pre .0 in let p = c .before .before .before .loop .inv in let W = waiting-kept (a .pre .1 .0) (p .kept) (p .falls) in let s = p .ready .sized .sections in omega (arith, W .inside (c .before .before .before .loop .i) (c .before .before .loop-test .taken), s .stops)
 
 scan-stop-requires : tie.Need-scan-stop-requires Inv-loop μ-loop
-scan-stop-requires c κs = let a = c .before .before .before .before .before .before .before .before .before .before .before .before .before .before .before .before .before .before in let x = a .args in let G = a .pre .0 in let p = c .before .before .before .before .before .before .before .loop .inv in let W = waiting-kept (a .pre .1 .0) (p .kept) (p .falls) in let s = p .ready .sized .sections in (going-on G p, (omega (arith, W .inside (c .before .before .before .before .before .before .before .loop .i) (c .before .before .before .before .before .before .loop-test .taken), G .laid .netted .stops), (W .early (c .before .before .before .before .before .before .before .loop .i) (c .before .before .before .before .before .before .loop-test .taken), a .pre .1 .1)))
+scan-stop-requires c κs =
+    let c₁ = c .before .before .before .before .before .before in
+    let c₂ = c₁ .before in
+    let a = c₂ .before .before .before .before .before .before .before .before .before .before .before in
+    let x = a .args in let G = a .pre .0 in let p = c₂ .loop .inv in let W = waiting-kept (a .pre .1 .0) (p .kept) (p .falls) in let s = p .ready .sized .sections in (going-on G p, (omega (arith, W .inside (c₂ .loop .i) (c₁ .loop-test .taken), G .laid .netted .stops), (W .early (c₂ .loop .i) (c₁ .loop-test .taken), a .pre .1 .1)))
 
 same-length : tie.Need-same-length Inv-loop μ-loop
-same-length c = let a = c .before .before .before .before .before .before .before .before .before .before .before .before .before .before .before .before .before .before .before .before .before .before .before .before .before .before .before .before in let x = a .args in let G = a .pre .0 in let p = c .before .before .before .before .before .before .before .before .before .before .before .before .before .before .before .before .before .loop .inv in let z = c .before .before .before .before .before .before .before .before .before .scan-stop .ensures in z .step .kept .size ∙ p .kept .size
+same-length c =
+    let c₁ = c .before .before .before .before .before .before .before .before .before in
+    let c₂ = c₁ .before .before .before .before .before .before .before .before in
+    let a = c₂ .before .before .before .before .before .before .before .before .before .before .before in
+    let x = a .args in let G = a .pre .0 in let p = c₂ .loop .inv in let z = c₁ .scan-stop .ensures in z .step .kept .size ∙ p .kept .size
 
 same-length-2 : tie.Need-same-length-2 Inv-loop μ-loop
-same-length-2 c = let a = c .before .before .before .before .before .before .before .before .before .before .before .before .before .before .before .before .before .before .before .before .before .before .before .before .before .before .before .before in let x = a .args in let G = a .pre .0 in let p = c .before .before .before .before .before .before .before .before .before .before .before .before .before .before .before .before .before .loop .inv in let z = c .before .before .before .before .before .before .before .before .before .scan-stop .ensures in z .step .ready .sized .rows ∙ sym (G .ready .sized .rows)
+same-length-2 c =
+    let c₁ = c .before .before .before .before .before .before .before .before .before in
+    let c₂ = c₁ .before .before .before .before .before .before .before .before in
+    let a = c₂ .before .before .before .before .before .before .before .before .before .before .before in
+    let x = a .args in let G = a .pre .0 in let p = c₂ .loop .inv in let z = c₁ .scan-stop .ensures in z .step .ready .sized .rows ∙ sym (G .ready .sized .rows)
 
 same-length-3 : tie.Need-same-length-3 Inv-loop μ-loop
-same-length-3 c = let a = c .before .before .before .before .before .before .before .before .before .before .before .before .before .before .before .before .before .before .before .before .before .before .before .before .before .before .before .before in let x = a .args in let G = a .pre .0 in let p = c .before .before .before .before .before .before .before .before .before .before .before .before .before .before .before .before .before .loop .inv in let z = c .before .before .before .before .before .before .before .before .before .scan-stop .ensures in z .step .ready .sized .metres ∙ sym (G .ready .sized .metres)
+same-length-3 c =
+    let c₁ = c .before .before .before .before .before .before .before .before .before in
+    let c₂ = c₁ .before .before .before .before .before .before .before .before in
+    let a = c₂ .before .before .before .before .before .before .before .before .before .before .before in
+    let x = a .args in let G = a .pre .0 in let p = c₂ .loop .inv in let z = c₁ .scan-stop .ensures in z .step .ready .sized .metres ∙ sym (G .ready .sized .metres)
 
 same-length-4 : tie.Need-same-length-4 Inv-loop μ-loop
-same-length-4 c = let a = c .before .before .before .before .before .before .before .before .before .before .before .before .before .before .before .before .before .before .before .before .before .before .before .before .before .before .before .before in let x = a .args in let G = a .pre .0 in let p = c .before .before .before .before .before .before .before .before .before .before .before .before .before .before .before .before .before .loop .inv in let z = c .before .before .before .before .before .before .before .before .before .scan-stop .ensures in z .step .size ∙ p .size
+same-length-4 c =
+    let c₁ = c .before .before .before .before .before .before .before .before .before in
+    let c₂ = c₁ .before .before .before .before .before .before .before .before in
+    let a = c₂ .before .before .before .before .before .before .before .before .before .before .before in
+    let x = a .args in let G = a .pre .0 in let p = c₂ .loop .inv in let z = c₁ .scan-stop .ensures in z .step .size ∙ p .size
 
 returns : tie.Need-returns Inv-loop μ-loop
-returns c = let a = c .before .before .before .before .before .before .before .before .before .before .before .before .before .before .before .before .before .before .before .before .before .before .before .before .before .before .before .before in let x = a .args in let G = a .pre .0 in let p = c .before .before .before .before .before .before .before .before .before .before .before .before .before .before .before .before .before .loop .inv in let z = c .before .before .before .before .before .before .before .before .before .scan-stop .ensures in ride-over (λ T Q. scanStops T Q (x .p .context .flagged) (x .p .stamp - 2) (x .p .stamp) (drop (c .before .before .before .before .before .before .before .before .before .before .before .before .before .before .before .before .before .loop .i + 1) (part (now (x .work)) (x .p .context .lay .other) (x .count)))) p z (λ T Q y. changing-kept (G .laid) (p .kept) y) (λ T Q y s v. stops-turn T Q (x .p .context .flagged) (x .p .stamp - 2) (x .p .stamp) (part (now (x .work)) (x .p .context .lay .other) (x .count)) (c .before .before .before .before .before .before .before .before .before .before .before .before .before .before .before .before .before .loop .i) _ s (other-in (c .before .before .before .before .before .before .before .before .before .before .before .before .before .before .before .before .before .loop .i) (a .pre .1 .0) (p .kept) (c .before .before .before .before .before .before .before .before .before .before .before .before .before .before .before .before .loop-test .taken)) (omega (arith, other-length (a .pre .1 .0) (G .ready .sized), c .before .before .before .before .before .before .before .before .before .before .before .before .before .before .before .before .loop-test .taken))) (c .if1 .taken) (λ T Q s. stops-later T Q (x .p .context .flagged) (x .p .stamp - 2) (x .p .stamp) _ s .queue)
+returns c =
+    let c₁ = c .before .before .before .before .before .before .before .before .before in
+    let c₂ = c₁ .before .before .before .before .before .before .before in
+    let c₃ = c₂ .before in
+    let a = c₃ .before .before .before .before .before .before .before .before .before .before .before in
+    let x = a .args in let G = a .pre .0 in let p = c₃ .loop .inv in let z = c₁ .scan-stop .ensures in ride-over (λ T Q. scanStops T Q (x .p .context .flagged) (x .p .stamp - 2) (x .p .stamp) (drop (c₃ .loop .i + 1) (part (now (x .work)) (x .p .context .lay .other) (x .count)))) p z (λ T Q y. changing-kept (G .laid) (p .kept) y) (λ T Q y s v. stops-turn T Q (x .p .context .flagged) (x .p .stamp - 2) (x .p .stamp) (part (now (x .work)) (x .p .context .lay .other) (x .count)) (c₃ .loop .i) _ s (other-in (c₃ .loop .i) (a .pre .1 .0) (p .kept) (c₂ .loop-test .taken)) (omega (arith, other-length (a .pre .1 .0) (G .ready .sized), c₂ .loop-test .taken))) (c .if1 .taken) (λ T Q s. stops-later T Q (x .p .context .flagged) (x .p .stamp - 2) (x .p .stamp) _ s .queue)
 
 add-i : tie.Need-add-i Inv-loop μ-loop
-add-i c = let a = c .before .before .before .before .before .before .before .before .before .before .before .before .before .before .before .before .before .before .before .before .before .before .before .before .before .before .before .before in let x = a .args in let G = a .pre .0 in let p = c .before .before .before .before .before .before .before .before .before .before .before .before .before .before .before .before .before .loop .inv in let W = waiting-kept (a .pre .1 .0) (p .kept) (p .falls) in let s = p .ready .sized .sections in omega (arith, W .few, s .stops, c .before .before .before .before .before .before .before .before .before .before .before .before .before .before .before .before .loop-test .taken)
+add-i c =
+    let c₁ = c .before .before .before .before .before .before .before .before .before .before .before .before .before .before .before .before in
+    let c₂ = c₁ .before in
+    let a = c₂ .before .before .before .before .before .before .before .before .before .before .before in
+    let x = a .args in let G = a .pre .0 in let p = c₂ .loop .inv in let W = waiting-kept (a .pre .1 .0) (p .kept) (p .falls) in let s = p .ready .sized .sections in omega (arith, W .few, s .stops, c₁ .loop-test .taken)
 
 loop-less : tie.Need-loop-less Inv-loop μ-loop
 loop-less c = omega arith
 
 loop-again : tie.Need-loop-again Inv-loop μ-loop
-loop-again c = let a = c .before .before .before .before .before .before .before .before .before .before .before .before .before .before .before .before .before .before .before .before .before .before .before .before .before .before .before .before in let x = a .args in let G = a .pre .0 in let p = c .before .before .before .before .before .before .before .before .before .before .before .before .before .before .before .before .before .loop .inv in let z = c .before .before .before .before .before .before .before .before .before .scan-stop .ensures in ride-turn _ p z (λ T Q y. changing-kept (G .laid) (p .kept) y) (λ T Q y s v. stops-turn T Q (x .p .context .flagged) (x .p .stamp - 2) (x .p .stamp) (part (now (x .work)) (x .p .context .lay .other) (x .count)) (c .before .before .before .before .before .before .before .before .before .before .before .before .before .before .before .before .before .loop .i) _ s (other-in (c .before .before .before .before .before .before .before .before .before .before .before .before .before .before .before .before .before .loop .i) (a .pre .1 .0) (p .kept) (c .before .before .before .before .before .before .before .before .before .before .before .before .before .before .before .before .loop-test .taken)) (omega (arith, other-length (a .pre .1 .0) (G .ready .sized), c .before .before .before .before .before .before .before .before .before .before .before .before .before .before .before .before .loop-test .taken))) (c .if1 .left)
+loop-again c =
+    let c₁ = c .before .before .before .before .before .before .before .before .before in
+    let c₂ = c₁ .before .before .before .before .before .before .before in
+    let c₃ = c₂ .before in
+    let a = c₃ .before .before .before .before .before .before .before .before .before .before .before in
+    let x = a .args in let G = a .pre .0 in let p = c₃ .loop .inv in let z = c₁ .scan-stop .ensures in ride-turn _ p z (λ T Q y. changing-kept (G .laid) (p .kept) y) (λ T Q y s v. stops-turn T Q (x .p .context .flagged) (x .p .stamp - 2) (x .p .stamp) (part (now (x .work)) (x .p .context .lay .other) (x .count)) (c₃ .loop .i) _ s (other-in (c₃ .loop .i) (a .pre .1 .0) (p .kept) (c₂ .loop-test .taken)) (omega (arith, other-length (a .pre .1 .0) (G .ready .sized), c₂ .loop-test .taken))) (c .if1 .left)
 
 same-length-5 : tie.Need-same-length-5 Inv-loop μ-loop
 same-length-5 c = let a = c .before .before .before .before .before .before .before .before .before .before .before .before in let x = a .args in let G = a .pre .0 in let p = c .before .loop .inv in p .kept .size

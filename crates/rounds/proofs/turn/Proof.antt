@@ -5,7 +5,9 @@ use Rattle.rounds.proofs.turn.Statement.{statement}
 use Rattle.rounds.proofs.turn.Tie as tie
 
 round-requires : tie.Need-round-requires
-round-requires c κs = let x = c .before .before .before .before .before .before .before .before .before .before .before .before .before .before .before .before .before .before .args in let qa = now (x .queue-a) in let qb = now (x .queue-b) in even-open qa qb (x .at .even) (c .before .before .before .before .before .if1 .taken) (c .before .before .before .before .before .before .before .before .before .before .before .before .before .before .before .before .before .before .pre)
+round-requires c κs =
+    let c₁ = c .before .before .before .before .before .before .before .before .before .before .before .before .before .before .before .before .before .before in
+    let x = c₁ .args in let qa = now (x .queue-a) in let qb = now (x .queue-b) in even-open qa qb (x .at .even) (c .before .before .before .before .before .if1 .taken) (c₁ .pre)
 
 same-length : tie.Need-same-length
 same-length c = search needs
@@ -23,10 +25,16 @@ same-length-5 : tie.Need-same-length-5
 same-length-5 c = search needs
 
 returns : tie.Need-returns
-returns c = let x = c .before .before .before .before .before .before .before .before .before .before .before .before .before .before .before .before .before .before .before .before .before .before .before .before .before .before .before .args in let qa = now (x .queue-a) in let qb = now (x .queue-b) in even-close qa qb (x .at .even) _ _ (c .before .before .before .before .before .before .before .before .before .before .before .before .before .before .if1 .taken) (c .before .before .before .before .before .before .before .before .round .ensures)
+returns c =
+    let c₁ = c .before .before .before .before .before .before .before .before in
+    let c₂ = c₁ .before .before .before .before .before .before in
+    let c₃ = c₂ .before .before .before .before .before .before .before .before .before .before .before .before .before in
+    let x = c₃ .args in let qa = now (x .queue-a) in let qb = now (x .queue-b) in even-close qa qb (x .at .even) _ _ (c₂ .if1 .taken) (c₁ .round .ensures)
 
 round-requires-2 : tie.Need-round-requires-2
-round-requires-2 c κs = let x = c .before .before .before .before .before .before .before .before .before .before .before .before .before .before .before .before .before .before .args in let qa = now (x .queue-a) in let qb = now (x .queue-b) in odd-open qa qb (x .at .even) (c .before .before .before .before .before .if1 .left) (c .before .before .before .before .before .before .before .before .before .before .before .before .before .before .before .before .before .before .pre)
+round-requires-2 c κs =
+    let c₁ = c .before .before .before .before .before .before .before .before .before .before .before .before .before .before .before .before .before .before in
+    let x = c₁ .args in let qa = now (x .queue-a) in let qb = now (x .queue-b) in odd-open qa qb (x .at .even) (c .before .before .before .before .before .if1 .left) (c₁ .pre)
 
 same-length-6 : tie.Need-same-length-6
 same-length-6 c = search needs
@@ -44,7 +52,11 @@ same-length-10 : tie.Need-same-length-10
 same-length-10 c = search needs
 
 returns-2 : tie.Need-returns-2
-returns-2 c = let x = c .before .before .before .before .before .before .before .before .before .before .before .before .before .before .before .before .before .before .before .before .before .before .before .before .before .before .before .args in let qa = now (x .queue-a) in let qb = now (x .queue-b) in odd-close qa qb (x .at .even) _ _ (c .before .before .before .before .before .before .before .before .before .before .before .before .before .before .if1 .left) (c .before .before .before .before .before .before .before .before .round2 .ensures)
+returns-2 c =
+    let c₁ = c .before .before .before .before .before .before .before .before in
+    let c₂ = c₁ .before .before .before .before .before .before in
+    let c₃ = c₂ .before .before .before .before .before .before .before .before .before .before .before .before .before in
+    let x = c₃ .args in let qa = now (x .queue-a) in let qb = now (x .queue-b) in odd-close qa qb (x .at .even) _ _ (c₂ .if1 .left) (c₁ .round2 .ensures)
 
 pub turn-spec : {M : Type 1} → statement M
 turn-spec =

@@ -15,13 +15,21 @@ clear-part-requires : tie.Need-clear-part-requires
 clear-part-requires c κs = search needs
 
 put-egresses-requires : tie.Need-put-egresses-requires
-put-egresses-requires c κs = let a = c .before .before .before .before .before .before .before .before .before in let x = a .args in (sized-same (a .pre .0) (c .before .before .before .clear-part .ensures .size), (a .pre .1, egress-none (x .lay) (now (x .work)) _ (rw (c .before .before .before .before .before .before .rest-at .ensures) at (c .before .before .before .clear-part .ensures))))
+put-egresses-requires c κs =
+    let c₁ = c .before .before .before in
+    let c₂ = c₁ .before .before .before in
+    let a = c₂ .before .before .before in
+    let x = a .args in (sized-same (a .pre .0) (c₁ .clear-part .ensures .size), (a .pre .1, egress-none (x .lay) (now (x .work)) _ (rw (c₂ .rest-at .ensures) at (c₁ .clear-part .ensures))))
 
 same-length : tie.Need-same-length
 same-length c = search needs
 
 returns : tie.Need-returns
-returns c = let a = c .before .before .before .before .before .before .before .before .before .before .before .before in let x = a .args in egress-from (x .lay) (now (x .work)) _ _ _ (rw (c .before .before .before .before .before .before .before .before .before .rest-at .ensures) at (c .before .before .before .before .before .before .clear-part .ensures)) (c .before .before .put-egresses .ensures)
+returns c =
+    let c₁ = c .before .before .before .before .before .before in
+    let c₂ = c₁ .before .before .before in
+    let a = c₂ .before .before .before in
+    let x = a .args in egress-from (x .lay) (now (x .work)) _ _ _ (rw (c₂ .rest-at .ensures) at (c₁ .clear-part .ensures)) (c .before .before .put-egresses .ensures)
 
 pub fill-egress-spec : {M : Type 1} → statement M
 fill-egress-spec =

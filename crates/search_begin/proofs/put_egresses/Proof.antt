@@ -34,7 +34,10 @@ loop-less : tie.Need-loop-less Inv-loop μ-loop
 loop-less c = omega arith
 
 loop-again : tie.Need-loop-again Inv-loop μ-loop
-loop-again c = let a = c .before .before .before .before .before .before .before .before in let x = a .args in let v = c .before .before .before .before .before .loop .inv in let g = egress-again (x .lay) (now (x .query)) (x .first) (c .before .before .before .before .before .loop .k) (x .n) (now (x .work)) _ _ (v .2) (omega (arith, a .pre .0 .words)) (c .before .before .before .before .loop-test .taken) (v .0) (v .3) (c .before .before .put-egress .ensures) in (omega (arith, v .0), sized-same (a .pre .0) (g .size), v .2, g)
+loop-again c =
+    let c₁ = c .before .before .before .before .before in
+    let a = c₁ .before .before .before in
+    let x = a .args in let v = c₁ .loop .inv in let g = egress-again (x .lay) (now (x .query)) (x .first) (c₁ .loop .k) (x .n) (now (x .work)) _ _ (v .2) (omega (arith, a .pre .0 .words)) (c .before .before .before .before .loop-test .taken) (v .0) (v .3) (c .before .before .put-egress .ensures) in (omega (arith, v .0), sized-same (a .pre .0) (g .size), v .2, g)
 
 same-length : tie.Need-same-length Inv-loop μ-loop
 same-length c = c .before .loop .inv .3 .size

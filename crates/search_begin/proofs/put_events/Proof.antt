@@ -21,7 +21,9 @@ events-at-requires : tie.Need-events-at-requires Inv-loop μ-loop
 events-at-requires c κs = few-of (c .before .before .before .pre .1 .1)
 
 loop-holds : tie.Need-loop-holds Inv-loop μ-loop
-loop-holds c = running-none (now (c .before .before .before .before .args .tables)) (c .before .before .before .before .args .n .timetable) _ (c .before .before .before .before .args .lay .trips) (now (c .before .before .before .before .args .work)) (ap (λ (k : Lay). k .trips) (c .before .before .before .before .pre .1 .0)) (c .before .before .before .before .pre .0) (omega (arith, c .events-at .ensures, c .before .before .before .before .pre .1 .1 .words))
+loop-holds c =
+    let c₁ = c .before .before .before .before in
+    running-none (now (c₁ .args .tables)) (c₁ .args .counts .timetable) _ (c₁ .args .lay .trips) (now (c₁ .args .work)) (ap (λ (k : Lay). k .trips) (c₁ .pre .1 .0)) (c₁ .pre .0) (omega (arith, c .events-at .ensures, c₁ .pre .1 .1 .words))
 
 cast-work : tie.Need-cast-work Inv-loop μ-loop
 cast-work c = let r = c .before .loop .inv in omega (arith, r .small, r .few, r .trips-are, r .sane .counts .trips)

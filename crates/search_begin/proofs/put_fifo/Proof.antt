@@ -36,13 +36,19 @@ part-line-fifo-end : tie.Need-part-line-fifo-end
 part-line-fifo-end c = search needs
 
 line-fifo-requires : tie.Need-line-fifo-requires
-line-fifo-requires c κs = let e = ap (λ (k : Lay). k .lines) (c .before .before .before .before .before .before .before .before .pre .1 .1 .0) in (c .before .before .before .before .before .before .before .before .pre .1 .0, (lines-read (c .before .before .before .before .before .before .before .before .pre .0 .lines) (c .before .before .line-runs .ensures) (c .before .line-entries .ensures), part-long (c .before .before .before .before .fifo-at .result) (c .before .before .before .before .fifo-at .result + c .before .before .before .before .before .before .before .before .args .lay .lines) (c .before .before .before .before .before .before .before .before .args .n .lines) (now (c .before .before .before .before .before .before .before .before .args .work)) (omega (arith, e)) (omega (arith, c .before .before .before .before .fifo-at .ensures, c .before .before .before .before .before .before .before .before .pre .1 .1 .1 .words))))
+line-fifo-requires c κs =
+    let c₁ = c .before .before .before .before in
+    let c₂ = c₁ .before .before .before .before in
+    let e = ap (λ (k : Lay). k .lines) (c₂ .pre .1 .1 .0) in (c₂ .pre .1 .0, (lines-read (c₂ .pre .0 .lines) (c .before .before .line-runs .ensures) (c .before .line-entries .ensures), part-long (c₁ .fifo-at .result) (c₁ .fifo-at .result + c₂ .args .lay .lines) (c₂ .args .counts .lines) (now (c₂ .args .work)) (omega (arith, e)) (omega (arith, c₁ .fifo-at .ensures, c₂ .pre .1 .1 .1 .words))))
 
 same-length : tie.Need-same-length
 same-length c = search needs
 
 returns : tie.Need-returns
-returns c = rw (c .before .before .before .before .before .before .before .fifo-at .ensures) (put-part _ _ (c .before .before .before .before .before .before .before .before .before .before .before .args .lay .lines) _ (now (c .before .before .before .before .before .before .before .before .before .before .before .args .work)) _ refl (omega (arith, c .before .before .before .before .before .before .before .before .before .before .before .pre .1 .1 .1 .words)) (fifos-read (timetable (now (c .before .before .before .before .before .before .before .before .before .before .before .args .tables)) (c .before .before .before .before .before .before .before .before .before .before .before .args .n .timetable)) (c .before .before .before .before .before .before .before .before .before .before .before .args .n .lines) (c .before .before .before .before .before .before .before .before .before .before .before .args .lay .lines) _ _ _ (lineRuns (now (c .before .before .before .before .before .before .before .before .before .before .before .args .built)) (c .before .before .before .before .before .before .before .before .before .before .before .args .n)) (lineEntries (now (c .before .before .before .before .before .before .before .before .before .before .before .args .built)) (c .before .before .before .before .before .before .before .before .before .before .before .args .n)) (c .before .before .line-fifo .ensures) (c .before .before .before .before .before .line-runs .ensures) (c .before .before .before .before .line-entries .ensures) (ap (λ (k : Lay). k .lines) (c .before .before .before .before .before .before .before .before .before .before .before .pre .1 .1 .0))))
+returns c =
+    let c₁ = c .before .before .before .before .before .before .before in
+    let c₂ = c₁ .before .before .before .before in
+    rw (c₁ .fifo-at .ensures) (put-part _ _ (c₂ .args .lay .lines) _ (now (c₂ .args .work)) _ refl (omega (arith, c₂ .pre .1 .1 .1 .words)) (fifos-read (timetable (now (c₂ .args .tables)) (c₂ .args .counts .timetable)) (c₂ .args .counts .lines) (c₂ .args .lay .lines) _ _ _ (lineRuns (now (c₂ .args .built)) (c₂ .args .counts)) (lineEntries (now (c₂ .args .built)) (c₂ .args .counts)) (c .before .before .line-fifo .ensures) (c .before .before .before .before .before .line-runs .ensures) (c .before .before .before .before .line-entries .ensures) (ap (λ (k : Lay). k .lines) (c₂ .pre .1 .1 .0))))
 
 pub put-fifo-spec : {M : Type 1} → statement M
 put-fifo-spec =

@@ -35,13 +35,19 @@ part-line-positions-end : tie.Need-part-line-positions-end
 part-line-positions-end c = search needs
 
 line-positions-requires : tie.Need-line-positions-requires
-line-positions-requires c κs = let e = ap (λ (k : Lay). k .trips) (c .before .before .before .before .before .before .before .pre .1 .0) in (lines-read (c .before .before .before .before .before .before .before .pre .0 .lines) (c .before .before .line-runs .ensures) (c .before .line-entries .ensures), part-long (c .before .before .before .before .positions-at .result) (c .before .before .before .before .positions-at .result + c .before .before .before .before .before .before .before .args .lay .trips) (c .before .before .before .before .before .before .before .args .n .timetable .trips) (now (c .before .before .before .before .before .before .before .args .work)) (omega (arith, e)) (omega (arith, c .before .before .before .before .positions-at .ensures, c .before .before .before .before .before .before .before .pre .1 .1 .words)))
+line-positions-requires c κs =
+    let c₁ = c .before .before .before .before in
+    let c₂ = c₁ .before .before .before in
+    let e = ap (λ (k : Lay). k .trips) (c₂ .pre .1 .0) in (lines-read (c₂ .pre .0 .lines) (c .before .before .line-runs .ensures) (c .before .line-entries .ensures), part-long (c₁ .positions-at .result) (c₁ .positions-at .result + c₂ .args .lay .trips) (c₂ .args .counts .timetable .trips) (now (c₂ .args .work)) (omega (arith, e)) (omega (arith, c₁ .positions-at .ensures, c₂ .pre .1 .1 .words)))
 
 same-length : tie.Need-same-length
 same-length c = search needs
 
 returns : tie.Need-returns
-returns c = rw (c .before .before .before .before .before .before .before .positions-at .ensures) (put-part _ _ (c .before .before .before .before .before .before .before .before .before .before .args .lay .trips) _ (now (c .before .before .before .before .before .before .before .before .before .before .args .work)) _ refl (omega (arith, c .before .before .before .before .before .before .before .before .before .before .pre .1 .1 .words)) (positions-read (c .before .before .before .before .before .before .before .before .before .before .args .n .timetable) (c .before .before .before .before .before .before .before .before .before .before .args .n .lines) (c .before .before .before .before .before .before .before .before .before .before .args .lay .trips) _ _ _ (lineRuns (now (c .before .before .before .before .before .before .before .before .before .before .args .built)) (c .before .before .before .before .before .before .before .before .before .before .args .n)) (lineEntries (now (c .before .before .before .before .before .before .before .before .before .before .args .built)) (c .before .before .before .before .before .before .before .before .before .before .args .n)) (c .before .before .line-positions .ensures) (c .before .before .before .before .before .line-runs .ensures) (c .before .before .before .before .line-entries .ensures) (ap (λ (k : Lay). k .trips) (c .before .before .before .before .before .before .before .before .before .before .pre .1 .0))))
+returns c =
+    let c₁ = c .before .before .before .before .before .before .before in
+    let c₂ = c₁ .before .before .before in
+    rw (c₁ .positions-at .ensures) (put-part _ _ (c₂ .args .lay .trips) _ (now (c₂ .args .work)) _ refl (omega (arith, c₂ .pre .1 .1 .words)) (positions-read (c₂ .args .counts .timetable) (c₂ .args .counts .lines) (c₂ .args .lay .trips) _ _ _ (lineRuns (now (c₂ .args .built)) (c₂ .args .counts)) (lineEntries (now (c₂ .args .built)) (c₂ .args .counts)) (c .before .before .line-positions .ensures) (c .before .before .before .before .before .line-runs .ensures) (c .before .before .before .before .line-entries .ensures) (ap (λ (k : Lay). k .trips) (c₂ .pre .1 .0))))
 
 pub put-positions-spec : {M : Type 1} → statement M
 put-positions-spec =

@@ -14,7 +14,9 @@ zero-all-requires : tie.Need-zero-all-requires
 zero-all-requires c κs = search needs
 
 reach-at-requires : tie.Need-reach-at-requires
-reach-at-requires c κs = few-of (c .before .before .before .before .before .before .before .before .before .before .before .before .before .pre .sections)
+reach-at-requires c κs =
+    let c₁ = c .before .before .before .before .before .before .before .before .before .before .before .before .before in
+    few-of (c₁ .pre .sections)
 
 fill-requires : tie.Need-fill-requires
 fill-requires c κs = search needs
@@ -35,7 +37,12 @@ same-length-3 : tie.Need-same-length-3
 same-length-3 c = search needs
 
 returns : tie.Need-returns
-returns c = let a = c .before .before .before .before .before .before .before .before .before .before .before .before .before .before .before .before .before .before .before .before .before .before .before in let x = a .args in let z = c .before .before .before .before .before .before .before .before .before .before .before .before .before .before .before .before .zero-all .ensures in (fresh (x .lay) (now (x .work)) _ _ _ _ _ (a .pre .sections) (z .0) (c .before .before .before .before .before .before .before .fill .ensures) (rw (c .before .before .before .before .before .before .before .before .before .reach-at .ensures) at (c .before .before .fill2 .ensures)) (z .1 .0 ∙ ap (λ (n : ℕ). replicate {A = ℕ} n 0) (a .pre .rows)) (z .1 .1 ∙ ap (λ (n : ℕ). replicate {A = Float} n noDistance) (a .pre .metres)), z .1 .1)
+returns c =
+    let c₁ = c .before .before .before .before .before .before .before in
+    let c₂ = c₁ .before .before in
+    let c₃ = c₂ .before .before .before .before .before .before .before in
+    let a = c₃ .before .before .before .before .before .before .before in
+    let x = a .args in let z = c₃ .zero-all .ensures in (fresh (x .lay) (now (x .work)) _ _ _ _ _ (a .pre .sections) (z .0) (c₁ .fill .ensures) (rw (c₂ .reach-at .ensures) at (c .before .before .fill2 .ensures)) (z .1 .0 ∙ ap (λ (n : ℕ). replicate {A = ℕ} n 0) (a .pre .rows)) (z .1 .1 ∙ ap (λ (n : ℕ). replicate {A = Float} n noDistance) (a .pre .metres)), z .1 .1)
 
 pub reset-spec : {M : Type 1} → statement M
 reset-spec =

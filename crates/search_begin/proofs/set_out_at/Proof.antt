@@ -43,7 +43,9 @@ shared-slice-read-set-out-4 : tie.Need-shared-slice-read-set-out-4
 shared-slice-read-set-out-4 c = search needs
 
 set-out-requires : tie.Need-set-out-requires
-set-out-requires c κs = let o = c .before .before .before .before .before .before .before .before .before .before .before .before .before .pre .0 in let k = c .before .before .before .before .before .before .before .before .before .before .before .before .before .args .k in let h = c .before .before .before .before .before .before .before .before .before .before .before .before .before .pre .1 .0 in (c .before .before .before .before .before .before .before .before .before .before .before .before .before .pre .1 .1, (o .stop k h, omega (arith, o .start, o .walk k h)))
+set-out-requires c κs =
+    let c₁ = c .before .before .before .before .before .before .before .before .before .before .before .before .before in
+    let o = c₁ .pre .0 in let k = c₁ .args .k in let h = c₁ .pre .1 .0 in (c₁ .pre .1 .1, (o .stop k h, omega (arith, o .start, o .walk k h)))
 
 same-length : tie.Need-same-length
 same-length c = search needs

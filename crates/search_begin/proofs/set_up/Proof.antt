@@ -13,22 +13,38 @@ add-fill-egress : tie.Need-add-fill-egress
 add-fill-egress c = search needs
 
 fill-egress-requires : tie.Need-fill-egress-requires
-fill-egress-requires c κs = (c .before .before .before .before .before .before .pre .1 .1, egress-over (c .before .before .before .before .before .before .args .n) (c .before .before .before .before .before .before .pre .1 .0) (c .before .before .before .before .before .before .pre .0 .egress))
+fill-egress-requires c κs =
+    let c₁ = c .before .before .before .before .before .before in
+    (c₁ .pre .1 .1, egress-over (c₁ .args .counts) (c₁ .pre .1 .0) (c₁ .pre .0 .egress))
 
 put-positions-requires : tie.Need-put-positions-requires
-put-positions-requires c κs = (c .before .before .before .before .before .before .before .before .before .before .pre .0 .lines, (c .before .before .before .before .before .before .before .before .before .before .pre .1 .0, sized-same (c .before .before .before .before .before .before .before .before .before .before .pre .1 .1) (c .before .before .before .fill-egress .ensures .size)))
+put-positions-requires c κs =
+    let c₁ = c .before .before .before .before .before .before .before .before .before .before in
+    (c₁ .pre .0 .lines, (c₁ .pre .1 .0, sized-same (c₁ .pre .1 .1) (c .before .before .before .fill-egress .ensures .size)))
 
 put-fifo-requires : tie.Need-put-fifo-requires
-put-fifo-requires c κs = (c .before .before .before .before .before .before .before .before .before .before .before .before .before .before .pre .0 .lines, (c .before .before .before .before .before .before .before .before .before .before .before .before .before .before .pre .0 .sane, (c .before .before .before .before .before .before .before .before .before .before .before .before .before .before .pre .1 .0, sized-same (c .before .before .before .before .before .before .before .before .before .before .before .before .before .before .pre .1 .1) (c .before .before .before .put-positions .ensures .size ∙ c .before .before .before .before .before .before .before .fill-egress .ensures .size))))
+put-fifo-requires c κs =
+    let c₁ = c .before .before .before .before .before .before .before in
+    let c₂ = c₁ .before .before .before .before .before .before .before in
+    (c₂ .pre .0 .lines, (c₂ .pre .0 .sane, (c₂ .pre .1 .0, sized-same (c₂ .pre .1 .1) (c .before .before .before .put-positions .ensures .size ∙ c₁ .fill-egress .ensures .size))))
 
 put-events-requires : tie.Need-put-events-requires
-put-events-requires c κs = (c .before .before .before .before .before .before .before .before .before .before .before .before .before .before .before .before .before .before .pre .0 .sane, (c .before .before .before .before .before .before .before .before .before .before .before .before .before .before .before .before .before .before .pre .1 .0, sized-same (c .before .before .before .before .before .before .before .before .before .before .before .before .before .before .before .before .before .before .pre .1 .1) (c .before .before .before .put-fifo .ensures .size ∙ c .before .before .before .before .before .before .before .put-positions .ensures .size ∙ c .before .before .before .before .before .before .before .before .before .before .before .fill-egress .ensures .size)))
+put-events-requires c κs =
+    let c₁ = c .before .before .before .before .before .before .before in
+    let c₂ = c₁ .before .before .before .before in
+    let c₃ = c₂ .before .before .before .before .before .before .before in
+    (c₃ .pre .0 .sane, (c₃ .pre .1 .0, sized-same (c₃ .pre .1 .1) (c .before .before .before .put-fifo .ensures .size ∙ c₁ .put-positions .ensures .size ∙ c₂ .fill-egress .ensures .size)))
 
 same-length : tie.Need-same-length
 same-length c = search needs
 
 returns : tie.Need-returns
-returns c = laid-out (c .before .before .before .before .before .before .before .before .before .before .before .before .before .before .before .before .before .before .before .before .before .args .n) (now (c .before .before .before .before .before .before .before .before .before .before .before .before .before .before .before .before .before .before .before .before .before .args .tables)) (now (c .before .before .before .before .before .before .before .before .before .before .before .before .before .before .before .before .before .before .before .before .before .args .built)) (now (c .before .before .before .before .before .before .before .before .before .before .before .before .before .before .before .before .before .before .before .before .before .args .query)) (c .before .before .before .before .before .before .before .before .before .before .before .before .before .before .before .before .before .before .before .before .before .args .lay) (now (c .before .before .before .before .before .before .before .before .before .before .before .before .before .before .before .before .before .before .before .before .before .args .work)) _ _ _ _ (c .before .before .before .before .before .before .before .before .before .before .before .before .before .before .before .before .before .before .before .before .before .pre .1 .0) (c .before .before .before .before .before .before .before .before .before .before .before .before .before .before .fill-egress .ensures) (c .before .before .before .before .before .before .before .before .before .before .put-positions .ensures) (c .before .before .before .before .before .before .put-fifo .ensures) (c .before .before .put-events .ensures)
+returns c =
+    let c₁ = c .before .before .before .before .before .before in
+    let c₂ = c₁ .before .before .before .before in
+    let c₃ = c₂ .before .before .before .before in
+    let c₄ = c₃ .before .before .before .before .before .before .before in
+    laid-out (c₄ .args .counts) (now (c₄ .args .tables)) (now (c₄ .args .built)) (now (c₄ .args .query)) (c₄ .args .lay) (now (c₄ .args .work)) _ _ _ _ (c₄ .pre .1 .0) (c₃ .fill-egress .ensures) (c₂ .put-positions .ensures) (c₁ .put-fifo .ensures) (c .before .before .put-events .ensures)
 
 pub set-up-spec : {M : Type 1} → statement M
 set-up-spec =

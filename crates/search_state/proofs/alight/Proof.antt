@@ -31,7 +31,10 @@ sub-t16 : tie.Need-sub-t16
 sub-t16 c = search needs
 
 relax-requires : tie.Need-relax-requires
-relax-requires c κs = let a = c .before .before .before .before .before .before .before .before .before .before .before in let x = a .args in let g = a .pre .0 in let k = g .sane .runs .run (x .ride .trip) (g .trip) in let n = g .sane .numbers .stop (c .before .before .before .before .before .trip .result + x .p) (omega (arith, c .before .before .before .before .before .trip .ensures .0, k, g .offset)) in (a .pre .1 .0, (omega (arith, c .before .before .before .before .time .ensures .0, n, g .stops), a .pre .1 .1))
+relax-requires c κs =
+    let c₁ = c .before .before .before .before .before in
+    let a = c₁ .before .before .before .before .before .before in
+    let x = a .args in let g = a .pre .0 in let k = g .sane .runs .run (x .ride .trip) (g .trip) in let n = g .sane .numbers .stop (c₁ .trip .result + x .p) (omega (arith, c₁ .trip .ensures .0, k, g .offset)) in (a .pre .1 .0, (omega (arith, c .before .before .before .before .time .ensures .0, n, g .stops), a .pre .1 .1))
 
 same-length : tie.Need-same-length
 same-length c = search needs
@@ -43,7 +46,12 @@ same-length-3 : tie.Need-same-length-3
 same-length-3 c = search needs
 
 returns : tie.Need-returns
-returns c = let a = c .before .before .before .before .before .before .before .before .before .before .before .before .before .before .before .before .before .before in let x = a .args in step-as (λ T Q. relax T Q (x .ride .stamp) (stopAt T (x .ride .trip) (x .p)) (x .v) (Transit (x .v) (x .ride .trip) (x .ride .stop) (x .ride .offset) (x .p) (x .ride .stamp - 2) (x .ride .shift))) (c .before .before .before .before .before .before .relax .ensures) (λ T Q y. y .0) (λ T Q y z. ap (λ (s : ℕ). relax T Q (x .ride .stamp) s (x .v) (Transit (x .v) (x .ride .trip) (x .ride .stop) (x .ride .offset) (x .p) (x .ride .stamp - 2) (x .ride .shift)) z) (c .before .before .before .before .before .before .before .before .before .before .before .time .ensures .0 ∙ ap (λ (f : ℕ). timeOf (now (x .tables)) (f + x .p) 0) (c .before .before .before .before .before .before .before .before .before .before .before .before .trip .ensures .0) ∙ sym (ap (λ (u : Timetable). timeAt u (x .ride .trip) (x .p) .stop) (y .1))))
+returns c =
+    let c₁ = c .before .before .before .before .before .before in
+    let c₂ = c₁ .before .before .before .before .before in
+    let c₃ = c₂ .before in
+    let a = c₃ .before .before .before .before .before .before in
+    let x = a .args in step-as (λ T Q. relax T Q (x .ride .stamp) (stopAt T (x .ride .trip) (x .p)) (x .v) (Transit (x .v) (x .ride .trip) (x .ride .stop) (x .ride .offset) (x .p) (x .ride .stamp - 2) (x .ride .shift))) (c₁ .relax .ensures) (λ T Q y. y .0) (λ T Q y z. ap (λ (s : ℕ). relax T Q (x .ride .stamp) s (x .v) (Transit (x .v) (x .ride .trip) (x .ride .stop) (x .ride .offset) (x .p) (x .ride .stamp - 2) (x .ride .shift)) z) (c₂ .time .ensures .0 ∙ ap (λ (f : ℕ). timeOf (now (x .tables)) (f + x .p) 0) (c₃ .trip .ensures .0) ∙ sym (ap (λ (u : Timetable). timeAt u (x .ride .trip) (x .p) .stop) (y .1))))
 
 pub alight-spec : {M : Type 1} → statement M
 alight-spec =

@@ -28,7 +28,9 @@ returns : tie.Need-returns
 returns c = λ stamp l m ok. let a = c .before .before .before .before .before .before .before in let x = a .args in let g = x .seg in queue-not (x .lay) stamp (now (x .work)) l m (x .h) (now (x .queue)) (x .plain) (g .trip) (g .offset) (g .stop) (g .shift) ok (a .pre .1 .0) (a .pre .1 .1) (sym (rw (c .before .before .before .before .reach-at .ensures) at (c .before .both .ensures)) ∙ c .if1 .taken)
 
 returns-2 : tie.Need-returns-2
-returns-2 c = λ stamp l m ok. let a = c .before .before .before .before .before .before .before .before in let x = a .args in let g = x .seg in queue-full (x .lay) stamp (now (x .work)) l m (x .h) (now (x .queue)) (x .plain) (g .trip) (g .offset) (g .stop) (g .shift) ok (a .pre .1 .0) (a .pre .1 .1) (sym (rw (c .before .before .before .before .before .reach-at .ensures) at (c .before .before .both .ensures)) ∙ c .before .if1 .left) (c .if2 .taken)
+returns-2 c =
+    let c₁ = c .before .before .before .before .before .before .before in
+    λ stamp l m ok. let a = c₁ .before in let x = a .args in let g = x .seg in queue-full (x .lay) stamp (now (x .work)) l m (x .h) (now (x .queue)) (x .plain) (g .trip) (g .offset) (g .stop) (g .shift) ok (a .pre .1 .0) (a .pre .1 .1) (sym (rw (c .before .before .before .before .before .reach-at .ensures) at (c .before .before .both .ensures)) ∙ c .before .if1 .left) (c .if2 .taken)
 
 put-segment-requires : tie.Need-put-segment-requires
 put-segment-requires c κs = search needs
@@ -46,7 +48,14 @@ same-length-2 : tie.Need-same-length-2
 same-length-2 c = search needs
 
 returns-3 : tie.Need-returns-3
-returns-3 c = λ stamp l m ok. let a = c .before .before .before .before .before .before .before .before .before .before .before .before .before .before .before .before in let x = a .args in let g = x .seg in queue-put (x .lay) stamp (now (x .work)) l m (x .h) (now (x .queue)) (x .plain) (g .trip) (g .offset) (g .stop) (g .shift) ok (a .pre .1 .0) (a .pre .1 .1) _ _ (sym (rw (c .before .before .before .before .before .before .before .before .before .before .before .before .before .reach-at .ensures) at (c .before .before .before .before .before .before .before .before .before .before .both .ensures)) ∙ c .before .before .before .before .before .before .before .before .before .if1 .left) (c .before .before .before .before .before .before .before .before .if2 .left) (c .before .before .before .before .before .before .put-segment .ensures) (rw (c .before .before .before .before .before .before .before .before .before .before .before .before .before .reach-at .ensures) at (c .before .before .lower .ensures))
+returns-3 c =
+    let c₁ = c .before .before .before .before .before .before in
+    let c₂ = c₁ .before .before in
+    let c₃ = c₂ .before in
+    let c₄ = c₃ .before in
+    let c₅ = c₄ .before .before .before in
+    let c₆ = c₅ .before .before in
+    λ stamp l m ok. let a = c₆ .before in let x = a .args in let g = x .seg in queue-put (x .lay) stamp (now (x .work)) l m (x .h) (now (x .queue)) (x .plain) (g .trip) (g .offset) (g .stop) (g .shift) ok (a .pre .1 .0) (a .pre .1 .1) _ _ (sym (rw (c₅ .reach-at .ensures) at (c₄ .both .ensures)) ∙ c₃ .if1 .left) (c₂ .if2 .left) (c₁ .put-segment .ensures) (rw (c₅ .reach-at .ensures) at (c .before .before .lower .ensures))
 
 pub enqueue-spec : {M : Type 1} → statement M
 enqueue-spec =

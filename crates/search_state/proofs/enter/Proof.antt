@@ -1,10 +1,13 @@
 use denote.Ref.{now}
 use native.Mathlib.Omega.{arith}
 use lib.ListN.{length-set}
-use Rattle.search_state.proofs.Marking.{entered}
+use Rattle.search_state.proofs.Marking.{entered-at}
 use borrow.Author.Needs.{needs}
 use Rattle.search_state.proofs.enter.Statement.{statement}
 use Rattle.search_state.proofs.enter.Tie as tie
+
+stamps-at-requires : tie.Need-stamps-at-requires
+stamps-at-requires c κs = search needs
 
 add-at : tie.Need-add-at
 add-at c = search needs
@@ -37,12 +40,16 @@ same-length : tie.Need-same-length
 same-length c = search needs
 
 returns : tie.Need-returns
-returns c = let a = c .before .before in let x = a .args in entered (x .lay) (now (x .work)) (a .pre .0) (x .stamp) (x .s) (x .v) (x .count) (a .pre .1 .0) (a .pre .1 .1)
+returns c =
+    let a = c .before .before .before in
+    let x = a .args in
+    entered-at (x .lay) (now (x .work)) (a .pre .0) (x .stamp) (x .s) (x .v) (x .count) (a .pre .1 .0) (a .pre .1 .1) _ (c .before .stamps-at .ensures)
 
 pub enter-spec : {M : Type 1} → statement M
 enter-spec =
     tie.close
     (tie.spec
+    stamps-at-requires
     add-at
     add-end
     mul-work

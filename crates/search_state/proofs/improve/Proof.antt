@@ -50,7 +50,13 @@ same-length-3 : tie.Need-same-length-3
 same-length-3 c = search needs
 
 returns : tie.Need-returns
-returns c = let a = c .before .before .before .before .before .before .before .before .before .before .before .before .before .before .before .before .before in let x = a .args in improve-is (x .lay) (x .stamp) (x .s) (x .v) (x .how) (now (x .work)) (now (x .labels)) (now (x .label-distances)) (x .h) (a .pre .0) (a .pre .1 .0) _ _ _ _ _ _ (c .before .before .before .before .before .before .before .before .before .mark .ensures) refl (c .before .before .before .before .store-label .ensures .0) (c .before .before .before .before .store-label .ensures .1) (rw (c .before .before .before .before .before .before .before .before .before .before .before .before .before .rest-at .ensures) at (c .before .before .before .before .before .before .before .before .before .before .before .best-after .ensures))
+returns c =
+    let c₁ = c .before .before .before .before in
+    let c₂ = c₁ .before .before .before .before .before in
+    let c₃ = c₂ .before .before in
+    let c₄ = c₃ .before .before in
+    let a = c₄ .before .before .before .before in
+    let x = a .args in improve-is (x .lay) (x .stamp) (x .s) (x .v) (x .how) (now (x .work)) (now (x .labels)) (now (x .label-distances)) (x .h) (a .pre .0) (a .pre .1 .0) _ _ _ _ _ _ (c₂ .mark .ensures) refl (c₁ .store-label .ensures .0) (c₁ .store-label .ensures .1) (rw (c₄ .rest-at .ensures) at (c₃ .best-after .ensures))
 
 pub improve-spec : {M : Type 1} → statement M
 improve-spec =

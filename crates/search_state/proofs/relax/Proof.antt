@@ -26,7 +26,11 @@ same-length-3 : tie.Need-same-length-3
 same-length-3 c = search needs
 
 returns-2 : tie.Need-returns-2
-returns-2 c = let a = c .before .before .before .before .before .before .before .before .before .before .before .before .before .before .before in let x = a .args in relax-go (x .lay) (x .stamp) (x .s) (x .v) (x .how) (now (x .work)) (now (x .labels)) (now (x .label-distances)) (x .h) (a .pre .0) (a .pre .1 .0) (c .before .before .before .before .before .before .before .before .before .before .if1 .left) (c .before .before .before .before .before .before .improve .ensures)
+returns-2 c =
+    let c₁ = c .before .before .before .before .before .before in
+    let c₂ = c₁ .before .before .before .before in
+    let a = c₂ .before .before .before .before .before in
+    let x = a .args in relax-go (x .lay) (x .stamp) (x .s) (x .v) (x .how) (now (x .work)) (now (x .labels)) (now (x .label-distances)) (x .h) (a .pre .0) (a .pre .1 .0) (c₂ .if1 .left) (c₁ .improve .ensures)
 
 pub relax-spec : {M : Type 1} → statement M
 relax-spec =

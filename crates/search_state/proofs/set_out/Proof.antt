@@ -55,7 +55,14 @@ same-length-3 : tie.Need-same-length-3
 same-length-3 c = search needs
 
 returns-2 : tie.Need-returns-2
-returns-2 c = let a = c .before .before .before .before .before .before .before .before .before .before .before .before .before .before .before .before .before .before .before .before in let x = a .args in start-early (x .lay) (x .start) (x .stop) (x .duration) (x .distance) (now (x .work)) (now (x .labels)) (now (x .label-distances)) (x .h) (a .pre .0) (a .pre .1 .0) _ _ _ _ _ (c .before .before .before .before .before .before .before .before .before .before .before .before .if1 .left) (rw (c .before .before .before .before .before .before .before .before .before .before .before .before .before .before .before .before .rest-at .ensures) at (c .before .before .before .before .before .before .before .before .before .before .before .before .before .before .best-after .ensures)) (c .before .before .before .before .before .before .before .before .before .before .enter .ensures) (c .before .before .before .before .before .record-of .ensures) (c .before .before .before .before .store-label .ensures .0) (c .before .before .before .before .store-label .ensures .1)
+returns-2 c =
+    let c₁ = c .before .before .before .before in
+    let c₂ = c₁ .before .before .before .before .before .before in
+    let c₃ = c₂ .before .before in
+    let c₄ = c₃ .before .before in
+    let c₅ = c₄ .before .before in
+    let a = c₅ .before .before .before .before in
+    let x = a .args in start-early (x .lay) (x .start) (x .stop) (x .duration) (x .distance) (now (x .work)) (now (x .labels)) (now (x .label-distances)) (x .h) (a .pre .0) (a .pre .1 .0) _ _ _ _ _ (c₃ .if1 .left) (rw (c₅ .rest-at .ensures) at (c₄ .best-after .ensures)) (c₂ .enter .ensures) (c .before .before .before .before .before .record-of .ensures) (c₁ .store-label .ensures .0) (c₁ .store-label .ensures .1)
 
 pub set-out-spec : {M : Type 1} → statement M
 set-out-spec =

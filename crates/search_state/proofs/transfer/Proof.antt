@@ -35,7 +35,10 @@ same-length-4 c = search needs
 
 returns : tie.Need-returns
 unfolding Ieee.ofBits
-returns c = let a = c .before .before .before .before .before .before .before .before .before .before .before .before .before .before .before .before .before .before .before .before .before .before in let x = a .args in let r = c .before .before .before .before .before .before .before .before .before .before .before .before .before .relax .ensures in queue-then (λ T Q. EgressTable (Q .egress) (x .lay) (now (x .work)) × (noWindows T (x .seg .trip) ≡ x .plain)) (queue-step (now (x .queue)) r (a .pre .1 .1 .1 .0) (a .pre .1 .1 .1 .1)) (r .full ∙ a .pre .1 .1 .1 .0) (c .before .before .before .before .enqueue .ensures (x .stamp) _ _ (r .ready)) (λ T Q y. y)
+returns c =
+    let c₁ = c .before .before .before .before .before .before .before .before .before .before .before .before .before in
+    let a = c₁ .before .before .before .before .before .before .before .before .before in
+    let x = a .args in let r = c₁ .relax .ensures in queue-then (λ T Q. EgressTable (Q .egress) (x .lay) (now (x .work)) × (noWindows T (x .seg .trip) ≡ x .plain)) (queue-step (now (x .queue)) r (a .pre .1 .1 .1 .0) (a .pre .1 .1 .1 .1)) (r .full ∙ a .pre .1 .1 .1 .0) (c .before .before .before .before .enqueue .ensures (x .stamp) _ _ (r .ready)) (λ T Q y. y)
 
 pub transfer-spec : {M : Type 1} → statement M
 transfer-spec =

@@ -25,13 +25,19 @@ moved-requires-2 : tie.Need-moved-requires-2
 moved-requires-2 c κs = search needs
 
 returns-2 : tie.Need-returns-2
-returns-2 c = let s = c .before .before .before .before .before .before in c .moved2 .ensures ∙ sym (arrival-given (s .args .arrival) (s .args .time-shift-s) (s .args .d) true (sym (c .before .before .before .either .ensures ∙ ap₂ _||_ (c .before .before .before .before .departure-given .ensures) (c .before .before .before .before .before .arrival-given .ensures)) ∙ not-false _ (c .before .before .if1 .left)) (sym (c .before .before .before .before .before .arrival-given .ensures) ∙ c .before .if2 .taken))
+returns-2 c =
+    let c₁ = c .before .before .before .before .before in
+    let s = c₁ .before in
+    c .moved2 .ensures ∙ sym (arrival-given (s .args .arrival) (s .args .time-shift-s) (s .args .d) true (sym (c .before .before .before .either .ensures ∙ ap₂ _||_ (c .before .before .before .before .departure-given .ensures) (c₁ .arrival-given .ensures)) ∙ not-false _ (c .before .before .if1 .left)) (sym (c₁ .arrival-given .ensures) ∙ c .before .if2 .taken))
 
 moved-requires-3 : tie.Need-moved-requires-3
 moved-requires-3 c κs = search needs
 
 returns-3 : tie.Need-returns-3
-returns-3 c = let s = c .before .before .before .before .before .before in c .moved3 .ensures ∙ sym (arrival-given (s .args .arrival) (s .args .time-shift-s) (s .args .d) false (sym (c .before .before .before .either .ensures ∙ ap₂ _||_ (c .before .before .before .before .departure-given .ensures) (c .before .before .before .before .before .arrival-given .ensures)) ∙ not-false _ (c .before .before .if1 .left)) (sym (c .before .before .before .before .before .arrival-given .ensures) ∙ c .before .if2 .left))
+returns-3 c =
+    let c₁ = c .before .before .before .before .before in
+    let s = c₁ .before in
+    c .moved3 .ensures ∙ sym (arrival-given (s .args .arrival) (s .args .time-shift-s) (s .args .d) false (sym (c .before .before .before .either .ensures ∙ ap₂ _||_ (c .before .before .before .before .departure-given .ensures) (c₁ .arrival-given .ensures)) ∙ not-false _ (c .before .before .if1 .left)) (sym (c₁ .arrival-given .ensures) ∙ c .before .if2 .left))
 
 pub rt-effective-arr-s-spec : {M : Type 1} → statement M
 rt-effective-arr-s-spec =

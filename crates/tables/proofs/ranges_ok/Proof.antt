@@ -28,7 +28,9 @@ both-requires-3 c κs = search needs
 
 returns : tie.Need-returns
 unfolding rangesOk
-returns c = c .both3 .ensures ∙ ap₂ _&&_ (c .before .before .both .ensures ∙ ap₂ _&&_ (c .before .before .before .before .before .before .every-row .ensures) (c .before .before .before .before .before .every-row2 .ensures)) (c .before .both2 .ensures ∙ ap₂ _&&_ (c .before .before .before .before .every-row3 .ensures) (c .before .before .before .every-row4 .ensures))
+returns c =
+    let c₁ = c .before .before .before .before .before .before in
+    c .both3 .ensures ∙ ap₂ _&&_ (c .before .before .both .ensures ∙ ap₂ _&&_ (c₁ .every-row .ensures) (c .before .before .before .before .before .every-row2 .ensures)) (c .before .both2 .ensures ∙ ap₂ _&&_ (c .before .before .before .before .every-row3 .ensures) (c .before .before .before .every-row4 .ensures))
 
 pub ranges-ok-spec : {M : Type 1} → statement M
 ranges-ok-spec =

@@ -77,28 +77,44 @@ edge-rises-requires : tie.Need-edge-rises-requires
 edge-rises-requires c κs = (search needs, (search needs, omega (arith, ap (λ (k : Check). rowCountOf k (c .before .before .before .args .c)) (c .enum-told8 .given .1))))
 
 returns : tie.Need-returns
-returns c = c .trip-runs .ensures ∙ ap (tripRuns (c .before .before .before .before .before .args .c)) (c .before .trip-row .ensures .0) ∙ sym (ap (λ (k : Check). rowOk (now (c .before .before .before .before .before .args .tables)) (c .before .before .before .before .before .args .c) k (c .before .before .before .before .before .args .i)) (c .before .before .enum-told .given .1))
+returns c =
+    let c₁ = c .before .before .before .before .before in
+    c .trip-runs .ensures ∙ ap (tripRuns (c₁ .args .c)) (c .before .trip-row .ensures .0) ∙ sym (ap (λ (k : Check). rowOk (now (c₁ .args .tables)) (c₁ .args .c) k (c₁ .args .i)) (c .before .before .enum-told .given .1))
 
 returns-2 : tie.Need-returns-2
-returns-2 c = c .stop-time-numbers .ensures ∙ ap (stopTimeNumbers (c .before .before .before .before .before .args .c)) (c .before .stop-time-row .ensures) ∙ sym (ap (λ (k : Check). rowOk (now (c .before .before .before .before .before .args .tables)) (c .before .before .before .before .before .args .c) k (c .before .before .before .before .before .args .i)) (c .before .before .enum-told2 .given .1))
+returns-2 c =
+    let c₁ = c .before .before .before .before .before in
+    c .stop-time-numbers .ensures ∙ ap (stopTimeNumbers (c₁ .args .c)) (c .before .stop-time-row .ensures) ∙ sym (ap (λ (k : Check). rowOk (now (c₁ .args .tables)) (c₁ .args .c) k (c₁ .args .i)) (c .before .before .enum-told2 .given .1))
 
 returns-3 : tie.Need-returns-3
-returns-3 c = c .edge-numbers .ensures ∙ ap (edgeNumbers (c .before .before .before .before .before .args .c)) (c .before .edge-row .ensures) ∙ sym (ap (λ (k : Check). rowOk (now (c .before .before .before .before .before .args .tables)) (c .before .before .before .before .before .args .c) k (c .before .before .before .before .before .args .i)) (c .before .before .enum-told3 .given .1))
+returns-3 c =
+    let c₁ = c .before .before .before .before .before in
+    c .edge-numbers .ensures ∙ ap (edgeNumbers (c₁ .args .c)) (c .before .edge-row .ensures) ∙ sym (ap (λ (k : Check). rowOk (now (c₁ .args .tables)) (c₁ .args .c) k (c₁ .args .i)) (c .before .before .enum-told3 .given .1))
 
 returns-4 : tie.Need-returns-4
-returns-4 c = c .stop-time-ranges .ensures ∙ ap (stopTimeRanges) (c .before .stop-time-row2 .ensures) ∙ sym (ap (λ (k : Check). rowOk (now (c .before .before .before .before .before .args .tables)) (c .before .before .before .before .before .args .c) k (c .before .before .before .before .before .args .i)) (c .before .before .enum-told4 .given .1))
+returns-4 c =
+    let c₁ = c .before .before .before .before .before in
+    c .stop-time-ranges .ensures ∙ ap (stopTimeRanges) (c .before .stop-time-row2 .ensures) ∙ sym (ap (λ (k : Check). rowOk (now (c₁ .args .tables)) (c₁ .args .c) k (c₁ .args .i)) (c .before .before .enum-told4 .given .1))
 
 returns-5 : tie.Need-returns-5
-returns-5 c = c .trip-ranges .ensures ∙ ap (tripRanges) (c .before .trip-row2 .ensures .0) ∙ sym (ap (λ (k : Check). rowOk (now (c .before .before .before .before .before .args .tables)) (c .before .before .before .before .before .args .c) k (c .before .before .before .before .before .args .i)) (c .before .before .enum-told5 .given .1))
+returns-5 c =
+    let c₁ = c .before .before .before .before .before in
+    c .trip-ranges .ensures ∙ ap (tripRanges) (c .before .trip-row2 .ensures .0) ∙ sym (ap (λ (k : Check). rowOk (now (c₁ .args .tables)) (c₁ .args .c) k (c₁ .args .i)) (c .before .before .enum-told5 .given .1))
 
 returns-6 : tie.Need-returns-6
-returns-6 c = c .window-ranges .ensures ∙ ap (windowRanges) (c .before .window-row .ensures) ∙ sym (ap (λ (k : Check). rowOk (now (c .before .before .before .before .before .args .tables)) (c .before .before .before .before .before .args .c) k (c .before .before .before .before .before .args .i)) (c .before .before .enum-told6 .given .1))
+returns-6 c =
+    let c₁ = c .before .before .before .before .before in
+    c .window-ranges .ensures ∙ ap (windowRanges) (c .before .window-row .ensures) ∙ sym (ap (λ (k : Check). rowOk (now (c₁ .args .tables)) (c₁ .args .c) k (c₁ .args .i)) (c .before .before .enum-told6 .given .1))
 
 returns-7 : tie.Need-returns-7
-returns-7 c = c .edge-ranges .ensures ∙ ap (edgeRanges) (c .before .edge-row2 .ensures) ∙ sym (ap (λ (k : Check). rowOk (now (c .before .before .before .before .before .args .tables)) (c .before .before .before .before .before .args .c) k (c .before .before .before .before .before .args .i)) (c .before .before .enum-told7 .given .1))
+returns-7 c =
+    let c₁ = c .before .before .before .before .before in
+    c .edge-ranges .ensures ∙ ap (edgeRanges) (c .before .edge-row2 .ensures) ∙ sym (ap (λ (k : Check). rowOk (now (c₁ .args .tables)) (c₁ .args .c) k (c₁ .args .i)) (c .before .before .enum-told7 .given .1))
 
 returns-8 : tie.Need-returns-8
-returns-8 c = c .edge-rises .ensures ∙ sym (ap (λ (k : Check). rowOk (now (c .before .before .before .before .args .tables)) (c .before .before .before .before .args .c) k (c .before .before .before .before .args .i)) (c .before .enum-told8 .given .1))
+returns-8 c =
+    let c₁ = c .before .before .before .before in
+    c .edge-rises .ensures ∙ sym (ap (λ (k : Check). rowOk (now (c₁ .args .tables)) (c₁ .args .c) k (c₁ .args .i)) (c .before .enum-told8 .given .1))
 
 pub row-ok-spec : {M : Type 1} → statement M
 row-ok-spec =

@@ -34,7 +34,12 @@ both-requires-4 : tie.Need-both-requires-4
 both-requires-4 c κs = search needs
 
 returns : tie.Need-returns
-returns c = let s = c .before .before .before .before .before .before .before .before .before .before in c .both4 .ensures ∙ ap₂ _&&_ (c .before .before .both2 .ensures ∙ ap₂ _&&_ (c .before .before .before .before .before .before .before .before .stop-times-ok .ensures) (c .before .before .before .both .ensures ∙ ap₂ _&&_ (c .before .before .before .before .before .before .before .every-row .ensures) (c .before .before .before .before .before .before .every-row2 .ensures))) (c .before .both3 .ensures ∙ ap₂ _&&_ (c .before .before .before .before .before .every-row3 .ensures) (c .before .before .before .before .every-row4 .ensures)) ∙ rows-both (now (s .args .tables)) (s .args .c)
+returns c =
+    let c₁ = c .before .before .before .before .before .before in
+    let c₂ = c₁ .before in
+    let c₃ = c₂ .before in
+    let s = c₃ .before .before in
+    c .both4 .ensures ∙ ap₂ _&&_ (c .before .before .both2 .ensures ∙ ap₂ _&&_ (c₃ .stop-times-ok .ensures) (c .before .before .before .both .ensures ∙ ap₂ _&&_ (c₂ .every-row .ensures) (c₁ .every-row2 .ensures))) (c .before .both3 .ensures ∙ ap₂ _&&_ (c .before .before .before .before .before .every-row3 .ensures) (c .before .before .before .before .every-row4 .ensures)) ∙ rows-both (now (s .args .tables)) (s .args .c)
 
 pub rows-ok-spec : {M : Type 1} → statement M
 rows-ok-spec =

@@ -65,7 +65,10 @@ loop-less : tie.Need-loop-less Inv-loop μ-loop
 loop-less c = omega arith
 
 loop-again : tie.Need-loop-again Inv-loop μ-loop
-loop-again c = let s = c .before .before .before .before .before .before .before .before .before in let l = c .before .before .before .before .before .before .before .loop in (c .before .before .before .before .before .before .before .loop .inv .0, omega arith, every-keep (inRange (now (s .args .tables)) (s .args .c)) (l .i) (s .args .c .times) (kept (s .args .c) (l .stops) (l .times) (l .codes)) (l .inv .2) (kept-next (now (s .args .tables)) (s .args .c) (l .i) (l .stops) (l .times) (l .codes) (c .before .before .before .before .before .field .ensures .0) (c .before .before .before .before .larger .ensures) (c .before .before .before .word .ensures) (c .before .before .word2 .ensures) (c .before .word3 .ensures) (c .word4 .ensures)) (omega arith))
+loop-again c =
+    let c₁ = c .before .before .before .before .before .before .before in
+    let s = c₁ .before .before in
+    let l = c₁ .loop in (c₁ .loop .inv .0, omega arith, every-keep (inRange (now (s .args .tables)) (s .args .c)) (l .i) (s .args .c .times) (kept (s .args .c) (l .stops) (l .times) (l .codes)) (l .inv .2) (kept-next (now (s .args .tables)) (s .args .c) (l .i) (l .stops) (l .times) (l .codes) (c .before .before .before .before .before .field .ensures .0) (c .before .before .before .before .larger .ensures) (c .before .before .before .word .ensures) (c .before .before .word2 .ensures) (c .before .word3 .ensures) (c .word4 .ensures)) (omega arith))
 
 both-requires : tie.Need-both-requires Inv-loop μ-loop
 both-requires c κs = search needs

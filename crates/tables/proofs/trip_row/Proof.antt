@@ -28,7 +28,10 @@ trip-requires-8 : tie.Need-trip-requires-8
 trip-requires-8 c κs = search needs
 
 returns : tie.Need-returns
-returns c = (same-trip (c .before .before .before .before .before .before .before .trip .ensures .0) (c .before .before .before .before .before .before .trip2 .ensures .0) (c .before .before .before .before .before .trip3 .ensures .0) (c .before .before .before .before .trip4 .ensures .0) (c .before .before .before .trip5 .ensures .0) (c .before .before .trip6 .ensures .0) (c .before .trip7 .ensures .0) (c .trip8 .ensures .0), search needs)
+returns c =
+    let c₁ = c .before .before .before .before .before .before in
+    let c₂ = c₁ .before in
+    (same-trip (c₂ .trip .ensures .0) (c₁ .trip2 .ensures .0) (c .before .before .before .before .before .trip3 .ensures .0) (c .before .before .before .before .trip4 .ensures .0) (c .before .before .before .trip5 .ensures .0) (c .before .before .trip6 .ensures .0) (c .before .trip7 .ensures .0) (c .trip8 .ensures .0), search needs)
 
 pub trip-row-spec : {M : Type 1} → statement M
 trip-row-spec =

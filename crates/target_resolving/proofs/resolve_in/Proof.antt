@@ -39,13 +39,21 @@ loop-less : tie.Need-loop-less Inv-loop μ-loop
 loop-less c = omega arith
 
 loop-again : tie.Need-loop-again Inv-loop μ-loop
-loop-again c = let s = c .before .before .before .before .before .before .before .before .before .before in (omega arith, λ T Q trip p g q l. c .before .before .before .before .before .loop .inv .1 T Q trip p g q l ∙ left-step T Q (s .args .is-fifo) (s .args .off) (s .args .after) (s .args .best) trip (s .args .k) p (c .before .before .before .before .before .loop .j) _ _ (c .before .before .before .before .loop-test .taken) (l .place (c .before .before .before .before .before .loop .j) (c .before .before .before .before .loop-test .taken) ∙ sym (c .before .before .before .field .ensures .0)) (sym (c .enum-told .given .1) ∙ c .before .before .try-trip .ensures T Q g q))
+loop-again c =
+    let c₁ = c .before .before .before .before in
+    let c₂ = c₁ .before in
+    let s = c₂ .before .before .before .before .before in
+    (omega arith, λ T Q trip p g q l. c₂ .loop .inv .1 T Q trip p g q l ∙ left-step T Q (s .args .is-fifo) (s .args .off) (s .args .after) (s .args .best) trip (s .args .k) p (c₂ .loop .j) _ _ (c₁ .loop-test .taken) (l .place (c₂ .loop .j) (c₁ .loop-test .taken) ∙ sym (c .before .before .before .field .ensures .0)) (sym (c .enum-told .given .1) ∙ c .before .before .try-trip .ensures T Q g q))
 
 enum-told-2 : tie.Need-enum-told-2 Inv-loop μ-loop
 enum-told-2 c = search needs
 
 returns : tie.Need-returns Inv-loop μ-loop
-returns c = let s = c .before .before .before .before .before .before .before .before .before .before in λ T Q trip p g q l. sym (c .before .before .before .before .before .loop .inv .1 T Q trip p g q l ∙ left-step T Q (s .args .is-fifo) (s .args .off) (s .args .after) (s .args .best) trip (s .args .k) p (c .before .before .before .before .before .loop .j) _ _ (c .before .before .before .before .loop-test .taken) (l .place (c .before .before .before .before .before .loop .j) (c .before .before .before .before .loop-test .taken) ∙ sym (c .before .before .before .field .ensures .0)) (sym (c .enum-told2 .given .1) ∙ c .before .before .try-trip .ensures T Q g q))
+returns c =
+    let c₁ = c .before .before .before .before in
+    let c₂ = c₁ .before in
+    let s = c₂ .before .before .before .before .before in
+    λ T Q trip p g q l. sym (c₂ .loop .inv .1 T Q trip p g q l ∙ left-step T Q (s .args .is-fifo) (s .args .off) (s .args .after) (s .args .best) trip (s .args .k) p (c₂ .loop .j) _ _ (c₁ .loop-test .taken) (l .place (c₂ .loop .j) (c₁ .loop-test .taken) ∙ sym (c .before .before .before .field .ensures .0)) (sym (c .enum-told2 .given .1) ∙ c .before .before .try-trip .ensures T Q g q))
 
 enum-known-step : tie.Need-enum-known-step Inv-loop μ-loop
 enum-known-step c = search needs
@@ -54,7 +62,11 @@ cast-t19 : tie.Need-cast-t19 Inv-loop μ-loop
 cast-t19 c = omega (arith, c .before .before .before .before .field .ensures .1)
 
 returns-2 : tie.Need-returns-2 Inv-loop μ-loop
-returns-2 c = let s = c .before .before .before .before .before .before .before .before .before .before .before in λ T Q trip p g q l. sym (c .before .before .before .before .before .before .loop .inv .1 T Q trip p g q l ∙ left-step T Q (s .args .is-fifo) (s .args .off) (s .args .after) (s .args .best) trip (s .args .k) p (c .before .before .before .before .before .before .loop .j) _ _ (c .before .before .before .before .before .loop-test .taken) (l .place (c .before .before .before .before .before .before .loop .j) (c .before .before .before .before .before .loop-test .taken) ∙ sym (c .before .before .before .before .field .ensures .0)) (sym (c .before .step .given .1) ∙ c .before .before .before .try-trip .ensures T Q g q))
+returns-2 c =
+    let c₁ = c .before .before .before .before .before in
+    let c₂ = c₁ .before in
+    let s = c₂ .before .before .before .before .before in
+    λ T Q trip p g q l. sym (c₂ .loop .inv .1 T Q trip p g q l ∙ left-step T Q (s .args .is-fifo) (s .args .off) (s .args .after) (s .args .best) trip (s .args .k) p (c₂ .loop .j) _ _ (c₁ .loop-test .taken) (l .place (c₂ .loop .j) (c₁ .loop-test .taken) ∙ sym (c .before .before .before .before .field .ensures .0)) (sym (c .before .step .given .1) ∙ c .before .before .before .try-trip .ensures T Q g q))
 
 returns-3 : tie.Need-returns-3 Inv-loop μ-loop
 returns-3 c = let s = c .before .before .before .before .before .before in λ T Q trip p g q l. left-end T Q (s .args .is-fifo) (s .args .off) (s .args .after) (s .args .best) trip (s .args .k) p (c .before .loop .j) (c .loop-test .left) ∙ sym (c .before .loop .inv .1 T Q trip p g q l)

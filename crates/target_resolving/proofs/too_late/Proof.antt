@@ -26,7 +26,7 @@ both-requires-2 : tie.Need-both-requires-2
 both-requires-2 c κs = search needs
 
 returns : tie.Need-returns
-returns c = let s = c .before .before .before .before .before .before in λ T Q e q. late-is T Q (now (s .args .tables)) (s .args .c) (s .args .w) (s .args .is-fifo) (s .args .trip) (s .args .off) (s .args .best) _ _ _ _ e q (c .before .before .before .before .event-word .ensures) (c .before .trip .ensures .0) (c .before .before .both .ensures) (c .both2 .ensures)
+returns c = let s = c .before .before .before .before .before .before in λ T Q e q. late-is T Q (now (s .args .tables)) (s .args .c) (s .args .terms) (s .args .is-fifo) (s .args .trip) (s .args .off) (s .args .best) _ _ _ _ e q (c .before .before .before .before .event-word .ensures) (c .before .trip .ensures .0) (c .before .before .both .ensures) (c .both2 .ensures)
 
 pub too-late-spec : {M : Type 1} → statement M
 too-late-spec =

@@ -14,10 +14,14 @@ slice-relend-prefix-build-in-2 : tie.Need-slice-relend-prefix-build-in-2
 slice-relend-prefix-build-in-2 c = search needs
 
 slice-aggregate-build-in-2 : tie.Need-slice-aggregate-build-in-2
-slice-aggregate-build-in-2 c = sym (length-take-le _ _ (c .before .before .before .before .before .before .before .before .before .before .before .before .pre .1 .1))
+slice-aggregate-build-in-2 c =
+    let c₁ = c .before .before .before .before .before .before .before .before .before .before .before .before in
+    sym (length-take-le _ _ (c₁ .pre .1 .1))
 
 build-in-requires : tie.Need-build-in-requires
-build-in-requires c κs = (c .before .before .before .before .before .before .before .before .before .before .before .before .pre .0, (length-take-le _ _ (c .before .before .before .before .before .before .before .before .before .before .before .before .pre .1 .0), length-take-le _ _ (c .before .before .before .before .before .before .before .before .before .before .before .before .pre .1 .1)))
+build-in-requires c κs =
+    let c₁ = c .before .before .before .before .before .before .before .before .before .before .before .before in
+    (c₁ .pre .0, (length-take-le _ _ (c₁ .pre .1 .0), length-take-le _ _ (c₁ .pre .1 .1)))
 
 same-length : tie.Need-same-length
 same-length c = search needs

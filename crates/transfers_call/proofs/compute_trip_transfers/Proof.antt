@@ -13,7 +13,9 @@ questions-requires : tie.Need-questions-requires
 questions-requires c κs = search needs
 
 returns : tie.Need-returns
-returns c = refused (transferLent (now (c .before .before .before .before .before .before .before .before .args .tables)) (c .before .before .before .before .before .before .before .before .args .c) (c .before .before .before .before .before .before .before .before .args .line-count) (now (c .before .before .before .before .before .before .before .before .args .lines)) (c .before .before .before .before .before .before .before .before .args .d) (now (c .before .before .before .before .before .before .before .before .args .runs)) (now (c .before .before .before .before .before .before .before .before .args .rows)) (c .before .before .before .before .before .before .before .before .args .transfer-time)) (transferAreas (now (c .before .before .before .before .before .before .before .before .args .area)) (now (c .before .before .before .before .before .before .before .before .args .transfer-runs))) (c .before .questions .result) (c .before .questions .ensures) (λ z. omega (arith, z, c .if1 .taken))
+returns c =
+    let c₁ = c .before .before .before .before .before .before .before .before in
+    refused (transferLent (now (c₁ .args .tables)) (c₁ .args .c) (c₁ .args .line-count) (now (c₁ .args .lines)) (c₁ .args .d) (now (c₁ .args .runs)) (now (c₁ .args .rows)) (c₁ .args .transfer-time)) (transferAreas (now (c₁ .args .area)) (now (c₁ .args .transfer-runs))) (c .before .questions .result) (c .before .questions .ensures) (λ z. omega (arith, z, c .if1 .taken))
 
 slice-aggregate-build : tie.Need-slice-aggregate-build
 slice-aggregate-build c = search needs
@@ -22,7 +24,9 @@ slice-aggregate-build-2 : tie.Need-slice-aggregate-build-2
 slice-aggregate-build-2 c = search needs
 
 build-requires : tie.Need-build-requires
-build-requires c κs = let a = admitted (transferLent (now (c .before .before .before .before .before .before .before .before .before .before .before .before .args .tables)) (c .before .before .before .before .before .before .before .before .before .before .before .before .args .c) (c .before .before .before .before .before .before .before .before .before .before .before .before .args .line-count) (now (c .before .before .before .before .before .before .before .before .before .before .before .before .args .lines)) (c .before .before .before .before .before .before .before .before .before .before .before .before .args .d) (now (c .before .before .before .before .before .before .before .before .before .before .before .before .args .runs)) (now (c .before .before .before .before .before .before .before .before .before .before .before .before .args .rows)) (c .before .before .before .before .before .before .before .before .before .before .before .before .args .transfer-time)) (length (now (c .before .before .before .before .before .before .before .before .before .before .before .before .args .transfer-runs))) (sym (c .before .before .before .before .before .questions .ensures) ∙ c .before .before .before .before .if1 .left) in (a, (repeat-room 65536 (c .before .before .before .before .before .before .before .before .before .before .before .before .args .d) 0 (a .listed .stops .few), repeat-room 65536 (c .before .before .before .before .before .before .before .before .before .before .before .before .args .d) 0 (a .listed .stops .few)))
+build-requires c κs =
+    let c₁ = c .before .before .before .before .before .before .before .before .before .before .before .before in
+    let a = admitted (transferLent (now (c₁ .args .tables)) (c₁ .args .c) (c₁ .args .line-count) (now (c₁ .args .lines)) (c₁ .args .d) (now (c₁ .args .runs)) (now (c₁ .args .rows)) (c₁ .args .transfer-time)) (length (now (c₁ .args .transfer-runs))) (sym (c .before .before .before .before .before .questions .ensures) ∙ c .before .before .before .before .if1 .left) in (a, (repeat-room 65536 (c₁ .args .d) 0 (a .listed .stops .few), repeat-room 65536 (c₁ .args .d) 0 (a .listed .stops .few)))
 
 same-length : tie.Need-same-length
 same-length c = search needs
@@ -31,7 +35,12 @@ same-length-2 : tie.Need-same-length-2
 same-length-2 c = search needs
 
 returns-2 : tie.Need-returns-2
-returns-2 c = c .before .before .before .before .before .before .build .ensures ∙ answered (transferLent (now (c .before .before .before .before .before .before .before .before .before .before .before .before .before .before .before .before .before .before .before .args .tables)) (c .before .before .before .before .before .before .before .before .before .before .before .before .before .before .before .before .before .before .before .args .c) (c .before .before .before .before .before .before .before .before .before .before .before .before .before .before .before .before .before .before .before .args .line-count) (now (c .before .before .before .before .before .before .before .before .before .before .before .before .before .before .before .before .before .before .before .args .lines)) (c .before .before .before .before .before .before .before .before .before .before .before .before .before .before .before .before .before .before .before .args .d) (now (c .before .before .before .before .before .before .before .before .before .before .before .before .before .before .before .before .before .before .before .args .runs)) (now (c .before .before .before .before .before .before .before .before .before .before .before .before .before .before .before .before .before .before .before .args .rows)) (c .before .before .before .before .before .before .before .before .before .before .before .before .before .before .before .before .before .before .before .args .transfer-time)) (transferAreas (now (c .before .before .before .before .before .before .before .before .before .before .before .before .before .before .before .before .before .before .before .args .area)) (now (c .before .before .before .before .before .before .before .before .before .before .before .before .before .before .before .before .before .before .before .args .transfer-runs))) (c .before .before .before .before .before .before .before .before .before .before .before .before .questions .result) (c .before .before .before .before .before .before .before .before .before .before .before .before .questions .ensures) (c .before .before .before .before .before .before .before .before .before .before .before .if1 .left)
+returns-2 c =
+    let c₁ = c .before .before .before .before .before .before in
+    let c₂ = c₁ .before .before .before .before .before in
+    let c₃ = c₂ .before in
+    let c₄ = c₃ .before .before .before .before .before .before .before in
+    c₁ .build .ensures ∙ answered (transferLent (now (c₄ .args .tables)) (c₄ .args .c) (c₄ .args .line-count) (now (c₄ .args .lines)) (c₄ .args .d) (now (c₄ .args .runs)) (now (c₄ .args .rows)) (c₄ .args .transfer-time)) (transferAreas (now (c₄ .args .area)) (now (c₄ .args .transfer-runs))) (c₃ .questions .result) (c₃ .questions .ensures) (c₂ .if1 .left)
 
 pub compute-trip-transfers-spec : {M : Type 1} → statement M
 compute-trip-transfers-spec =

@@ -23,7 +23,9 @@ departure-row-requires : tie.Need-departure-row-requires Inv-loop μ-loop
 departure-row-requires c κs = omega arith
 
 pack-line-requires : tie.Need-pack-line-requires Inv-loop μ-loop
-pack-line-requires c κs = let k = c .before .before .before .before .before .before .before .pre .1 .0 .known (c .before .before .loop .k) (omega arith) in (search needs, (rw (c .departure-row .ensures) k, (c .before .before .before .before .before .before .before .pre .1 .1 .0 .size, rw (c .departure-row .ensures) (omega (arith, c .before .before .before .before .before .before .before .pre .1 .1 .0 .few, c .before .before .before .before .before .before .before .pre .1 .1 .0 .line _ (k .trip))))))
+pack-line-requires c κs =
+    let c₁ = c .before .before .before .before .before .before .before in
+    let k = c₁ .pre .1 .0 .known (c .before .before .loop .k) (omega arith) in (search needs, (rw (c .departure-row .ensures) k, (c₁ .pre .1 .1 .0 .size, rw (c .departure-row .ensures) (omega (arith, c₁ .pre .1 .1 .0 .few, c₁ .pre .1 .1 .0 .line _ (k .trip))))))
 
 mul-work : tie.Need-mul-work Inv-loop μ-loop
 mul-work c = omega arith
@@ -38,13 +40,18 @@ loop-less : tie.Need-loop-less Inv-loop μ-loop
 loop-less c = omega arith
 
 loop-again : tie.Need-loop-again Inv-loop μ-loop
-loop-again c = (simp length-set (omega arith), simp length-set (omega arith), fill-again (packedLineAt (now (c .before .before .before .before .before .before .before .before .args .tables)) (c .before .before .before .before .before .before .before .before .args .c) (now (c .before .before .before .before .before .before .before .before .args .lines)) (now (c .before .before .before .before .before .before .before .before .args .rows))) (c .before .before .before .loop .k) (c .before .before .before .loop .work) _ (c .before .before .before .loop .inv .2) (ap (set (c .before .before .before .loop .work) (c .before .before .before .loop .k)) (c .pack-line .ensures ∙ ap (packLine _ _ _) (c .before .departure-row .ensures))) (omega arith))
+loop-again c =
+    let c₁ = c .before .before .before in
+    let c₂ = c₁ .before .before .before .before .before in
+    (simp length-set (omega arith), simp length-set (omega arith), fill-again (packedLineAt (now (c₂ .args .tables)) (c₂ .args .c) (now (c₂ .args .lines)) (now (c₂ .args .rows))) (c₁ .loop .k) (c₁ .loop .work) _ (c₁ .loop .inv .2) (ap (set (c₁ .loop .work) (c₁ .loop .k)) (c .pack-line .ensures ∙ ap (packLine _ _ _) (c .before .departure-row .ensures))) (omega arith))
 
 same-length : tie.Need-same-length Inv-loop μ-loop
 same-length c = omega arith
 
 returns : tie.Need-returns Inv-loop μ-loop
-returns c = tab-is (packedLineAt (now (c .before .before .before .before .before .before .args .tables)) (c .before .before .before .before .before .before .args .c) (now (c .before .before .before .before .before .before .args .lines)) (now (c .before .before .before .before .before .before .args .rows))) _ _ (omega arith) (λ k x. c .before .loop .inv .2 k (omega arith))
+returns c =
+    let c₁ = c .before .before .before .before .before .before in
+    tab-is (packedLineAt (now (c₁ .args .tables)) (c₁ .args .c) (now (c₁ .args .lines)) (now (c₁ .args .rows))) _ _ (omega arith) (λ k x. c .before .loop .inv .2 k (omega arith))
 
 pub pack-lines-spec : {M : Type 1} → statement M
 pack-lines-spec =

@@ -23,7 +23,10 @@ q3 c = answer3 _ (c .before .both3 .ensures) (c .before .before .before .runs-ok
 
 q4 : (c : tie.Else4) → transfersQuestion4 (lentAt (c .before .before .before .before .before .before .before .before .before .before .before .before .before .before .before .before .before .before .before .before)) ≡ true
 q4 c =
-    let size = second (lentAt (c .before .before .before .before .before .before .before .before .before .before .before .before .before .before .before .before .before .before .before .before)) (c .before .before .before .before .before .before .before .before .before .before .before .before .before .before .before .before .before .before .before .before .args .evs) (q2 (c .before .before .before .before .before .before .before .before .before .before)) .sizes .linesIs in
+    let c₁ = c .before .before .before .before .before .before .before .before .before in
+    let c₂ = c₁ .before .before .before .before .before .before .before .before .before .before in
+    let c₃ = c₂ .before in
+    let size = second (lentAt (c₂ .before)) (c₃ .args .evs) (q2 (c₁ .before)) .sizes .linesIs in
     answer4 _ (c .before .both5 .ensures) (c .before .before .before .before .before .numbers-ok .ensures) (c .before .before .both4 .ensures) (c .before .before .before .before .lines-ok .ensures) size (c .before .before .before .listed-ok .ensures) (not-false _ (c .if4 .left))
 
 q5 : (c : tie.Else5) → transfersQuestion5 (lentAt (c .before .before .before .before .before .before .before .before .before .before .before .before .before .before .before .before .before .before .before .before .before .before .before)) ≡ true
@@ -48,25 +51,40 @@ returns-2 : tie.Need-returns-2
 returns-2 c = no2 _ _ (q1 (c .before .before)) (answer2 _ _ (c .before .lent-ok .ensures) (not-true _ (c .if2 .taken)))
 
 runs-ok-requires : tie.Need-runs-ok-requires
-runs-ok-requires c κs = need3 (lentAt (c .before .before .before .before .before .before .before .before .before .before)) (c .before .before .before .before .before .before .before .before .before .before .args .evs) (q1 (c .before .before)) (q2 c)
+runs-ok-requires c κs =
+    let c₁ = c .before .before .before .before .before .before .before .before .before in
+    let c₂ = c₁ .before in
+    need3 (lentAt (c₁ .before)) (c₂ .args .evs) (q1 (c .before .before)) (q2 c)
 
 stop-runs-ok-requires : tie.Need-stop-runs-ok-requires
-stop-runs-ok-requires c κs = second (lentAt (c .before .before .before .before .before .before .before .before .before .before .before)) (c .before .before .before .before .before .before .before .before .before .before .before .args .evs) (q2 (c .before)) .sizes .runsIs
+stop-runs-ok-requires c κs =
+    let c₁ = c .before .before .before .before .before .before .before .before .before .before in
+    let c₂ = c₁ .before in
+    second (lentAt (c₁ .before)) (c₂ .args .evs) (q2 (c .before)) .sizes .runsIs
 
 both-requires-3 : tie.Need-both-requires-3
 both-requires-3 c κs = search needs
 
 returns-3 : tie.Need-returns-3
-returns-3 c = no3 _ _ (q1 (c .before .before .before .before .before .before)) (q2 (c .before .before .before .before)) (answer3 _ (c .before .both3 .ensures) (c .before .before .before .runs-ok .ensures) (c .before .before .stop-runs-ok .ensures) (not-true _ (c .if3 .taken)))
+returns-3 c =
+    let c₁ = c .before .before .before in
+    no3 _ _ (q1 (c .before .before .before .before .before .before)) (q2 (c₁ .before)) (answer3 _ (c .before .both3 .ensures) (c₁ .runs-ok .ensures) (c .before .before .stop-runs-ok .ensures) (not-true _ (c .if3 .taken)))
 
 numbers-ok-requires : tie.Need-numbers-ok-requires
-numbers-ok-requires c κs = need3 (lentAt (c .before .before .before .before .before .before .before .before .before .before .before .before .before .before)) (c .before .before .before .before .before .before .before .before .before .before .before .before .before .before .args .evs) (q1 (c .before .before .before .before .before .before)) (q2 (c .before .before .before .before))
+numbers-ok-requires c κs =
+    let c₁ = c .before .before .before .before .before .before .before .before .before .before .before .before .before in
+    let c₂ = c₁ .before in
+    need3 (lentAt (c₁ .before)) (c₂ .args .evs) (q1 (c .before .before .before .before .before .before)) (q2 (c .before .before .before .before))
 
 lines-ok-requires : tie.Need-lines-ok-requires
 lines-ok-requires c κs = search needs
 
 listed-ok-requires : tie.Need-listed-ok-requires
-listed-ok-requires c κs = need4 (lentAt (c .before .before .before .before .before .before .before .before .before .before .before .before .before .before .before .before)) (c .before .before .before .before .before .before .before .before .before .before .before .before .before .before .before .before .args .evs) (q1 (c .before .before .before .before .before .before .before .before)) (q2 (c .before .before .before .before .before .before)) (q3 (c .before .before))
+listed-ok-requires c κs =
+    let c₁ = c .before .before .before .before .before .before .before in
+    let c₂ = c₁ .before .before .before .before .before .before .before .before in
+    let c₃ = c₂ .before in
+    need4 (lentAt (c₂ .before)) (c₃ .args .evs) (q1 (c₁ .before)) (q2 (c .before .before .before .before .before .before)) (q3 (c .before .before))
 
 both-requires-4 : tie.Need-both-requires-4
 both-requires-4 c κs = search needs
@@ -76,27 +94,54 @@ both-requires-5 c κs = search needs
 
 returns-4 : tie.Need-returns-4
 returns-4 c =
-    let size = second (lentAt (c .before .before .before .before .before .before .before .before .before .before .before .before .before .before .before .before .before .before .before .before)) (c .before .before .before .before .before .before .before .before .before .before .before .before .before .before .before .before .before .before .before .before .args .evs) (q2 (c .before .before .before .before .before .before .before .before .before .before)) .sizes .linesIs in
-    no4 _ _ (q1 (c .before .before .before .before .before .before .before .before .before .before .before .before)) (q2 (c .before .before .before .before .before .before .before .before .before .before)) (q3 (c .before .before .before .before .before .before))
-    (answer4 _ (c .before .both5 .ensures) (c .before .before .before .before .before .numbers-ok .ensures) (c .before .before .both4 .ensures) (c .before .before .before .before .lines-ok .ensures) size (c .before .before .before .listed-ok .ensures) (not-true _ (c .if4 .taken)))
+    let c₁ = c .before .before .before .before .before in
+    let c₂ = c₁ .before .before .before .before in
+    let c₃ = c₂ .before .before in
+    let c₄ = c₃ .before .before .before .before .before .before .before .before in
+    let c₅ = c₄ .before in
+    let size = second (lentAt (c₄ .before)) (c₅ .args .evs) (q2 (c₂ .before)) .sizes .linesIs in
+    no4 _ _ (q1 (c₃ .before)) (q2 (c₂ .before)) (q3 (c₁ .before))
+    (answer4 _ (c .before .both5 .ensures) (c₁ .numbers-ok .ensures) (c .before .before .both4 .ensures) (c .before .before .before .before .lines-ok .ensures) size (c .before .before .before .listed-ok .ensures) (not-true _ (c .if4 .taken)))
 
 ranges-ok-requires : tie.Need-ranges-ok-requires
-ranges-ok-requires c κs = need3 (lentAt (c .before .before .before .before .before .before .before .before .before .before .before .before .before .before .before .before .before .before .before .before)) (c .before .before .before .before .before .before .before .before .before .before .before .before .before .before .before .before .before .before .before .before .args .evs) (q1 (c .before .before .before .before .before .before .before .before .before .before .before .before)) (q2 (c .before .before .before .before .before .before .before .before .before .before))
+ranges-ok-requires c κs =
+    let c₁ = c .before .before .before .before .before .before .before .before .before in
+    let c₂ = c₁ .before .before in
+    let c₃ = c₂ .before .before .before .before .before .before .before .before in
+    let c₄ = c₃ .before in
+    need3 (lentAt (c₃ .before)) (c₄ .args .evs) (q1 (c₂ .before)) (q2 (c₁ .before))
 
 both-requires-6 : tie.Need-both-requires-6
 both-requires-6 c κs = search needs
 
 returns-5 : tie.Need-returns-5
-returns-5 c = no5 _ _ (q1 (c .before .before .before .before .before .before .before .before .before .before .before .before .before .before .before)) (q2 (c .before .before .before .before .before .before .before .before .before .before .before .before .before)) (q3 (c .before .before .before .before .before .before .before .before .before)) (q4 (c .before .before .before)) (answer5 _ (c .before .both6 .ensures) (c .before .before .ranges-ok .ensures) refl (not-true _ (c .if5 .taken)))
+returns-5 c =
+    let c₁ = c .before .before .before .before .before .before .before .before in
+    let c₂ = c₁ .before .before .before .before in
+    let c₃ = c₂ .before .before in
+    no5 _ _ (q1 (c₃ .before)) (q2 (c₂ .before)) (q3 (c₁ .before)) (q4 (c .before .before .before)) (answer5 _ (c .before .both6 .ensures) (c .before .before .ranges-ok .ensures) refl (not-true _ (c .if5 .taken)))
 
 order-ok-requires : tie.Need-order-ok-requires
-order-ok-requires c κs = need3 (lentAt (c .before .before .before .before .before .before .before .before .before .before .before .before .before .before .before .before .before .before .before .before .before .before .before)) (c .before .before .before .before .before .before .before .before .before .before .before .before .before .before .before .before .before .before .before .before .before .before .before .args .evs) (q1 (c .before .before .before .before .before .before .before .before .before .before .before .before .before .before .before)) (q2 (c .before .before .before .before .before .before .before .before .before .before .before .before .before))
+order-ok-requires c κs =
+    let c₁ = c .before .before .before .before .before .before .before .before .before .before .before .before in
+    let c₂ = c₁ .before .before in
+    let c₃ = c₂ .before .before .before .before .before .before .before .before in
+    let c₄ = c₃ .before in
+    need3 (lentAt (c₃ .before)) (c₄ .args .evs) (q1 (c₂ .before)) (q2 (c₁ .before))
 
 returns-6 : tie.Need-returns-6
-returns-6 c = no6 _ _ (q1 (c .before .before .before .before .before .before .before .before .before .before .before .before .before .before .before .before .before)) (q2 (c .before .before .before .before .before .before .before .before .before .before .before .before .before .before .before)) (q3 (c .before .before .before .before .before .before .before .before .before .before .before)) (q4 (c .before .before .before .before .before)) (q5 (c .before .before)) (answer6 _ (c .before .order-ok .ensures) (not-true _ (c .if6 .taken)))
+returns-6 c =
+    let c₁ = c .before .before .before .before .before .before .before .before .before .before in
+    let c₂ = c₁ .before .before .before .before in
+    let c₃ = c₂ .before .before in
+    no6 _ _ (q1 (c₃ .before)) (q2 (c₂ .before)) (q3 (c₁ .before)) (q4 (c .before .before .before .before .before)) (q5 (c .before .before)) (answer6 _ (c .before .order-ok .ensures) (not-true _ (c .if6 .taken)))
 
 returns-7 : tie.Need-returns-7
-returns-7 c = yes _ _ (q1 (c .before .before .before .before .before .before .before .before .before .before .before .before .before .before .before .before .before)) (q2 (c .before .before .before .before .before .before .before .before .before .before .before .before .before .before .before)) (q3 (c .before .before .before .before .before .before .before .before .before .before .before)) (q4 (c .before .before .before .before .before)) (q5 (c .before .before)) (answer6 _ (c .before .order-ok .ensures) (not-false _ (c .if6 .left)))
+returns-7 c =
+    let c₁ = c .before .before .before .before .before .before .before .before .before .before in
+    let c₂ = c₁ .before .before .before .before in
+    let c₃ = c₂ .before .before in
+    yes _ _ (q1 (c₃ .before)) (q2 (c₂ .before)) (q3 (c₁ .before)) (q4 (c .before .before .before .before .before)) (q5 (c .before .before)) (answer6 _ (c .before .order-ok .ensures) (not-false _ (c .if6 .left)))
 
 pub questions-spec : {M : Type 1} → statement M
 questions-spec =

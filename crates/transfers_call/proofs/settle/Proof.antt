@@ -26,7 +26,12 @@ same-length-2 : tie.Need-same-length-2
 same-length-2 c = search needs
 
 returns : tie.Need-returns
-returns c = settle-most (prepared (now (c .before .before .before .before .before .before .before .before .before .before .before .before .before .before .before .before .args .tables)) (c .before .before .before .before .before .before .before .before .before .before .before .before .before .before .before .before .args .c) (now (c .before .before .before .before .before .before .before .before .before .before .before .before .before .before .before .before .args .runs)) (now (c .before .before .before .before .before .before .before .before .before .before .before .before .before .before .before .before .args .work)) (c .before .before .before .before .before .before .before .before .before .before .before .before .before .before .before .before .args .time)) (transferAreas (now (c .before .before .before .before .before .before .before .before .before .before .before .before .before .before .before .before .args .area)) (now (c .before .before .before .before .before .before .before .before .before .before .before .before .before .before .before .before .args .transfer-runs))) _ _ _ _ _ (c .before .before .before .before .before .before .before .before .before .most-all .ensures) (c .before .before .before .before .before .before .before .before .room-ok .ensures) (c .before .before .before .before .before .before .before .if1 .taken) (c .before .before .before .before .all-events .ensures .0)
+returns c =
+    let c₁ = c .before .before .before .before .before .before .before in
+    let c₂ = c₁ .before in
+    let c₃ = c₂ .before in
+    let c₄ = c₃ .before .before .before .before .before .before .before in
+    settle-most (prepared (now (c₄ .args .tables)) (c₄ .args .c) (now (c₄ .args .runs)) (now (c₄ .args .work)) (c₄ .args .time)) (transferAreas (now (c₄ .args .area)) (now (c₄ .args .transfer-runs))) _ _ _ _ _ (c₃ .most-all .ensures) (c₂ .room-ok .ensures) (c₁ .if1 .taken) (c .before .before .before .before .all-events .ensures .0)
 
 total-requires : tie.Need-total-requires
 total-requires c κs = search needs
@@ -35,7 +40,9 @@ room-ok-requires-2 : tie.Need-room-ok-requires-2
 room-ok-requires-2 c κs = search needs
 
 returns-2 : tie.Need-returns-2
-returns-2 c = settle-no (prepared (now (c .before .before .before .before .before .before .before .before .before .before .before .before .args .tables)) (c .before .before .before .before .before .before .before .before .before .before .before .before .args .c) (now (c .before .before .before .before .before .before .before .before .before .before .before .before .args .runs)) (now (c .before .before .before .before .before .before .before .before .before .before .before .before .args .work)) (c .before .before .before .before .before .before .before .before .before .before .before .before .args .time)) (transferAreas (now (c .before .before .before .before .before .before .before .before .before .before .before .before .args .area)) (now (c .before .before .before .before .before .before .before .before .before .before .before .before .args .transfer-runs))) _ _ (c .before .before .total .ensures) (c .before .room-ok2 .ensures) (not-true _ (c .if2 .taken))
+returns-2 c =
+    let c₁ = c .before .before .before .before .before .before .before .before .before .before .before .before in
+    settle-no (prepared (now (c₁ .args .tables)) (c₁ .args .c) (now (c₁ .args .runs)) (now (c₁ .args .work)) (c₁ .args .time)) (transferAreas (now (c₁ .args .area)) (now (c₁ .args .transfer-runs))) _ _ (c .before .before .total .ensures) (c .before .room-ok2 .ensures) (not-true _ (c .if2 .taken))
 
 all-events-requires-2 : tie.Need-all-events-requires-2
 all-events-requires-2 c κs = search needs
@@ -50,7 +57,12 @@ same-length-4 : tie.Need-same-length-4
 same-length-4 c = search needs
 
 returns-3 : tie.Need-returns-3
-returns-3 c = settle-yes (prepared (now (c .before .before .before .before .before .before .before .before .before .before .before .before .before .before .before .before .before .before .before .args .tables)) (c .before .before .before .before .before .before .before .before .before .before .before .before .before .before .before .before .before .before .before .args .c) (now (c .before .before .before .before .before .before .before .before .before .before .before .before .before .before .before .before .before .before .before .args .runs)) (now (c .before .before .before .before .before .before .before .before .before .before .before .before .before .before .before .before .before .before .before .args .work)) (c .before .before .before .before .before .before .before .before .before .before .before .before .before .before .before .before .before .before .before .args .time)) (transferAreas (now (c .before .before .before .before .before .before .before .before .before .before .before .before .before .before .before .before .before .before .before .args .area)) (now (c .before .before .before .before .before .before .before .before .before .before .before .before .before .before .before .before .before .before .before .args .transfer-runs))) _ _ _ _ _ (c .before .before .before .before .before .before .before .before .before .total .ensures) (c .before .before .before .before .before .before .before .before .room-ok2 .ensures) (not-false _ (c .before .before .before .before .before .before .before .if2 .left)) (c .before .before .before .before .all-events2 .ensures .0)
+returns-3 c =
+    let c₁ = c .before .before .before .before .before .before .before in
+    let c₂ = c₁ .before in
+    let c₃ = c₂ .before in
+    let c₄ = c₃ .before .before .before .before .before .before .before .before .before .before in
+    settle-yes (prepared (now (c₄ .args .tables)) (c₄ .args .c) (now (c₄ .args .runs)) (now (c₄ .args .work)) (c₄ .args .time)) (transferAreas (now (c₄ .args .area)) (now (c₄ .args .transfer-runs))) _ _ _ _ _ (c₃ .total .ensures) (c₂ .room-ok2 .ensures) (not-false _ (c₁ .if2 .left)) (c .before .before .before .before .all-events2 .ensures .0)
 
 pub settle-spec : {M : Type 1} → statement M
 settle-spec =

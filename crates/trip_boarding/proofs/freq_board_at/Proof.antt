@@ -55,7 +55,11 @@ earliest-freq-board-requires : tie.Need-earliest-freq-board-requires
 earliest-freq-board-requires c κs = let s = c .before .before .before .before .before .before .before in let from : ℕ = s .args .c .times * 6 + s .args .c .trips * 8 + c .before .before .trip .result * 3 in part-nominal (now (s .args .tables)) (s .args .c) (s .args .trip) from (from + c .before .trip2 .result * 3) (s .pre .0) (s .pre .1 .0) (omega (arith, c .before .before .trip .ensures .0)) (omega (arith, c .before .trip2 .ensures .0)) _ _ _ (omega (arith, c .before .before .before .before .before .event-word .ensures, s .pre .0 .ranges .departure (firstOf (now (s .args .tables)) (s .args .c) (s .args .trip) + 0) (event-time _ _ _ _ (s .pre .0) (record { trip = s .pre .1 .0; offset = s .pre .0 .runs .some (s .args .trip) (s .pre .1 .0) })))) (s .pre .1 .1 .0) (s .pre .1 .1 .1)
 
 returns : tie.Need-returns
-returns c = let s = c .before .before .before .before .before .before .before .before in let from : ℕ = s .args .c .times * 6 + s .args .c .trips * 8 + c .before .before .before .trip .result * 3 in part-board (now (s .args .tables)) (s .args .c) (s .args .trip) from (from + c .before .before .trip2 .result * 3) (s .pre .0) (s .pre .1 .0) (omega (arith, c .before .before .before .trip .ensures .0)) (omega (arith, c .before .before .trip2 .ensures .0)) _ _ _ _ (c .before .before .before .before .before .before .event-word .ensures) (c .earliest-freq-board .ensures)
+returns c =
+    let c₁ = c .before .before .before in
+    let c₂ = c₁ .before .before .before in
+    let s = c₂ .before .before in
+    let from : ℕ = s .args .c .times * 6 + s .args .c .trips * 8 + c₁ .trip .result * 3 in part-board (now (s .args .tables)) (s .args .c) (s .args .trip) from (from + c .before .before .trip2 .result * 3) (s .pre .0) (s .pre .1 .0) (omega (arith, c₁ .trip .ensures .0)) (omega (arith, c .before .before .trip2 .ensures .0)) _ _ _ _ (c₂ .event-word .ensures) (c .earliest-freq-board .ensures)
 
 pub freq-board-at-spec : {M : Type 1} → statement M
 freq-board-at-spec =

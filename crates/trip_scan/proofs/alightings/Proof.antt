@@ -53,16 +53,29 @@ same-length : tie.Need-same-length Inv-loop μ-loop
 same-length c = search needs
 
 same-length-2 : tie.Need-same-length-2 Inv-loop μ-loop
-same-length-2 c = (c .before .before .before .before .before .before .loop .inv .2 .ready .sized .rows) ∙ sym (c .before .before .before .before .before .before .before .before .before .before .before .before .before .before .before .pre .1 .sized .rows)
+same-length-2 c =
+    let c₁ = c .before .before .before .before .before .before in
+    let c₂ = c₁ .before .before .before .before .before .before .before .before .before in
+    (c₁ .loop .inv .2 .ready .sized .rows) ∙ sym (c₂ .pre .1 .sized .rows)
 
 same-length-3 : tie.Need-same-length-3 Inv-loop μ-loop
-same-length-3 c = (c .before .before .before .before .before .before .loop .inv .2 .ready .sized .metres) ∙ sym (c .before .before .before .before .before .before .before .before .before .before .before .before .before .before .before .pre .1 .sized .metres)
+same-length-3 c =
+    let c₁ = c .before .before .before .before .before .before in
+    let c₂ = c₁ .before .before .before .before .before .before .before .before .before in
+    (c₁ .loop .inv .2 .ready .sized .metres) ∙ sym (c₂ .pre .1 .sized .metres)
 
 returns : tie.Need-returns Inv-loop μ-loop
-returns c = let a = c .before .before .before .before .before .before .before .before .before .before .before .before .before .before .before in let x = a .args in let r = x .s .ride in let i = (c .before .before .before .before .before .before .loop .inv) in along-end _ (i .2) (λ T Q y q. alight-cut T Q (r .stamp) (hitOf (x .s .adj)) (r .shift) (r .trip) (r .stop) (r .offset) _ (c .before .before .before .before .before .before .loop .o) _ (c .before .before .before .before .before .loop-test .taken) _ ((c .before .before .before .before .shut .ensures) T Q (y .agree)) _ (c .before .before .before .if1 .left) ((c .before .before .arrival-now .ensures .1) T Q (y .agree)) (c .if2 .taken))
+returns c =
+    let c₁ = c .before .before .before .before .before .before in
+    let a = c₁ .before .before .before .before .before .before .before .before .before in
+    let x = a .args in let r = x .s .ride in let i = (c₁ .loop .inv) in along-end _ (i .2) (λ T Q y q. alight-cut T Q (r .stamp) (hitOf (x .s .adj)) (r .shift) (r .trip) (r .stop) (r .offset) _ (c₁ .loop .o) _ (c .before .before .before .before .before .loop-test .taken) _ ((c .before .before .before .before .shut .ensures) T Q (y .agree)) _ (c .before .before .before .if1 .left) ((c .before .before .arrival-now .ensures .1) T Q (y .agree)) (c .if2 .taken))
 
 alight-requires : tie.Need-alight-requires Inv-loop μ-loop
-alight-requires c κs = let a = c .before .before .before .before .before .before .before .before .before .before .before .before .before .before .before .before .before .before in let x = a .args in let r = x .s .ride in let i = (c .before .before .before .before .before .before .before .before .before .loop .inv) in let g = a .pre .0 in (record { sane = g .ground .sane; stops = g .stops; trip = g .trip; offset = omega (arith, i .0, c .before .before .before .before .before .before .before .before .loop-test .taken) }, (i .2 .ready, omega (arith, (c .before .before .before .before .before .arrival-now .ensures) .0)))
+alight-requires c κs =
+    let c₁ = c .before .before .before .before .before .before .before .before in
+    let c₂ = c₁ .before in
+    let a = c₂ .before .before .before .before .before .before .before .before .before in
+    let x = a .args in let r = x .s .ride in let i = (c₂ .loop .inv) in let g = a .pre .0 in (record { sane = g .ground .sane; stops = g .stops; trip = g .trip; offset = omega (arith, i .0, c₁ .loop-test .taken) }, (i .2 .ready, omega (arith, (c .before .before .before .before .before .arrival-now .ensures) .0)))
 
 add-o-2 : tie.Need-add-o-2 Inv-loop μ-loop
 add-o-2 c = omega arith
@@ -71,7 +84,16 @@ loop-less-2 : tie.Need-loop-less-2 Inv-loop μ-loop
 loop-less-2 c = omega arith
 
 loop-again-2 : tie.Need-loop-again-2 Inv-loop μ-loop
-loop-again-2 c = let a = c .before .before .before .before .before .before .before .before .before .before .before .before .before .before .before .before .before .before .before .before .before .before .before .before .before in let x = a .args in let r = x .s .ride in let i = (c .before .before .before .before .before .before .before .before .before .before .before .before .before .before .before .before .loop .inv) in (i .0, i .1, along-turn _ (i .2) (c .before .before .before .before .before .before .alight .ensures) (λ T Q y. (egress-kept (i .2 .same) (y .egress), y .agree .timetable)) (λ T Q y q. alight-go T Q (r .stamp) (hitOf (x .s .adj)) (r .shift) (r .trip) (r .stop) (r .offset) _ (c .before .before .before .before .before .before .before .before .before .before .before .before .before .before .before .before .loop .o) _ (c .before .before .before .before .before .before .before .before .before .before .before .before .before .before .before .loop-test .taken) _ ((c .before .before .before .before .before .before .before .before .before .before .before .before .before .before .shut .ensures) T Q (y .agree)) _ (c .before .before .before .before .before .before .before .before .before .before .before .before .before .if1 .left) ((c .before .before .before .before .before .before .before .before .before .before .before .before .arrival-now .ensures .1) T Q (y .agree)) (c .before .before .before .before .before .before .before .before .before .before .if2 .left)))
+loop-again-2 c =
+    let c₁ = c .before .before .before .before .before .before in
+    let c₂ = c₁ .before .before .before .before in
+    let c₃ = c₂ .before .before in
+    let c₄ = c₃ .before in
+    let c₅ = c₄ .before in
+    let c₆ = c₅ .before in
+    let c₇ = c₆ .before in
+    let a = c₇ .before .before .before .before .before .before .before .before .before in
+    let x = a .args in let r = x .s .ride in let i = (c₇ .loop .inv) in (i .0, i .1, along-turn _ (i .2) (c₁ .alight .ensures) (λ T Q y. (egress-kept (i .2 .same) (y .egress), y .agree .timetable)) (λ T Q y q. alight-go T Q (r .stamp) (hitOf (x .s .adj)) (r .shift) (r .trip) (r .stop) (r .offset) _ (c₇ .loop .o) _ (c₆ .loop-test .taken) _ ((c₅ .shut .ensures) T Q (y .agree)) _ (c₄ .if1 .left) ((c₃ .arrival-now .ensures .1) T Q (y .agree)) (c₂ .if2 .left)))
 
 same-length-4 : tie.Need-same-length-4 Inv-loop μ-loop
 same-length-4 c = search needs

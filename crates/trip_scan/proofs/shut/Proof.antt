@@ -22,7 +22,9 @@ either-requires : tie.Need-either-requires
 either-requires c κs = search needs
 
 returns-2 : tie.Need-returns-2
-returns-2 c = let x = c .before .before .before .before .before .before .before .args in λ T Q y. (c .either .ensures) ∙ ap₂ (λ (x z : Bool). x || z) (c .before .before .before .no-drop-off .ensures T Q y) (c .before .skipped .ensures T Q y) ∙ shut-by (x .tested) true (noDropOff T (x .trip) (x .off) || skipped T Q (hitOf (x .adj)) (x .trip) (x .off)) (noDropOff T (x .trip) (x .off)) (not-false (x .tested) (c .before .before .if1 .left))
+returns-2 c =
+    let c₁ = c .before .before .before .before .before .before .before in
+    let x = c₁ .args in λ T Q y. (c .either .ensures) ∙ ap₂ (λ (x z : Bool). x || z) (c .before .before .before .no-drop-off .ensures T Q y) (c .before .skipped .ensures T Q y) ∙ shut-by (x .tested) true (noDropOff T (x .trip) (x .off) || skipped T Q (hitOf (x .adj)) (x .trip) (x .off)) (noDropOff T (x .trip) (x .off)) (not-false (x .tested) (c .before .before .if1 .left))
 
 pub shut-spec : {M : Type 1} → statement M
 shut-spec =

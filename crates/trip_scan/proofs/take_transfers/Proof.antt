@@ -29,40 +29,74 @@ add-k : tie.Need-add-k Inv-loop μ-loop
 add-k c = let a = c .before .before .before .before .before .before .before .before .before .before .before .before .before .before in omega (arith, a .pre .1 .0 .near, c .before .if1 .taken)
 
 take-transfer-requires : tie.Need-take-transfer-requires Inv-loop μ-loop
-take-transfer-requires c κs = let a = c .before .before .before .before .before .before .before .before .before .before .before .before .before .before .before .before .before .before in let x = a .args in let i = c .before .before .before .before .before .before .before .loop .inv in (netted-kept (i .same) (a .pre .0), (run-one (a .pre .1 .0) _ (c .before .before .before .before .before .if1 .taken), (i .ready, (i .room, a .pre .1 .1 .1 .1))))
+take-transfer-requires c κs =
+    let c₁ = c .before .before .before .before .before .before .before in
+    let a = c₁ .before .before .before .before .before .before .before .before .before .before .before in
+    let x = a .args in let i = c₁ .loop .inv in (netted-kept (i .same) (a .pre .0), (run-one (a .pre .1 .0) _ (c .before .before .before .before .before .if1 .taken), (i .ready, (i .room, a .pre .1 .1 .1 .1))))
 
 same-length : tie.Need-same-length Inv-loop μ-loop
-same-length c = (c .before .before .before .before .before .before .before .before .before .take-transfer .ensures .same .size) ∙ (c .before .before .before .before .before .before .before .before .before .before .before .before .before .before .before .before .before .loop .inv .same .size)
+same-length c =
+    let c₁ = c .before .before .before .before .before .before .before .before .before in
+    let c₂ = c₁ .before .before .before .before .before .before .before .before in
+    (c₁ .take-transfer .ensures .same .size) ∙ (c₂ .loop .inv .same .size)
 
 same-length-2 : tie.Need-same-length-2 Inv-loop μ-loop
-same-length-2 c = (c .before .before .before .before .before .before .before .before .before .take-transfer .ensures .ready .sized .rows) ∙ sym (c .before .before .before .before .before .before .before .before .before .before .before .before .before .before .before .before .before .before .before .before .before .before .before .before .before .before .before .before .pre .1 .1 .0 .sized .rows)
+same-length-2 c =
+    let c₁ = c .before .before .before .before .before .before .before .before .before in
+    let c₂ = c₁ .before .before .before .before .before .before .before .before .before .before .before .before .before .before .before .before .before .before .before in
+    (c₁ .take-transfer .ensures .ready .sized .rows) ∙ sym (c₂ .pre .1 .1 .0 .sized .rows)
 
 same-length-3 : tie.Need-same-length-3 Inv-loop μ-loop
-same-length-3 c = (c .before .before .before .before .before .before .before .before .before .take-transfer .ensures .ready .sized .metres) ∙ sym (c .before .before .before .before .before .before .before .before .before .before .before .before .before .before .before .before .before .before .before .before .before .before .before .before .before .before .before .before .pre .1 .1 .0 .sized .metres)
+same-length-3 c =
+    let c₁ = c .before .before .before .before .before .before .before .before .before in
+    let c₂ = c₁ .before .before .before .before .before .before .before .before .before .before .before .before .before .before .before .before .before .before .before in
+    (c₁ .take-transfer .ensures .ready .sized .metres) ∙ sym (c₂ .pre .1 .1 .0 .sized .metres)
 
 same-length-4 : tie.Need-same-length-4 Inv-loop μ-loop
-same-length-4 c = (c .before .before .before .before .before .before .before .before .before .take-transfer .ensures .size) ∙ (c .before .before .before .before .before .before .before .before .before .before .before .before .before .before .before .before .before .loop .inv .size)
+same-length-4 c =
+    let c₁ = c .before .before .before .before .before .before .before .before .before in
+    let c₂ = c₁ .before .before .before .before .before .before .before .before in
+    (c₁ .take-transfer .ensures .size) ∙ (c₂ .loop .inv .size)
 
 returns : tie.Need-returns Inv-loop μ-loop
-returns c = let a = c .before .before .before .before .before .before .before .before .before .before .before .before .before .before .before .before .before .before .before .before .before .before .before .before .before .before .before .before in let x = a .args in queuing-over (λ T Q. takeFrom T Q (x .s .ride .stamp) (x .v) (x .from) (now (x .transfers)) (x .run .first) (x .run .length) (c .before .before .before .before .before .before .before .before .before .before .before .before .before .before .before .before .before .loop .j + 1)) (c .before .before .before .before .before .before .before .before .before .before .before .before .before .before .before .before .before .loop .inv) (c .before .before .before .before .before .before .before .before .before .take-transfer .ensures) (λ T Q y. nets-kept (c .before .before .before .before .before .before .before .before .before .before .before .before .before .before .before .before .before .loop .inv .same) (a .pre .0 .past) y) (λ T Q y. from-turn T Q (x .s .ride .stamp) (x .v) (x .from) (now (x .transfers)) (x .run .first) (x .run .length) _ _ (c .before .before .before .before .before .before .before .before .before .before .before .before .before .before .before .if1 .taken)) (c .if2 .taken) (λ T Q z. from-grows T Q (x .s .ride .stamp) (x .v) (x .from) (now (x .transfers)) (x .run .first) (x .run .length) _ z)
+returns c =
+    let c₁ = c .before .before .before .before .before .before .before .before .before in
+    let c₂ = c₁ .before .before .before .before .before .before in
+    let c₃ = c₂ .before .before in
+    let a = c₃ .before .before .before .before .before .before .before .before .before .before .before in
+    let x = a .args in queuing-over (λ T Q. takeFrom T Q (x .s .ride .stamp) (x .v) (x .from) (now (x .transfers)) (x .run .first) (x .run .length) (c₃ .loop .j + 1)) (c₃ .loop .inv) (c₁ .take-transfer .ensures) (λ T Q y. nets-kept (c₃ .loop .inv .same) (a .pre .0 .past) y) (λ T Q y. from-turn T Q (x .s .ride .stamp) (x .v) (x .from) (now (x .transfers)) (x .run .first) (x .run .length) _ _ (c₂ .if1 .taken)) (c .if2 .taken) (λ T Q z. from-grows T Q (x .s .ride .stamp) (x .v) (x .from) (now (x .transfers)) (x .run .first) (x .run .length) _ z)
 
 add-j : tie.Need-add-j Inv-loop μ-loop
-add-j c = let a = c .before .before .before .before .before .before .before .before .before .before .before .before .before .before .before .before .before .before .before .before .before .before .before .before .before .before .before .before in omega (arith, a .pre .1 .0 .near, c .before .before .before .before .before .before .before .before .before .before .before .before .before .before .before .if1 .taken)
+add-j c =
+    let c₁ = c .before .before .before .before .before .before .before .before .before .before .before .before .before .before .before in
+    let a = c₁ .before .before .before .before .before .before .before .before .before .before .before .before .before in
+    omega (arith, a .pre .1 .0 .near, c₁ .if1 .taken)
 
 loop-less : tie.Need-loop-less Inv-loop μ-loop
-loop-less c = omega (arith, c .before .before .before .before .before .before .before .before .before .before .before .before .before .before .before .if1 .taken)
+loop-less c =
+    let c₁ = c .before .before .before .before .before .before .before .before .before .before .before .before .before .before .before in
+    omega (arith, c₁ .if1 .taken)
 
 loop-again : tie.Need-loop-again Inv-loop μ-loop
-loop-again c = let a = c .before .before .before .before .before .before .before .before .before .before .before .before .before .before .before .before .before .before .before .before .before .before .before .before .before .before .before .before in let x = a .args in queuing-turn _ (c .before .before .before .before .before .before .before .before .before .before .before .before .before .before .before .before .before .loop .inv) (c .before .before .before .before .before .before .before .before .before .take-transfer .ensures) (λ T Q y. nets-kept (c .before .before .before .before .before .before .before .before .before .before .before .before .before .before .before .before .before .loop .inv .same) (a .pre .0 .past) y) (λ T Q y. from-turn T Q (x .s .ride .stamp) (x .v) (x .from) (now (x .transfers)) (x .run .first) (x .run .length) _ _ (c .before .before .before .before .before .before .before .before .before .before .before .before .before .before .before .if1 .taken)) (c .if2 .left)
+loop-again c =
+    let c₁ = c .before .before .before .before .before .before .before .before .before in
+    let c₂ = c₁ .before .before .before .before .before .before in
+    let c₃ = c₂ .before .before in
+    let a = c₃ .before .before .before .before .before .before .before .before .before .before .before in
+    let x = a .args in queuing-turn _ (c₃ .loop .inv) (c₁ .take-transfer .ensures) (λ T Q y. nets-kept (c₃ .loop .inv .same) (a .pre .0 .past) y) (λ T Q y. from-turn T Q (x .s .ride .stamp) (x .v) (x .from) (now (x .transfers)) (x .run .first) (x .run .length) _ _ (c₂ .if1 .taken)) (c .if2 .left)
 
 same-length-5 : tie.Need-same-length-5 Inv-loop μ-loop
 same-length-5 c = c .before .before .loop .inv .same .size
 
 same-length-6 : tie.Need-same-length-6 Inv-loop μ-loop
-same-length-6 c = (c .before .before .loop .inv .ready .sized .rows) ∙ sym (c .before .before .before .before .before .before .before .before .before .before .before .before .before .pre .1 .1 .0 .sized .rows)
+same-length-6 c =
+    let c₁ = c .before .before .before .before .before .before .before .before .before .before .before .before .before in
+    (c .before .before .loop .inv .ready .sized .rows) ∙ sym (c₁ .pre .1 .1 .0 .sized .rows)
 
 same-length-7 : tie.Need-same-length-7 Inv-loop μ-loop
-same-length-7 c = (c .before .before .loop .inv .ready .sized .metres) ∙ sym (c .before .before .before .before .before .before .before .before .before .before .before .before .before .pre .1 .1 .0 .sized .metres)
+same-length-7 c =
+    let c₁ = c .before .before .before .before .before .before .before .before .before .before .before .before .before in
+    (c .before .before .loop .inv .ready .sized .metres) ∙ sym (c₁ .pre .1 .1 .0 .sized .metres)
 
 same-length-8 : tie.Need-same-length-8 Inv-loop μ-loop
 same-length-8 c = c .before .before .loop .inv .size

@@ -54,52 +54,107 @@ same-length : tie.Need-same-length Inv-loop μ-loop
 same-length c = c .before .before .before .before .before .before .loop .inv .1 .same .size
 
 same-length-2 : tie.Need-same-length-2 Inv-loop μ-loop
-same-length-2 c = (c .before .before .before .before .before .before .loop .inv .1 .ready .sized .rows) ∙ sym (c .before .before .before .before .before .before .before .before .before .before .before .before .before .before .before .before .before .before .before .pre .1 .1 .0 .sized .rows)
+same-length-2 c =
+    let c₁ = c .before .before .before .before .before .before in
+    let c₂ = c₁ .before .before .before .before .before .before .before .before .before .before .before .before .before in
+    (c₁ .loop .inv .1 .ready .sized .rows) ∙ sym (c₂ .pre .1 .1 .0 .sized .rows)
 
 same-length-3 : tie.Need-same-length-3 Inv-loop μ-loop
-same-length-3 c = (c .before .before .before .before .before .before .loop .inv .1 .ready .sized .metres) ∙ sym (c .before .before .before .before .before .before .before .before .before .before .before .before .before .before .before .before .before .before .before .pre .1 .1 .0 .sized .metres)
+same-length-3 c =
+    let c₁ = c .before .before .before .before .before .before in
+    let c₂ = c₁ .before .before .before .before .before .before .before .before .before .before .before .before .before in
+    (c₁ .loop .inv .1 .ready .sized .metres) ∙ sym (c₂ .pre .1 .1 .0 .sized .metres)
 
 same-length-4 : tie.Need-same-length-4 Inv-loop μ-loop
 same-length-4 c = c .before .before .before .before .before .before .loop .inv .1 .size
 
 returns : tie.Need-returns Inv-loop μ-loop
-returns c = let a = c .before .before .before .before .before .before .before .before .before .before .before .before .before .before .before .before .before .before .before in let x = a .args in let r = x .s .ride in let g = a .pre .1 .0 in let i = c .before .before .before .before .before .before .loop .inv in queuing-end _ (i .1) (λ T Q y. transfer-cut T Q (r .stamp) (hitOf (x .s .adj)) (r .shift) (r .trip) _ (c .before .before .before .before .before .before .loop .o) _ (c .before .before .before .before .before .loop-test .taken) _ (c .before .before .before .before .shut .ensures T Q (y .agree)) _ (c .before .before .before .if1 .left) (c .before .before .arrival-now .ensures .1 T Q (y .agree)) (c .if2 .taken))
+returns c =
+    let c₁ = c .before .before .before .before .before .before in
+    let a = c₁ .before .before .before .before .before .before .before .before .before .before .before .before .before in
+    let x = a .args in let r = x .s .ride in let g = a .pre .1 .0 in let i = c₁ .loop .inv in queuing-end _ (i .1) (λ T Q y. transfer-cut T Q (r .stamp) (hitOf (x .s .adj)) (r .shift) (r .trip) _ (c₁ .loop .o) _ (c .before .before .before .before .before .loop-test .taken) _ (c .before .before .before .before .shut .ensures T Q (y .agree)) _ (c .before .before .before .if1 .left) (c .before .before .arrival-now .ensures .1 T Q (y .agree)) (c .if2 .taken))
 
 take-event-requires : tie.Need-take-event-requires Inv-loop μ-loop
-take-event-requires c κs = let a = c .before .before .before .before .before .before .before .before .before .before .before .before .before .before .before .before .before .before .before .before .before .before .before in let x = a .args in let r = x .s .ride in let g = a .pre .1 .0 in let i = c .before .before .before .before .before .before .before .before .before .before .loop .inv in (netted-kept (i .1 .same) (a .pre .0), (record { trip = g .trip; offset = omega (arith, i .0, c .before .before .before .before .before .before .before .before .before .loop-test .taken) }, (i .1 .ready, (i .1 .room, c .before .before .before .before .before .before .arrival-now .ensures .0))))
+take-event-requires c κs =
+    let c₁ = c .before .before .before .before .before .before in
+    let c₂ = c₁ .before .before .before in
+    let c₃ = c₂ .before in
+    let a = c₃ .before .before .before .before .before .before .before .before .before .before .before .before .before in
+    let x = a .args in let r = x .s .ride in let g = a .pre .1 .0 in let i = c₃ .loop .inv in (netted-kept (i .1 .same) (a .pre .0), (record { trip = g .trip; offset = omega (arith, i .0, c₂ .loop-test .taken) }, (i .1 .ready, (i .1 .room, c₁ .arrival-now .ensures .0))))
 
 same-length-5 : tie.Need-same-length-5 Inv-loop μ-loop
-same-length-5 c = (c .before .before .before .before .before .before .before .before .before .take-event .ensures .same .size) ∙ (c .before .before .before .before .before .before .before .before .before .before .before .before .before .before .before .before .before .before .before .before .loop .inv .1 .same .size)
+same-length-5 c =
+    let c₁ = c .before .before .before .before .before .before .before .before .before in
+    let c₂ = c₁ .before .before .before .before .before .before .before .before .before .before .before in
+    (c₁ .take-event .ensures .same .size) ∙ (c₂ .loop .inv .1 .same .size)
 
 same-length-6 : tie.Need-same-length-6 Inv-loop μ-loop
-same-length-6 c = (c .before .before .before .before .before .before .before .before .before .take-event .ensures .ready .sized .rows) ∙ sym (c .before .before .before .before .before .before .before .before .before .before .before .before .before .before .before .before .before .before .before .before .before .before .before .before .before .before .before .before .before .before .before .before .before .pre .1 .1 .0 .sized .rows)
+same-length-6 c =
+    let c₁ = c .before .before .before .before .before .before .before .before .before in
+    let c₂ = c₁ .before .before .before .before .before .before .before .before .before .before .before .before .before .before .before .before .before .before .before .before .before .before .before .before in
+    (c₁ .take-event .ensures .ready .sized .rows) ∙ sym (c₂ .pre .1 .1 .0 .sized .rows)
 
 same-length-7 : tie.Need-same-length-7 Inv-loop μ-loop
-same-length-7 c = (c .before .before .before .before .before .before .before .before .before .take-event .ensures .ready .sized .metres) ∙ sym (c .before .before .before .before .before .before .before .before .before .before .before .before .before .before .before .before .before .before .before .before .before .before .before .before .before .before .before .before .before .before .before .before .before .pre .1 .1 .0 .sized .metres)
+same-length-7 c =
+    let c₁ = c .before .before .before .before .before .before .before .before .before in
+    let c₂ = c₁ .before .before .before .before .before .before .before .before .before .before .before .before .before .before .before .before .before .before .before .before .before .before .before .before in
+    (c₁ .take-event .ensures .ready .sized .metres) ∙ sym (c₂ .pre .1 .1 .0 .sized .metres)
 
 same-length-8 : tie.Need-same-length-8 Inv-loop μ-loop
-same-length-8 c = (c .before .before .before .before .before .before .before .before .before .take-event .ensures .size) ∙ (c .before .before .before .before .before .before .before .before .before .before .before .before .before .before .before .before .before .before .before .before .loop .inv .1 .size)
+same-length-8 c =
+    let c₁ = c .before .before .before .before .before .before .before .before .before in
+    let c₂ = c₁ .before .before .before .before .before .before .before .before .before .before .before in
+    (c₁ .take-event .ensures .size) ∙ (c₂ .loop .inv .1 .size)
 
 returns-2 : tie.Need-returns-2 Inv-loop μ-loop
-returns-2 c = let a = c .before .before .before .before .before .before .before .before .before .before .before .before .before .before .before .before .before .before .before .before .before .before .before .before .before .before .before .before .before .before .before .before .before in let x = a .args in let r = x .s .ride in let g = a .pre .1 .0 in let i = c .before .before .before .before .before .before .before .before .before .before .before .before .before .before .before .before .before .before .before .before .loop .inv in queuing-over (λ T Q. transferFrom T Q (r .stamp) (hitOf (x .s .adj)) (r .shift) (r .trip) (c .before .before .before .before .before .before .before .before .before .before .before .before .before .before .before .before .before .before .before .before .before .trip .result) (c .before .before .before .before .before .before .before .before .before .before .before .before .before .before .before .before .before .before .before .before .loop .o + 1)) (i .1) (c .before .before .before .before .before .before .before .before .before .take-event .ensures) (λ T Q y. nets-kept (i .1 .same) (a .pre .0 .past) y) (λ T Q y. transfer-go T Q (r .stamp) (hitOf (x .s .adj)) (r .shift) (r .trip) _ (c .before .before .before .before .before .before .before .before .before .before .before .before .before .before .before .before .before .before .before .before .loop .o) _ (c .before .before .before .before .before .before .before .before .before .before .before .before .before .before .before .before .before .before .before .loop-test .taken) _ (c .before .before .before .before .before .before .before .before .before .before .before .before .before .before .before .before .before .before .shut .ensures T Q (y .agree)) _ (c .before .before .before .before .before .before .before .before .before .before .before .before .before .before .before .before .before .if1 .left) (c .before .before .before .before .before .before .before .before .before .before .before .before .before .before .before .before .arrival-now .ensures .1 T Q (y .agree)) (c .before .before .before .before .before .before .before .before .before .before .before .before .before .before .if2 .left)) (c .if3 .taken) (λ T Q z. transferring-grows T Q (r .stamp) (hitOf (x .s .adj)) (r .shift) (r .trip) _ _ z)
+returns-2 c =
+    let c₁ = c .before .before .before .before .before .before .before .before .before in
+    let c₂ = c₁ .before .before .before .before .before in
+    let c₃ = c₂ .before .before in
+    let c₄ = c₃ .before in
+    let c₅ = c₄ .before in
+    let c₆ = c₅ .before in
+    let c₇ = c₆ .before in
+    let c₈ = c₇ .before in
+    let a = c₈ .before .before .before .before .before .before .before .before .before .before .before .before in
+    let x = a .args in let r = x .s .ride in let g = a .pre .1 .0 in let i = c₇ .loop .inv in queuing-over (λ T Q. transferFrom T Q (r .stamp) (hitOf (x .s .adj)) (r .shift) (r .trip) (c₈ .trip .result) (c₇ .loop .o + 1)) (i .1) (c₁ .take-event .ensures) (λ T Q y. nets-kept (i .1 .same) (a .pre .0 .past) y) (λ T Q y. transfer-go T Q (r .stamp) (hitOf (x .s .adj)) (r .shift) (r .trip) _ (c₇ .loop .o) _ (c₆ .loop-test .taken) _ (c₅ .shut .ensures T Q (y .agree)) _ (c₄ .if1 .left) (c₃ .arrival-now .ensures .1 T Q (y .agree)) (c₂ .if2 .left)) (c .if3 .taken) (λ T Q z. transferring-grows T Q (r .stamp) (hitOf (x .s .adj)) (r .shift) (r .trip) _ _ z)
 
 add-o-2 : tie.Need-add-o-2 Inv-loop μ-loop
-add-o-2 c = let a = c .before .before .before .before .before .before .before .before .before .before .before .before .before .before .before .before .before .before .before .before .before .before .before .before .before .before .before .before .before .before .before .before .before in let x = a .args in let r = x .s .ride in let g = a .pre .1 .0 in let i = c .before .before .before .before .before .before .before .before .before .before .before .before .before .before .before .before .before .before .before .before .loop .inv in omega (arith, i .0, c .before .before .before .before .before .before .before .before .before .before .before .before .before .before .before .before .before .before .before .loop-test .taken, g .ground .sane .runs .run (r .trip) (g .trip), g .ground .sane .counts .times)
+add-o-2 c =
+    let c₁ = c .before .before .before .before .before .before .before .before .before .before .before .before .before .before .before .before .before .before .before in
+    let c₂ = c₁ .before in
+    let a = c₂ .before .before .before .before .before .before .before .before .before .before .before .before .before in
+    let x = a .args in let r = x .s .ride in let g = a .pre .1 .0 in let i = c₂ .loop .inv in omega (arith, i .0, c₁ .loop-test .taken, g .ground .sane .runs .run (r .trip) (g .trip), g .ground .sane .counts .times)
 
 loop-less-2 : tie.Need-loop-less-2 Inv-loop μ-loop
-loop-less-2 c = omega (arith, c .before .before .before .before .before .before .before .before .before .before .before .before .before .before .before .before .before .before .before .loop-test .taken)
+loop-less-2 c =
+    let c₁ = c .before .before .before .before .before .before .before .before .before .before .before .before .before .before .before .before .before .before .before in
+    omega (arith, c₁ .loop-test .taken)
 
 loop-again-2 : tie.Need-loop-again-2 Inv-loop μ-loop
-loop-again-2 c = let a = c .before .before .before .before .before .before .before .before .before .before .before .before .before .before .before .before .before .before .before .before .before .before .before .before .before .before .before .before .before .before .before .before .before in let x = a .args in let r = x .s .ride in let g = a .pre .1 .0 in let i = c .before .before .before .before .before .before .before .before .before .before .before .before .before .before .before .before .before .before .before .before .loop .inv in (i .0, queuing-turn _ (i .1) (c .before .before .before .before .before .before .before .before .before .take-event .ensures) (λ T Q y. nets-kept (i .1 .same) (a .pre .0 .past) y) (λ T Q y. transfer-go T Q (r .stamp) (hitOf (x .s .adj)) (r .shift) (r .trip) _ (c .before .before .before .before .before .before .before .before .before .before .before .before .before .before .before .before .before .before .before .before .loop .o) _ (c .before .before .before .before .before .before .before .before .before .before .before .before .before .before .before .before .before .before .before .loop-test .taken) _ (c .before .before .before .before .before .before .before .before .before .before .before .before .before .before .before .before .before .before .shut .ensures T Q (y .agree)) _ (c .before .before .before .before .before .before .before .before .before .before .before .before .before .before .before .before .before .if1 .left) (c .before .before .before .before .before .before .before .before .before .before .before .before .before .before .before .before .arrival-now .ensures .1 T Q (y .agree)) (c .before .before .before .before .before .before .before .before .before .before .before .before .before .before .if2 .left)) (c .if3 .left))
+loop-again-2 c =
+    let c₁ = c .before .before .before .before .before .before .before .before .before in
+    let c₂ = c₁ .before .before .before .before .before in
+    let c₃ = c₂ .before .before in
+    let c₄ = c₃ .before in
+    let c₅ = c₄ .before in
+    let c₆ = c₅ .before in
+    let c₇ = c₆ .before in
+    let a = c₇ .before .before .before .before .before .before .before .before .before .before .before .before .before in
+    let x = a .args in let r = x .s .ride in let g = a .pre .1 .0 in let i = c₇ .loop .inv in (i .0, queuing-turn _ (i .1) (c₁ .take-event .ensures) (λ T Q y. nets-kept (i .1 .same) (a .pre .0 .past) y) (λ T Q y. transfer-go T Q (r .stamp) (hitOf (x .s .adj)) (r .shift) (r .trip) _ (c₇ .loop .o) _ (c₆ .loop-test .taken) _ (c₅ .shut .ensures T Q (y .agree)) _ (c₄ .if1 .left) (c₃ .arrival-now .ensures .1 T Q (y .agree)) (c₂ .if2 .left)) (c .if3 .left))
 
 same-length-9 : tie.Need-same-length-9 Inv-loop μ-loop
 same-length-9 c = c .before .loop .inv .1 .same .size
 
 same-length-10 : tie.Need-same-length-10 Inv-loop μ-loop
-same-length-10 c = (c .before .loop .inv .1 .ready .sized .rows) ∙ sym (c .before .before .before .before .before .before .before .before .before .before .before .before .before .before .pre .1 .1 .0 .sized .rows)
+same-length-10 c =
+    let c₁ = c .before .before .before .before .before .before .before .before .before .before .before .before .before .before in
+    (c .before .loop .inv .1 .ready .sized .rows) ∙ sym (c₁ .pre .1 .1 .0 .sized .rows)
 
 same-length-11 : tie.Need-same-length-11 Inv-loop μ-loop
-same-length-11 c = (c .before .loop .inv .1 .ready .sized .metres) ∙ sym (c .before .before .before .before .before .before .before .before .before .before .before .before .before .before .pre .1 .1 .0 .sized .metres)
+same-length-11 c =
+    let c₁ = c .before .before .before .before .before .before .before .before .before .before .before .before .before .before in
+    (c .before .loop .inv .1 .ready .sized .metres) ∙ sym (c₁ .pre .1 .1 .0 .sized .metres)
 
 same-length-12 : tie.Need-same-length-12 Inv-loop μ-loop
 same-length-12 c = c .before .loop .inv .1 .size

@@ -39,7 +39,11 @@ loop-less : tie.Need-loop-less Inv-loop μ-loop
 loop-less c = omega arith
 
 loop-again : tie.Need-loop-again Inv-loop μ-loop
-loop-again c = let a = c .before .before .before .before .before .before .before .before .before in let x = a .args in let p = c .before .before .before .before .before .before .before .loop .inv in let z = append-sized (a .pre .0) (p .0) in (append-turn _ _ _ _ _ _ (a .pre .0) (a .pre .1 .0) (p .0) (c .before .before .append-one .ensures) refl (c .before .before .before .before .before .before .loop-test .taken), omega arith)
+loop-again c =
+    let c₁ = c .before .before .before .before .before .before in
+    let c₂ = c₁ .before in
+    let a = c₂ .before .before in
+    let x = a .args in let p = c₂ .loop .inv in let z = append-sized (a .pre .0) (p .0) in (append-turn _ _ _ _ _ _ (a .pre .0) (a .pre .1 .0) (p .0) (c .before .before .append-one .ensures) refl (c₁ .loop-test .taken), omega arith)
 
 same-length : tie.Need-same-length Inv-loop μ-loop
 same-length c = search needs

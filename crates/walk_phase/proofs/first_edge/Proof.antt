@@ -36,13 +36,17 @@ loop-less : tie.Need-loop-less Inv-loop μ-loop
 loop-less c = omega arith
 
 loop-again : tie.Need-loop-again Inv-loop μ-loop
-loop-again c = halved-up _ _ _ _ _ (keys-stay (λ i. edgeOf (now (c .before .before .before .before .before .args .tables)) (c .before .before .before .before .before .args .c) i 0) (c .before .before .before .before .before .args .x) _ (edges-rising _ _ (c .before .before .before .before .before .pre .1))) (c .before .before .before .loop .inv) (lt-leb _ _ (rw (c .before .edge .ensures .0) at (c .if1 .taken))) (omega arith)
+loop-again c =
+    let c₁ = c .before .before .before .before .before in
+    halved-up _ _ _ _ _ (keys-stay (λ i. edgeOf (now (c₁ .args .tables)) (c₁ .args .c) i 0) (c₁ .args .x) _ (edges-rising _ _ (c₁ .pre .1))) (c .before .before .before .loop .inv) (lt-leb _ _ (rw (c .before .edge .ensures .0) at (c .if1 .taken))) (omega arith)
 
 loop-less-2 : tie.Need-loop-less-2 Inv-loop μ-loop
 loop-less-2 c = omega arith
 
 loop-again-2 : tie.Need-loop-again-2 Inv-loop μ-loop
-loop-again-2 c = halved-down _ _ _ _ _ (keys-stay (λ i. edgeOf (now (c .before .before .before .before .before .args .tables)) (c .before .before .before .before .before .args .c) i 0) (c .before .before .before .before .before .args .x) _ (edges-rising _ _ (c .before .before .before .before .before .pre .1))) (c .before .before .before .loop .inv) (le-leb _ _ (rw (c .before .edge .ensures .0) at (c .if1 .left))) (omega arith) (omega arith)
+loop-again-2 c =
+    let c₁ = c .before .before .before .before .before in
+    halved-down _ _ _ _ _ (keys-stay (λ i. edgeOf (now (c₁ .args .tables)) (c₁ .args .c) i 0) (c₁ .args .x) _ (edges-rising _ _ (c₁ .pre .1))) (c .before .before .before .loop .inv) (le-leb _ _ (rw (c .before .edge .ensures .0) at (c .if1 .left))) (omega arith) (omega arith)
 
 returns : tie.Need-returns Inv-loop μ-loop
 returns c = halved-end _ _ _ _ (c .before .loop .inv) (omega arith)

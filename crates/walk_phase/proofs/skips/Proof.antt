@@ -13,8 +13,10 @@ holds-target-requires : tie.Need-holds-target-requires
 holds-target-requires c κs = search needs
 
 returns-2 : tie.Need-returns-2
-returns-2 c = λ T Q g e.
-    ap not ((c .holds-target .ensures) T Q g e) ∙ sym (ap (λ (b : Bool). b && not (holdsTarget T Q (c .before .before .before .before .before .args .p))) (not-false (c .before .before .before .before .before .args .ctx .flagged) (c .before .before .if1 .left)))
+returns-2 c =
+    let c₁ = c .before .before .before .before .before in
+    λ T Q g e.
+    ap not ((c .holds-target .ensures) T Q g e) ∙ sym (ap (λ (b : Bool). b && not (holdsTarget T Q (c₁ .args .p))) (not-false (c₁ .args .ctx .flagged) (c .before .before .if1 .left)))
 
 pub skips-spec : {M : Type 1} → statement M
 skips-spec = tie.close (tie.spec returns holds-target-requires returns-2)

@@ -44,16 +44,29 @@ slice-read-v : tie.Need-slice-read-v Inv-loop μ-loop
 slice-read-v c = let a = c .before .before .before .before .before .before .before .before .before .before .before in let x = a .args in let p = c .before .before .before .before .loop .inv in let s = p .step .ready .sized in let k = listed-kept (a .pre .1 .1) (p .step .same) (p .falls) in let u = k .inside _ (c .before .before .before .loop-test .taken) in omega (arith, u, s .sections .words)
 
 walk-from-requires : tie.Need-walk-from-requires Inv-loop μ-loop
-walk-from-requires c κs = let a = c .before .before .before .before .before .before .before .before .before .before .before .before .before .before in let x = a .args in let p = c .before .before .before .before .before .before .before .loop .inv in let s = p .step .ready .sized in let k = listed-kept (a .pre .1 .1) (p .step .same) (p .falls) in let u = k .inside _ (c .before .before .before .before .before .before .loop-test .taken) in (p .step .ready, (a .pre .1 .0, (u, k .early _ (c .before .before .before .before .before .before .loop-test .taken))))
+walk-from-requires c κs =
+    let c₁ = c .before .before .before .before .before .before in
+    let c₂ = c₁ .before in
+    let a = c₂ .before .before .before .before .before .before .before in
+    let x = a .args in let p = c₂ .loop .inv in let s = p .step .ready .sized in let k = listed-kept (a .pre .1 .1) (p .step .same) (p .falls) in let u = k .inside _ (c₁ .loop-test .taken) in (p .step .ready, (a .pre .1 .0, (u, k .early _ (c₁ .loop-test .taken))))
 
 add-i : tie.Need-add-i Inv-loop μ-loop
-add-i c = let a = c .before .before .before .before .before .before .before .before .before .before .before .before .before .before .before .before .before .before .before .before .before in let x = a .args in let p = c .before .before .before .before .before .before .before .before .before .before .before .before .before .before .loop .inv in let s = p .step .ready .sized in let k = listed-kept (a .pre .1 .1) (p .step .same) (p .falls) in omega (arith, k .few, s .sections .stops, c .before .before .before .before .before .before .before .before .before .before .before .before .before .loop-test .taken)
+add-i c =
+    let c₁ = c .before .before .before .before .before .before .before .before .before .before .before .before .before in
+    let c₂ = c₁ .before in
+    let a = c₂ .before .before .before .before .before .before .before in
+    let x = a .args in let p = c₂ .loop .inv in let s = p .step .ready .sized in let k = listed-kept (a .pre .1 .1) (p .step .same) (p .falls) in omega (arith, k .few, s .sections .stops, c₁ .loop-test .taken)
 
 loop-less : tie.Need-loop-less Inv-loop μ-loop
 loop-less c = omega arith
 
 loop-again : tie.Need-loop-again Inv-loop μ-loop
-loop-again c = let a = c .before .before .before .before .before .before .before .before .before .before .before .before .before .before .before .before .before .before .before .before .before in let x = a .args in let p = c .before .before .before .before .before .before .before .before .before .before .before .before .before .before .loop .inv in let s = p .step .ready .sized in let k = listed-kept (a .pre .1 .1) (p .step .same) (p .falls) in let u = k .inside _ (c .before .before .before .before .before .before .before .before .before .before .before .before .before .loop-test .taken) in along-turn _ p (step-at _ _ _ u refl (c .before .before .before .before .before .before .walk-from .ensures .0)) (c .before .before .before .before .before .before .walk-from .ensures .1) (λ T Q y. agree-kept (p .step .same) y) (λ T Q y z. all-turn T Q _ _ (part (now (x .work)) (x .lay .other) (x .n)) (c .before .before .before .before .before .before .before .before .before .before .before .before .before .before .loop .i) _ z (other-in _ (a .pre .1 .1) (p .step .same) (c .before .before .before .before .before .before .before .before .before .before .before .before .before .loop-test .taken)) (omega (arith, other-length (a .pre .1 .1) (a .pre .0 .sized), c .before .before .before .before .before .before .before .before .before .before .before .before .before .loop-test .taken)))
+loop-again c =
+    let c₁ = c .before .before .before .before .before .before in
+    let c₂ = c₁ .before .before .before .before .before .before .before in
+    let c₃ = c₂ .before in
+    let a = c₃ .before .before .before .before .before .before .before in
+    let x = a .args in let p = c₃ .loop .inv in let s = p .step .ready .sized in let k = listed-kept (a .pre .1 .1) (p .step .same) (p .falls) in let u = k .inside _ (c₂ .loop-test .taken) in along-turn _ p (step-at _ _ _ u refl (c₁ .walk-from .ensures .0)) (c₁ .walk-from .ensures .1) (λ T Q y. agree-kept (p .step .same) y) (λ T Q y z. all-turn T Q _ _ (part (now (x .work)) (x .lay .other) (x .n)) (c₃ .loop .i) _ z (other-in _ (a .pre .1 .1) (p .step .same) (c₂ .loop-test .taken)) (omega (arith, other-length (a .pre .1 .1) (a .pre .0 .sized), c₂ .loop-test .taken)))
 
 same-length : tie.Need-same-length Inv-loop μ-loop
 same-length c = let a = c .before .before .before .before .before .before .before .before in let x = a .args in let p = c .before .loop .inv in p .step .same .size

@@ -31,7 +31,11 @@ add-w : tie.Need-add-w
 add-w c = let a = c .before .before .before .before .before .before .before .before .before .before .before .before .before in let x = a .args in let q = row-ok _ _ (a .pre .1 .0) (c .before .before .before .before .before .edge-row .ensures) (a .pre .1 .1 .1 .1) in let k = duration-most _ (c .before .before .before .before .before .edge-row .result .pathway) (x .ctx .net .terms .wheelchair) (q .duration) in omega (arith, k, c .effective-duration-s .ensures, a .pre .1 .1 .1 .0)
 
 returns-2 : tie.Need-returns-2
-returns-2 c = let a = c .before .before .before .before .before .before .before .before .before .before .before .before .before .before .before in let x = a .args in (edge-late (x .lay) (x .ctx) (x .stamp) (x .x) (x .v) (x .e) (now (x .tables)) (now (x .distances)) (now (x .patterns)) (now (x .work)) (now (x .labels)) (now (x .label-distances)) (x .h) (c .before .before .before .before .before .before .before .edge-row .result) (c .before .before .before .before .before .before .before .edge-row .ensures) _ (c .before .before .effective-duration-s .ensures) (a .pre .1 .1 .1 .1) _ (c .before .before .before .before .before .before .skips .ensures) (a .pre .0) (c .before .before .before .before .before .if1 .left) (c .if2 .taken), falls-refl _ _)
+returns-2 c =
+    let c₁ = c .before .before .before .before .before .before in
+    let c₂ = c₁ .before in
+    let a = c₂ .before .before .before .before .before .before .before .before in
+    let x = a .args in (edge-late (x .lay) (x .ctx) (x .stamp) (x .x) (x .v) (x .e) (now (x .tables)) (now (x .distances)) (now (x .patterns)) (now (x .work)) (now (x .labels)) (now (x .label-distances)) (x .h) (c₂ .edge-row .result) (c₂ .edge-row .ensures) _ (c .before .before .effective-duration-s .ensures) (a .pre .1 .1 .1 .1) _ (c₁ .skips .ensures) (a .pre .0) (c .before .before .before .before .before .if1 .left) (c .if2 .taken), falls-refl _ _)
 
 cast-t20 : tie.Need-cast-t20
 cast-t20 c = let a = c .before .before .before .before .before .before .before .before .before .before .before .before .before .before .before in let x = a .args in omega (arith, a .pre .1 .1 .0, a .pre .0 .sized .sections .stops)
@@ -49,7 +53,11 @@ sub-t26 : tie.Need-sub-t26
 sub-t26 c = let a = c .before .before .before .before .before .before .before .before .before .before .before .before .before .before .before .before .before in let x = a .args in omega (arith, a .pre .0 .round .low)
 
 relax-requires : tie.Need-relax-requires
-relax-requires c κs = let a = c .before .before .before .before .before .before .before .before .before .before .before .before .before .before .before .before .before .before .before .before in let x = a .args in let q = row-ok _ _ (a .pre .1 .0) (c .before .before .before .before .before .before .before .before .before .before .before .before .edge-row .ensures) (a .pre .1 .1 .1 .1) in let k = duration-most _ (c .before .before .before .before .before .before .before .before .before .before .before .before .edge-row .result .pathway) (x .ctx .net .terms .wheelchair) (q .duration) in (a .pre .0, (q .to, omega (arith, k, c .before .before .before .before .before .before .before .effective-duration-s .ensures, a .pre .1 .1 .1 .0)))
+relax-requires c κs =
+    let c₁ = c .before .before .before .before .before .before .before in
+    let c₂ = c₁ .before .before .before .before .before in
+    let a = c₂ .before .before .before .before .before .before .before .before in
+    let x = a .args in let q = row-ok _ _ (a .pre .1 .0) (c₂ .edge-row .ensures) (a .pre .1 .1 .1 .1) in let k = duration-most _ (c₂ .edge-row .result .pathway) (x .ctx .net .terms .wheelchair) (q .duration) in (a .pre .0, (q .to, omega (arith, k, c₁ .effective-duration-s .ensures, a .pre .1 .1 .1 .0)))
 
 same-length : tie.Need-same-length
 same-length c = search needs
@@ -61,7 +69,15 @@ same-length-3 : tie.Need-same-length-3
 same-length-3 c = search needs
 
 returns-3 : tie.Need-returns-3
-returns-3 c = let a = c .before .before .before .before .before .before .before .before .before .before .before .before .before .before .before .before .before .before .before .before .before .before .before .before .before .before .before in let x = a .args in (edge-walked (x .lay) (x .ctx) (x .stamp) (x .x) (x .v) (x .e) (now (x .tables)) (now (x .distances)) (now (x .patterns)) (now (x .work)) (now (x .labels)) (now (x .label-distances)) (x .h) (c .before .before .before .before .before .before .before .before .before .before .before .before .before .before .before .before .before .before .before .edge-row .result) (c .before .before .before .before .before .before .before .before .before .before .before .before .before .before .before .before .before .before .before .edge-row .ensures) _ (c .before .before .before .before .before .before .before .before .before .before .before .before .before .before .effective-duration-s .ensures) (a .pre .1 .1 .1 .1) _ (c .before .before .before .before .before .before .before .before .before .before .before .before .before .before .before .before .before .before .skips .ensures) (a .pre .0) (c .before .before .before .before .before .before .before .before .before .before .before .before .before .before .before .before .before .if1 .left) (c .before .before .before .before .before .before .before .before .before .before .before .before .if2 .left) (c .before .before .before .before .before .before .relax .ensures), relaxed-falls _ _ _ (c .before .before .before .before .before .before .relax .ensures))
+returns-3 c =
+    let c₁ = c .before .before .before .before .before .before in
+    let c₂ = c₁ .before .before .before .before .before .before in
+    let c₃ = c₂ .before .before in
+    let c₄ = c₃ .before .before .before in
+    let c₅ = c₄ .before in
+    let c₆ = c₅ .before in
+    let a = c₆ .before .before .before .before .before .before .before .before in
+    let x = a .args in (edge-walked (x .lay) (x .ctx) (x .stamp) (x .x) (x .v) (x .e) (now (x .tables)) (now (x .distances)) (now (x .patterns)) (now (x .work)) (now (x .labels)) (now (x .label-distances)) (x .h) (c₆ .edge-row .result) (c₆ .edge-row .ensures) _ (c₃ .effective-duration-s .ensures) (a .pre .1 .1 .1 .1) _ (c₅ .skips .ensures) (a .pre .0) (c₄ .if1 .left) (c₂ .if2 .left) (c₁ .relax .ensures), relaxed-falls _ _ _ (c₁ .relax .ensures))
 
 pub walk-edge-spec : {M : Type 1} → statement M
 walk-edge-spec =

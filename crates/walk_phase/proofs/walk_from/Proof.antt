@@ -43,16 +43,29 @@ returns : tie.Need-returns Inv-loop μ-loop
 returns c = let a = c .before .before .before .before .before .before .before .before .before .before .before .before .before in let x = a .args in let p = c .before .before .before .before .loop .inv in (along-end _ p (λ T Q y z. left-stop T Q _ _ _ _ _ _ _ z (λ k. c .if2 .taken (c .before .edge .ensures .0 ∙ k)) (c .before .before .if1 .taken)), p .falls)
 
 walk-edge-requires : tie.Need-walk-edge-requires Inv-loop μ-loop
-walk-edge-requires c κs = let a = c .before .before .before .before .before .before .before .before .before .before .before .before .before .before .before .before in let x = a .args in let p = c .before .before .before .before .before .before .before .loop .inv in (p .step .ready, (a .pre .1 .0, (a .pre .1 .1 .0, (a .pre .1 .1 .1, c .before .before .before .before .before .if1 .taken))))
+walk-edge-requires c κs =
+    let c₁ = c .before .before .before .before .before .before .before in
+    let a = c₁ .before .before .before .before .before .before .before .before .before in
+    let x = a .args in let p = c₁ .loop .inv in (p .step .ready, (a .pre .1 .0, (a .pre .1 .1 .0, (a .pre .1 .1 .1, c .before .before .before .before .before .if1 .taken))))
 
 add-e : tie.Need-add-e Inv-loop μ-loop
-add-e c = let a = c .before .before .before .before .before .before .before .before .before .before .before .before .before .before .before .before .before .before .before .before .before .before .before in let x = a .args in omega (arith, c .before .before .before .before .before .before .before .before .before .before .before .before .if1 .taken, a .pre .1 .0 .sane .counts .edges)
+add-e c =
+    let c₁ = c .before .before .before .before .before .before .before .before .before .before .before .before in
+    let a = c₁ .before .before .before .before .before .before .before .before .before .before .before in
+    let x = a .args in omega (arith, c₁ .if1 .taken, a .pre .1 .0 .sane .counts .edges)
 
 loop-less : tie.Need-loop-less Inv-loop μ-loop
 loop-less c = omega arith
 
 loop-again : tie.Need-loop-again Inv-loop μ-loop
-loop-again c = let a = c .before .before .before .before .before .before .before .before .before .before .before .before .before .before .before .before .before .before .before .before .before .before .before in let x = a .args in let p = c .before .before .before .before .before .before .before .before .before .before .before .before .before .before .loop .inv in along-turn _ p (c .before .before .before .before .before .before .walk-edge .ensures .0) (c .before .before .before .before .before .before .walk-edge .ensures .1) (λ T Q y. agree-kept (p .step .same) y) (λ T Q y z. left-turn T Q _ _ _ _ _ _ _ z (sym (c .before .before .before .before .before .before .before .before .before .before .before .edge .ensures .0) ∙ c .before .before .before .before .before .before .before .before .before .before .if2 .left) (c .before .before .before .before .before .before .before .before .before .before .before .before .if1 .taken))
+loop-again c =
+    let c₁ = c .before .before .before .before .before .before in
+    let c₂ = c₁ .before .before .before .before in
+    let c₃ = c₂ .before in
+    let c₄ = c₃ .before in
+    let c₅ = c₄ .before .before in
+    let a = c₅ .before .before .before .before .before .before .before .before .before in
+    let x = a .args in let p = c₅ .loop .inv in along-turn _ p (c₁ .walk-edge .ensures .0) (c₁ .walk-edge .ensures .1) (λ T Q y. agree-kept (p .step .same) y) (λ T Q y z. left-turn T Q _ _ _ _ _ _ _ z (sym (c₃ .edge .ensures .0) ∙ c₂ .if2 .left) (c₄ .if1 .taken))
 
 same-length-4 : tie.Need-same-length-4 Inv-loop μ-loop
 same-length-4 c = let a = c .before .before .before .before .before .before .before .before .before .before .before in let x = a .args in let p = c .before .before .loop .inv in p .step .same .size

@@ -21,7 +21,10 @@ returns : tie.Need-returns
 returns c = let a = c .before .before .before .before .before .before .before .before .before .before .before .before .before .before .before .before .before in let x = a .args in let p = c .before .before .before .before .before .before .before .walk-all .ensures .0 in phase-flagged (x .ctx .lay) (x .ctx) (x .stamp) (now (x .tables)) (now (x .distances)) (now (x .patterns)) (now (x .work)) (now (x .labels)) (now (x .label-distances)) (x .h) (a .pre .0) p (c .if1 .taken)
 
 append-stamped-requires : tie.Need-append-stamped-requires
-append-stamped-requires c κs = let a = c .before .before .before .before .before .before .before .before .before .before .before .before .before .before .before .before .before .before in let x = a .args in let p = c .before .before .before .before .before .before .before .before .walk-all .ensures .0 in (sized-words (p .ready .sized), (listed-kept (a .pre .1 .1) (p .same) (c .before .before .before .before .before .before .before .before .walk-all .ensures .1), phase-fits (x .ctx .lay) (x .ctx) (x .stamp) (now (x .tables)) (now (x .distances)) (now (x .patterns)) (now (x .work)) (now (x .labels)) (now (x .label-distances)) (x .h) (a .pre .0) p))
+append-stamped-requires c κs =
+    let c₁ = c .before .before .before .before .before .before .before .before in
+    let a = c₁ .before .before .before .before .before .before .before .before .before .before in
+    let x = a .args in let p = c₁ .walk-all .ensures .0 in (sized-words (p .ready .sized), (listed-kept (a .pre .1 .1) (p .same) (c₁ .walk-all .ensures .1), phase-fits (x .ctx .lay) (x .ctx) (x .stamp) (now (x .tables)) (now (x .distances)) (now (x .patterns)) (now (x .work)) (now (x .labels)) (now (x .label-distances)) (x .h) (a .pre .0) p))
 
 same-length-4 : tie.Need-same-length-4
 same-length-4 c = search needs
@@ -33,7 +36,10 @@ same-length-6 : tie.Need-same-length-6
 same-length-6 c = search needs
 
 returns-2 : tie.Need-returns-2
-returns-2 c = let a = c .before .before .before .before .before .before .before .before .before .before .before .before .before .before .before .before .before .before .before .before .before in let x = a .args in let p = c .before .before .before .before .before .before .before .before .before .before .before .walk-all .ensures .0 in phase-plain (x .ctx .lay) (x .ctx) (x .stamp) (now (x .tables)) (now (x .distances)) (now (x .patterns)) (now (x .work)) (now (x .labels)) (now (x .label-distances)) (x .h) (a .pre .0) p (a .pre .1 .1) _ _ (c .before .before .append-stamped .ensures) (c .before .before .before .before .if1 .left)
+returns-2 c =
+    let c₁ = c .before .before .before .before .before .before .before .before .before .before .before in
+    let a = c₁ .before .before .before .before .before .before .before .before .before .before in
+    let x = a .args in let p = c₁ .walk-all .ensures .0 in phase-plain (x .ctx .lay) (x .ctx) (x .stamp) (now (x .tables)) (now (x .distances)) (now (x .patterns)) (now (x .work)) (now (x .labels)) (now (x .label-distances)) (x .h) (a .pre .0) p (a .pre .1 .1) _ _ (c .before .before .append-stamped .ensures) (c .before .before .before .before .if1 .left)
 
 pub walk-phase-spec : {M : Type 1} → statement M
 walk-phase-spec =

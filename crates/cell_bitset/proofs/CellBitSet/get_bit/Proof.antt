@@ -31,9 +31,10 @@ shl-result c = search needs
 
 returns-2 : tie.Need-returns-2
 returns-2 c =
-    let b = getD (c .before .before .before .args .t1 .bytes) (c .before .before .before .args .cell / 8) 0 in
-    ap (λ (x : ℕ). not (eqb (bitAnd b x) 0)) (one-shl (c .before .before .before .args .cell)) ∙ bit-test b (c .before .before .before .args .cell % 8)
-    ∙ sym (held-in (c .before .before .before .args .t1) (c .before .before .before .args .cell) (omega arith))
+    let c₁ = c .before .before .before in
+    let b = getD (c₁ .args .t1 .bytes) (c₁ .args .cell / 8) 0 in
+    ap (λ (x : ℕ). not (eqb (bitAnd b x) 0)) (one-shl (c₁ .args .cell)) ∙ bit-test b (c₁ .args .cell % 8)
+    ∙ sym (held-in (c₁ .args .t1) (c₁ .args .cell) (omega arith))
 
 pub get-bit-spec : {M : Type 1} → statement M
 get-bit-spec =

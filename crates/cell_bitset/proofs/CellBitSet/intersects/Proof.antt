@@ -48,8 +48,9 @@ loop-again c = (omega arith, range-again _ _ _ (c .before .before .before .loop 
 
 returns : tie.Need-returns Inv-loop μ-loop
 returns c =
-    let self = c .before .before .before .before .before .args .t1 in
-    let other = c .before .before .before .before .before .args .t2 in
+    let c₁ = c .before .before .before .before .before in
+    let self = c₁ .args .t1 in
+    let other = c₁ .args .t2 in
     let small : (k : ℕ) → Fits w8 (getD (self .bytes) k 0) = λ k. search needs in
     let n : c .before .before .smaller .result ≡ min (reservedOf self) (reservedOf other) = omega arith in
     meets-gathered self other (c .before .before .smaller .result) (c .before .loop .found) (range-left _ _ _ (c .before .loop .inv .1) (omega arith)) n (λ k. small k .fits)

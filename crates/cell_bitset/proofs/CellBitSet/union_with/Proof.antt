@@ -22,7 +22,9 @@ cast-self : tie.Need-cast-self
 cast-self c = search needs
 
 returns : tie.Need-returns
-returns c = simp (c .larger .ensures, c .before .merged .ensures, c .before .before .cleared .ensures, c .before .before .before .before .before .before .reserved-bytes .ensures, c .before .before .before .before .before .reserved-bytes2 .ensures, union-made)
+returns c =
+    let c₁ = c .before .before .before .before .before .before in
+    simp (c .larger .ensures, c .before .merged .ensures, c .before .before .cleared .ensures, c₁ .reserved-bytes .ensures, c .before .before .before .before .before .reserved-bytes2 .ensures, union-made)
 
 pub union-with-spec : {M : Type 1} → statement M
 union-with-spec =

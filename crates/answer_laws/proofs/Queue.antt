@@ -12,11 +12,11 @@ use lib.Seq.{getD-set-other}
 use lib.Dec.{ltb, eqb}
 use borrow.Author.Tests.{ltb-true, eqb-true, eqb-false, ne-eqb}
 use Rattle.loops.specs.Count.{one, tab, tabFrom}
 use Rattle.model.specs.Tables.{Tables, Query, roundsOf, trips, stopCount, noWindows}
 use Rattle.model.specs.Door.{Door}
 use Rattle.model.specs.Search.{Segment, Arrivals, State, improve, enqueue, emptied, ridePhase, walkPhase, idle, rounds, begin, final, searchAnswer}
-use Rattle.model.specs.Queue.{added, ofTrip, allStopTimes, NoFrequency, roundOf, timesQueued}
-use Rattle.model.proofs.Moves.{Moves, stay, arrive, queue, pushed, moves-trips, Queues, rides, walks, round-queues, begin-queues}
+use Rattle.answer_laws.specs.Queue.{added, ofTrip, allStopTimes, NoFrequency, roundOf, timesQueued}
+use Rattle.answer_laws.proofs.Moves.{Moves, stay, arrive, queue, pushed, moves-trips, Queues, rides, walks, round-queues, begin-queues}
 
 -- SUMS
 added-le : (f g : ℕ → ℕ) (i n : ℕ) → ((k : ℕ) → f k ≤ g k) → added (tabFrom f i n) ≤ added (tabFrom g i n)

@@ -16,13 +16,14 @@ use Rattle.label.specs.declared.Label.{Label}
 use Rattle.label.specs.declared.Label.the-variants.{Access, Walk}
 use Rattle.label.specs.Table.{recordOf}
 use Rattle.departures.specs.declared.DepartureRow.{DepartureRow}
 use Rattle.model.specs.Tables.{Tables, Origin, Query, roundsOf, changeBefore, never, stops, trips, stopCount, stopAt, departure, noPickup, edgesFrom, edgeTo, walkTime, permitted}
 use Rattle.model.specs.Search.{Segment, Arrivals, State, at, delayOf, skipped, boardAt, marginOf, holdsTarget, departuresAt, markAt, notBefore, relax, bestAfter, scanTripForward, logged, rideSegments, pruned, passedOver, boarding, board, scanDepartures, scanStops, walkFrom, walkAll, emptied, roundStart, ridePhase, stamped, walkPhase, idle, rounds, setOut, access, newArrivals, begin, final}
 use Rattle.model.specs.Door.{Door}
-use Rattle.model.specs.Lawful.{Boarded, Begins}
-use Rattle.model.proofs.Stores.{or-false, not-false}
-use Rattle.model.proofs.Steps.{anew, Rides, Why, origin, foot, Steps, stay, improved, heard, Ended, Run, begun, round, Boards, none, listed, segment, Books, new, steps-le, steps-reached, steps-queue}
-use Rattle.model.proofs.Phases.{relax-steps, scan-on}
+use Rattle.answer_laws.specs.Lawful.{Boarded, Begins}
+use Rattle.answer_laws.proofs.Stores.{not-false}
+use Rattle.model.proofs.Base.{or-false}
+use Rattle.answer_laws.proofs.Steps.{anew, Rides, Why, origin, foot, Steps, stay, improved, heard, Ended, Run, begun, round, Boards, none, listed, segment, Books, new, steps-le, steps-reached, steps-queue}
+use Rattle.answer_laws.proofs.Phases.{relax-steps, scan-on}
 
 module _ (T : Tables) (Q : Query) where
   -- a departure that a listed row names

@@ -23,10 +23,10 @@ use Rattle.label.specs.Label.{noDistance}
 use Rattle.departures.specs.declared.DepartureRow.{DepartureRow}
 use Rattle.line_layout.specs.Layout.{LineTrips}
 use Rattle.event_transfers.specs.Transfers.{Transfer}
 use Rattle.model.specs.Tables.{never, Tables, Origin, Query, changeBefore, stops, trips, stopCount, stopAt, departure, noPickup, noDropOff, noWindows, edgesFrom, edgeTo, walkTime, position, fifo, usable, permitted}
 use Rattle.model.specs.Door.{Door}
 use Rattle.model.specs.Search.{Segment, Arrivals, bestAfter, setOut, access, State, at, holdsTarget, departuresAt, markAt, lineAt, notBefore, delayOf, skipped, arrivalNow, marginOf, boardAt, improve, relax, resolveIn, lineTripsAt, resolve, enqueue, takeTransfers, alightings, transferring, scanTripForward, logged, rideSegments, boarding, board, scanDepartures, scanStops, walkFrom, walkAll, emptied, roundStart, ridePhase, walkPhase, idle, rounds, newArrivals, begin}
-use Rattle.model.specs.Queue.{roundOf}
+use Rattle.answer_laws.specs.Queue.{roundOf}
 
 -- a number counted to is below the count
 pub below-upto : (i n k : ℕ) → List·Memᴰ k (tabFrom (λ j. j) i n) → k < i + n

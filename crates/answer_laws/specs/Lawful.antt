@@ -16,8 +16,9 @@ use Rattle.label.specs.declared.Label.{Label}
 use Rattle.label.specs.declared.Label.the-variants.{Empty, Access, Transit, Walk}
 use Rattle.label.specs.Label.{noDistance}
 use Rattle.label.specs.Table.{recordOf}
-use Rattle.model.specs.Tables.{Tables, Origin, Query, roundsOf, never, stops, trips, stopCount, stopAt, noPickup, noDropOff, edgesFrom, edgeTo, walkTime, permitted}
+use Rattle.model.specs.Tables.{Tables, Origin, Query, roundsOf, never, stops, trips, stopCount, stopAt, noPickup, noDropOff, edgesFrom}
+use Rattle.model.specs.Tables.{edgeTo, walkTime, permitted}
 use Rattle.model.specs.Search.{Segment, SearchAnswer, reachedBy, delayOf, skipped, boardAt, arrivalNow}
 
 -- the latest arrival at a stop: the latest boarding (a transfer's label), then the longest walk
 abbrev pub latest : ℕ

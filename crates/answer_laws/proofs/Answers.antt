@@ -11,14 +11,14 @@ use borrow.Author.Tests.{eqb-true, eqb-false, eq-eqb, ne-eqb}
 use Rattle.loops.proofs.Search.{split}
 use Rattle.walk_time.proofs.Laws.{rounds-most}
 use Rattle.label.specs.declared.Label.the-variants.{Empty}
 use Rattle.model.specs.Tables.{Tables, Query, roundsOf, never, stops}
 use Rattle.model.specs.Search.{Arrivals, at, reachedBy, useArcFlags, flagsInUse, bestTarget, candidatesFrom, final, searchAnswer, runTbr, query}
 use Rattle.model.specs.Door.{Door}
-use Rattle.model.specs.Lawful.{latestTotal, Candidate, Last, Sinks, none, Lawful}
-use Rattle.model.proofs.Labels.{labelAt}
-use Rattle.model.proofs.Rows.{Known, unreached, reached, Rows, filled}
-use Rattle.model.proofs.Bounds.{fits-early, final-sound, final-earliest, final-boardings}
-use Rattle.model.proofs.Candidates.{Best, best-lowest, best-of, best-none, row-best, last-is, sinks, each-is}
+use Rattle.answer_laws.specs.Lawful.{latestTotal, Candidate, Last, Sinks, none, Lawful}
+use Rattle.answer_laws.proofs.Labels.{labelAt}
+use Rattle.answer_laws.proofs.Rows.{Known, unreached, reached, Rows, filled}
+use Rattle.answer_laws.proofs.Bounds.{fits-early, final-sound, final-earliest, final-boardings}
+use Rattle.answer_laws.proofs.Candidates.{Best, best-lowest, best-of, best-none, row-best, last-is, sinks, each-is}
 
 module _ (T : Tables) (Q : Query) where
   module _ (D : Door T Q) (flagged : Bool) where

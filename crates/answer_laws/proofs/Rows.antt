@@ -12,13 +12,13 @@ use borrow.Author.Tests.{eqb-true, eqb-false}
 use Rattle.label.specs.declared.Label.{Label}
 use Rattle.label.specs.declared.Label.the-variants.{Empty}
 use Rattle.label.specs.Table.{recordOf}
 use Rattle.model.specs.Tables.{Tables, Query, never, stops}
 use Rattle.model.specs.Search.{Arrivals, at, reachedBy, newArrivals}
 use Rattle.model.specs.Door.{Door}
-use Rattle.model.specs.Lawful.{LabelFits, empty}
-use Rattle.model.proofs.Stores.{set-cases, set-there, lt-getD, getD-replicate, getD-replicate-in}
-use Rattle.model.proofs.Steps.{Why, Improved, Kept, improved-le}
-use Rattle.model.proofs.Labels.{labelAt, Lengths, lengths-kept, why-fits, why-stamp}
+use Rattle.answer_laws.specs.Lawful.{LabelFits, empty}
+use Rattle.answer_laws.proofs.Stores.{set-cases, set-there, lt-getD, getD-replicate, getD-replicate-in}
+use Rattle.answer_laws.proofs.Steps.{Why, Improved, Kept, improved-le}
+use Rattle.answer_laws.proofs.Labels.{labelAt, Lengths, lengths-kept, why-fits, why-stamp}
 
 -- a stop's earliest arrival is none, and no row is filled; or it is that of a row below
 pub data Known (below : ℕ) (a : Arrivals) (s : ℕ) : Type 0 where

@@ -14,10 +14,10 @@ use Rattle.label.specs.declared.Label.{Label}
 use Rattle.label.specs.declared.Label.the-variants.{Access, Transit, Walk}
 use Rattle.label.specs.Label.{noDistance}
 use Rattle.label.specs.Table.{recordOf}
 use Rattle.model.specs.Tables.{Tables, Origin, Query, stopAt, edgesFrom, edgeTo, walkTime, permitted}
 use Rattle.model.specs.Search.{Segment, Arrivals, Boardings, at, reachedBy, delayOf, skipped, bestAfter, emptied, newArrivals, newBoardings, logged, board}
-use Rattle.model.specs.Lawful.{Boarded, Begins, Leaves, leftAt}
-use Rattle.model.proofs.Stores.{set-le, set-hit}
+use Rattle.answer_laws.specs.Lawful.{Boarded, Begins, Leaves, leftAt}
+use Rattle.answer_laws.proofs.Stores.{set-le, set-hit}
 
 module _ (T : Tables) (Q : Query) where
   -- why a stop is reached at a time, with this label, in the ride phase: on leaving a ride at a stop that is not skipped, or on a transfer from

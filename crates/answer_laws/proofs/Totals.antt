@@ -9,16 +9,17 @@ use native.Mathlib.Omega.{arith}
 use lib.ListN.{getD}
 use lib.Dec.{ltb, eqb}
 use borrow.Author.Tests.{ltb-true, ltb-false, eq-eqb, ne-eqb}
 use Rattle.model.specs.Tables.{Tables, Query, isEgress, egressWalk, never, stops}
 use Rattle.model.specs.Search.{Arrivals, at, bestAfter, bestTarget, final, searchAnswer}
 use Rattle.model.specs.Door.{Door, EgressRising, none, more}
-use Rattle.model.specs.Lawful.{latestTotal}
-use Rattle.model.proofs.Stores.{set-cases, set-there, lt-getD, getD-replicate-in, no-both}
-use Rattle.model.proofs.Steps.{Kept, run-keeps, improved-le}
-use Rattle.model.proofs.Runs.{final-ran}
-use Rattle.model.proofs.Bounds.{egress-listed, final-best}
-use Rattle.model.proofs.Candidates.{best-lowest, best-of}
-use Rattle.model.proofs.Answers.{answer-lawful}
+use Rattle.answer_laws.specs.Lawful.{latestTotal}
+use Rattle.answer_laws.proofs.Stores.{set-cases, set-there, lt-getD, getD-replicate-in}
+use Rattle.model.proofs.Base.{no-both}
+use Rattle.answer_laws.proofs.Steps.{Kept, run-keeps, improved-le}
+use Rattle.answer_laws.proofs.Runs.{final-ran}
+use Rattle.answer_laws.proofs.Bounds.{egress-listed, final-best}
+use Rattle.answer_laws.proofs.Candidates.{best-lowest, best-of}
+use Rattle.answer_laws.proofs.Answers.{answer-lawful}
 
 -- an egress stop's one walk, where egress stops strictly rise
 egress-one : {es : List (ℕ × ℕ)} → EgressRising es → (s d : ℕ) → List·Memᴰ (s, d) es → (isEgress es s ≡ true) × (egressWalk es s ≡ d)

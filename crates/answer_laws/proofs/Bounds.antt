@@ -16,16 +16,17 @@ use Rattle.walk_time.proofs.Laws.{rounds-most}
 use Rattle.frequency.specs.declared.BoardedRun.{BoardedRun}
 use Rattle.stop_delay.specs.Times.{sizeOf}
 use Rattle.label.specs.declared.Label.{Label}
 use Rattle.model.specs.Tables.{Tables, Query, roundsOf, isEgress, egressWalk, never, stops, trips, stopCount, permitted}
 use Rattle.model.specs.Search.{Segment, Arrivals, Boardings, at, reachedBy, bestAfter, delayOf, prunable, board, emptied, final}
 use Rattle.model.specs.Door.{Door}
-use Rattle.model.specs.Lawful.{Boarded, Begins, latest, LabelFits, empty, access, transit, walk, latestTotal, ScanFits}
-use Rattle.model.proofs.Stores.{set-cases, no-both, getD-replicate}
-use Rattle.model.proofs.Steps.{Rides, Why, ride, Same, Steps, Kept, Run, begun, round, run-stamp, steps-keep, steps-reached, steps-queue, Books-kept, books-keep}
-use Rattle.model.proofs.Runs.{final-ran}
+use Rattle.answer_laws.specs.Lawful.{Boarded, Begins, latest, LabelFits, empty, access, transit, walk, latestTotal, ScanFits}
+use Rattle.answer_laws.proofs.Stores.{set-cases, getD-replicate}
+use Rattle.model.proofs.Base.{no-both}
+use Rattle.answer_laws.proofs.Steps.{Rides, Why, ride, Same, Steps, Kept, Run, begun, round, run-stamp, steps-keep, steps-reached, steps-queue, Books-kept, books-keep}
+use Rattle.answer_laws.proofs.Runs.{final-ran}
 use Rattle.model.proofs.Sizes.{latestBoarding, boards-soon}
-use Rattle.model.proofs.Labels.{labelAt, begins-shift, rides-early, why-early}
-use Rattle.model.proofs.Rows.{Known, unreached, reached, Rows, rows-up, rows-kept}
+use Rattle.answer_laws.proofs.Labels.{labelAt, begins-shift, rides-early, why-early}
+use Rattle.answer_laws.proofs.Rows.{Known, unreached, reached, Rows, rows-up, rows-kept}
 
 -- an egress stop's walk is listed
 pub egress-listed : (es : List (ℕ × ℕ)) (s : ℕ) → isEgress es s ≡ true → List·Memᴰ (s, egressWalk es s) es
@@ -168,11 +169,6 @@ module _ (T : Tables) (Q : Query) (D : Door T Q) where
       → Sound T Q (suc stamp) b
   ride-sound {stamp} {a} R u S =
       sound-steps u (λ s v l j. ride (omega (arith, run-stamp T Q R)) j) S (sound-ride stamp a u (run-sound R (omega arith)))
-
-  pub walk-sound : {stamp : ℕ} {a b c : Arrivals} → Run T Q stamp a → suc stamp ≤ 13
-      → Steps T Q (Rides T Q (suc stamp)) (suc stamp) (emptied T Q [] a) b
-      → Steps T Q (Why T Q (suc stamp)) (suc stamp) (emptied T Q (b .segQueue) b) c → Sound T Q (suc stamp) c
-  walk-sound {stamp} {a} {b} R u S W = sound-steps u (λ s v l j. j) W (sound-walk (suc stamp) b u (ride-sound R u S))
 
   -- a stop reached in a ride phase is reached by the latest boarding, so each walk begins by then
   pub reached-early : {stamp : ℕ} {b : Arrivals} (a : Arrivals) → Steps T Q (Rides T Q stamp) stamp (emptied T Q [] a) b → (x : ℕ)

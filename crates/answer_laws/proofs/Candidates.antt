@@ -10,14 +10,14 @@ use lib.Dec.{ltb, leb, eqb}
 use borrow.Author.Tests.{ltb-true, ltb-false, leb-true, eqb-false, ne-eqb, lt-ltb, le-leb}
 use Rattle.loops.proofs.Iter.{and-left, and-right}
 use Rattle.loops.proofs.Search.{split}
 use Rattle.model.specs.Tables.{Tables, Query, never}
 use Rattle.model.specs.Search.{Arrivals, at, reachedBy, bestTarget, rowTarget, candidatesFrom}
 use Rattle.model.specs.Door.{Door}
-use Rattle.model.specs.Lawful.{Last, last, more, Sinks, none, next, Candidate}
-use Rattle.model.proofs.Stores.{no-both}
-use Rattle.model.proofs.Labels.{labelAt}
-use Rattle.model.proofs.Rows.{Known, unreached, reached, Rows}
-use Rattle.model.proofs.Bounds.{fits-early}
+use Rattle.answer_laws.specs.Lawful.{Last, last, more, Sinks, none, next, Candidate}
+use Rattle.model.proofs.Base.{no-both}
+use Rattle.answer_laws.proofs.Labels.{labelAt}
+use Rattle.answer_laws.proofs.Rows.{Known, unreached, reached, Rows}
+use Rattle.answer_laws.proofs.Bounds.{fits-early}
 
 sinks-low : {bound from : ℕ} {cs : List (ℕ × ℕ × ℕ)} → Sinks bound (suc from) cs → Sinks bound from cs
 sinks-low none = none

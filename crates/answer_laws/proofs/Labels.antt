@@ -13,13 +13,13 @@ use Rattle.stop_delay.specs.Times.{sizeOf}
 use Rattle.label.specs.declared.Label.{Label}
 use Rattle.label.specs.declared.Label.the-variants.{Empty, Access, Transit, Walk}
 use Rattle.label.specs.Table.{recordOf}
 use Rattle.model.specs.Tables.{Tables, Query, never, stops, trips, edgesFrom, walkTime}
 use Rattle.model.specs.Search.{Segment, Arrivals}
 use Rattle.model.specs.Door.{Door}
-use Rattle.model.specs.Lawful.{latest, labelIn, AccessFits, TransitFits, transfer, edge, WalkFits, LabelFits, access, transit, walk, Begins}
-use Rattle.model.proofs.Stores.{keep-in, upto-in}
-use Rattle.model.proofs.Steps.{lists-long, Rides, alighted, changed, Why, origin, ride, foot, Kept}
+use Rattle.answer_laws.specs.Lawful.{latest, labelIn, AccessFits, TransitFits, transfer, edge, WalkFits, LabelFits, access, transit, walk, Begins}
+use Rattle.answer_laws.proofs.Stores.{keep-in, upto-in}
+use Rattle.answer_laws.proofs.Steps.{lists-long, Rides, alighted, changed, Why, origin, ride, foot, Kept}
 use Rattle.model.proofs.Sizes.{latestBoarding, arrival-early, boards-soon}
 
 abbrev pub labelAt : Arrivals → ℕ → ℕ → Label
 labelAt a s row = labelIn (a .labels) s row

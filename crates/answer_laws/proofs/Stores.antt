@@ -2,13 +2,14 @@
 use Prim.Native.Nat.{ℕ, zero, suc, _+_, _≤_, _<_, zero-le}
 use mathlib.Core.Path.{_≡_, refl, ap, _∙_}
 use mathlib.Core.Logic.{_⊎_, inl, inr, ⊎-elim}
-use mathlib.Core.Bool.{Bool, true, false, cond, _||_, not}
+use mathlib.Core.Bool.{Bool, true, false, cond, not}
 use mathlib.Core.List.{List, [], _∷_, List·Memᴰ, List·Memᴰ·head, List·Memᴰ·tail, List·Memᴰ·not-nil, List·Memᴰ·cases-cons}
 use native.Mathlib.Nat.{le-refl}
 use native.Mathlib.Omega.{arith}
 use lib.ListN.{length, getD, set, replicate}
 use Rattle.loops.specs.Count.{tabFrom}
 use Rattle.sorts.specs.Orders.{keep}
+use Rattle.model.proofs.Base.{no-both}
 
 -- what stands at x after a store at i: the new value, at i, or what stood there
 pub set-cases {ℓ} : {A : Type ℓ} (l : List A) (i : ℕ) (v : A) (x : ℕ) (d : A)
@@ -72,13 +73,6 @@ upto-in i zero x m = absurd (List·Memᴰ·not-nil m)
 upto-in i (suc n) x m = ⊎-elim (λ q. omega (arith, q)) (λ k. omega (arith, upto-in (suc i) n x k)) (List·Memᴰ·cases-cons m)
 
 -- tests
-pub no-both : {x : Bool} → x ≡ true → x ≡ false → ⊥
-no-both p q = let w : _≡_ {A = ℕ} 0 1 = cc in omega arith
-
-pub or-false : (a b : Bool) → (a || b) ≡ false → (a ≡ false) × (b ≡ false)
-or-false true b e = absurd (no-both refl e)
-or-false false b e = (refl, e)
-
 pub not-false : (a : Bool) → not a ≡ false → a ≡ true
 not-false true e = refl
 not-false false e = absurd (no-both refl e)

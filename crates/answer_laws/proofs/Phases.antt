@@ -21,12 +21,12 @@ use Rattle.label.specs.Label.{noDistance}
 use Rattle.label.specs.Table.{recordOf}
 use Rattle.line_layout.specs.Layout.{LineTrips}
 use Rattle.event_transfers.specs.Transfers.{Transfer}
 use Rattle.model.specs.Tables.{Tables, Query, trips, stopCount, stopAt, departure, noPickup, noDropOff, noWindows, position, fifo, usable, permitted}
 use Rattle.model.specs.Search.{Segment, Arrivals, at, reachedBy, delayOf, skipped, boardAt, arrivalNow, bestAfter, marginOf, holdsTarget, lineAt, improve, relax, resolveIn, lineTripsAt, resolve, enqueue, takeTransfers, alightings, transferring, scanTripForward}
 use Rattle.model.specs.Door.{Door}
-use Rattle.model.specs.Lawful.{Boarded, Begins, Leaves, leftAt}
-use Rattle.model.proofs.Stores.{or-false}
-use Rattle.model.proofs.Steps.{Rides, alighted, changed, again, anew, Improved, Steps, improved, queued}
+use Rattle.answer_laws.specs.Lawful.{Boarded, Begins, Leaves, leftAt}
+use Rattle.model.proofs.Base.{or-false}
+use Rattle.answer_laws.proofs.Steps.{Rides, alighted, changed, again, anew, Improved, Steps, improved, queued}
 
 module _ (T : Tables) (Q : Query) where
   -- `improve` is one step

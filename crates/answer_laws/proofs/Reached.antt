@@ -12,11 +12,11 @@ use lib.Dec.{ltb, eqb}
 use borrow.Author.Tests.{eqb-true, eqb-false, eq-eqb, ne-eqb}
 use Rattle.loops.specs.Count.{one, count}
 use Rattle.loops.proofs.Count.{count-le-n, count-ext}
 use Rattle.model.specs.Tables.{Tables, Origin, Query, stops, noWindows}
 use Rattle.model.specs.Door.{Door}
 use Rattle.model.specs.Search.{Arrivals, State, at, improve, enqueue, ridePhase, stamped, walkPhase, idle, rounds, setOut, access, newArrivals, begin}
-use Rattle.model.specs.Queue.{roundOf}
-use Rattle.model.proofs.Moves.{Moves, stay, arrive, queue, pushed, taken, left-out, rounds-keep, Queues, rides, walksTo, walks, round-queues, begin-queues}
+use Rattle.answer_laws.specs.Queue.{roundOf}
+use Rattle.answer_laws.proofs.Moves.{Moves, stay, arrive, queue, pushed, taken, left-out, rounds-keep, Queues, rides, walksTo, walks, round-queues, begin-queues}
 
 -- no number twice
 pub data Once : List ℕ → Type 0 where
@@ -164,11 +164,6 @@ module _ (T : Tables) where
   pub listed-fits : {stamp : ℕ} {before ss xs : List ℕ} → Listed stamp before ss xs → length before + length xs ≤ stops T
   listed-fits {stamp} {ss = ss} L = omega (arith, L .many, count-le-n (λ x. eqb (getD ss x 0) stamp) (stops T))
 
-  -- and there is room for a stop that is still to be stamped
-  pub listed-room : {stamp : ℕ} {before ss xs : List ℕ} (s : ℕ) → Listed stamp before ss xs → s < stops T → (getD ss s 0 ≡ stamp → ⊥)
-      → length before + length xs < stops T
-  listed-room {xs = xs} s L h n = omega (arith, listed-fits (listed-more s L h n), length-append xs (s ∷ []))
-
   -- ALL MOVES keep a list
   pub moves-listed : (Q : Query) {R : ℕ → Type 0} {flagged : Bool} {stamp : ℕ} {before : List ℕ} {a b : Arrivals}
       → Moves T Q R (λ x. x < stops T) flagged stamp a b
@@ -228,20 +223,6 @@ access-few T Q (o ∷ os) a = omega (arith, access-few T Q os (setOut T Q o a), 
     go true = omega (arith, length-append (a .reached) (o .stop ∷ []))
     go false = omega arith
 
-access-inside : (T : Tables) (Q : Query) (os : List Origin) (a : Arrivals) → ((o : Origin) → List·Memᴰ o os → o .stop < stops T)
-    → ((x : ℕ) → List·Memᴰ x (a .reached) → x < stops T)
-    → (x : ℕ) → List·Memᴰ x (access T Q os a .reached) → x < stops T
-unfolding access setOut
-access-inside T Q [] a I A = A
-access-inside T Q (o ∷ os) a I A =
-    access-inside T Q os (setOut T Q o a) (λ p m. I p (List·Memᴰ·tail m)) (go (ltb (Q .start + o .duration) (at a (o .stop))))
-  where
-    go : (b : Bool) (x : ℕ) → List·Memᴰ x ((elim b as (λ z. Arrivals) [ true ↦ taken T Q o a | false ↦ left-out T Q o a ]) .reached) → x < stops T
-    go true x m =
-        ⊎-elim (λ i. A x i) (λ i. let e : x ≡ o .stop = List·Memᴰ·eq-of-singleton i in omega (arith, I o (List·Memᴰ·head refl)))
-        (List·Memᴰ·append-cases (a .reached) m)
-    go false x m = A x m
-
 access-long : (T : Tables) (Q : Query) (os : List Origin) (a : Arrivals) → length (access T Q os a .stopStamp) ≡ length (a .stopStamp)
 unfolding access setOut
 access-long T Q [] a = refl
@@ -269,10 +250,6 @@ new-stamps (suc n) (suc x) = new-stamps n x
 -- the stops of round 0 are no more than the origins
 pub first-few : (T : Tables) (Q : Query) → length (begin T Q .arrivals .reached) ≤ length (Q .origins)
 first-few T Q = omega (arith, access-few T Q (Q .origins) (newArrivals T Q))
-
--- and are stops of the table
-pub first-inside : (T : Tables) (Q : Query) → Door T Q → (x : ℕ) → List·Memᴰ x (begin T Q .arrivals .reached) → x < stops T
-first-inside T Q D = access-inside T Q (Q .origins) (newArrivals T Q) (D .origin-in) (λ x m. absurd (List·Memᴰ·not-nil m))
 
 -- so it is before round 0
 pub begin-before : (T : Tables) (Q : Query) → Before T 0 (begin T Q)

@@ -1,0 +1,14 @@
+pub mod Stores
+pub mod Steps
+pub mod Phases
+pub mod Runs
+pub mod Labels
+pub mod Rows
+pub mod Bounds
+pub mod Candidates
+pub mod Answers
+pub mod Totals
+pub mod Moves
+pub mod Queue
+pub mod Reached
+pub mod Calls
