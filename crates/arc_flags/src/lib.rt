@@ -136,14 +136,14 @@ fn first_skipped(
 }
 
 // Has the run of some event row k?
-fn some_run_has(runs: &[u32], k: usize) -> bool
-    ensures { λ r. ⌜ r ≡ someIn (runHas (now (runs .entry)) k) 0 (length (now (runs .entry)) / 2) ⌝ }
+fn some_run_has(transfer_runs: &[u32], k: usize) -> bool
+    ensures { λ r. ⌜ r ≡ someIn (runHas (now («transfer_runs» .entry)) k) 0 (length (now («transfer_runs» .entry)) / 2) ⌝ }
 {
-    let n = runs.len() / 2;
+    let n = transfer_runs.len() / 2;
     let mut e: usize = 0;
     while e < n {
-        let first = words::field(runs, e * 2);
-        let end = first + words::field(runs, e * 2 + 1);
+        let first = words::field(transfer_runs, e * 2);
+        let end = first + words::field(transfer_runs, e * 2 + 1);
         if door::both(first <= k, k < end) {
             return true;
         }
@@ -197,16 +197,16 @@ fn counted_before(counts: &[u32], from: usize, n: usize, k: usize) -> u32
 }
 
 // Has some event's run a row of the window that passes? By the counts: more pass before the run's end than before its first row.
-fn some_run_passes(runs: &[u32], from: usize, n: usize, counts: &[u32]) -> bool
+fn some_run_passes(transfer_runs: &[u32], from: usize, n: usize, counts: &[u32]) -> bool
     requires { ⌜ n < length (now counts) ⌝ }
     ensures { λ r. ⌜ ((f : ℕ → Bool) → CountedFrom f from n (now (counts .entry))
-        → r ≡ someRun (withinRun f from n) (now (runs .entry))) ⌝ }
+        → r ≡ someRun (withinRun f from n) (now («transfer_runs» .entry))) ⌝ }
 {
-    let events = runs.len() / 2;
+    let events = transfer_runs.len() / 2;
     let mut e: usize = 0;
     while e < events {
-        let first = words::field(runs, e * 2);
-        let end = first + words::field(runs, e * 2 + 1);
+        let first = words::field(transfer_runs, e * 2);
+        let end = first + words::field(transfer_runs, e * 2 + 1);
         if counted_before(counts, from, n, first) < counted_before(counts, from, n, end) {
             return true;
         }
@@ -218,7 +218,7 @@ fn some_run_passes(runs: &[u32], from: usize, n: usize, counts: &[u32]) -> bool
 // Has some event's run a row of one window that the flags skip? The window has at most 4,096 rows, so that its counts need little stack. Where they
 // skip none of its rows, no run is looked at.
 fn window_skips(
-    runs: &[u32],
+    transfer_runs: &[u32],
     transfers: &[u32],
     patterns: &[u8],
     count: usize,
@@ -227,19 +227,19 @@ fn window_skips(
     n: usize,
 ) -> bool
     requires { ⌜ PatternsOk (now patterns) count ⌝ ∗ ⌜ RowsIn (now transfers) (from + n) ⌝ ∗ ⌜ n ≤ 4096 ⌝ }
-    ensures { λ r. ⌜ WindowSkips (now (runs .entry)) (now (transfers .entry)) (now (patterns .entry)) count target from n r ⌝ }
+    ensures { λ r. ⌜ WindowSkips (now («transfer_runs» .entry)) (now (transfers .entry)) (now (patterns .entry)) count target from n r ⌝ }
 {
     let mut counts = [0u32; 4097];
     count_skipped(transfers, patterns, count, target, from, n, &mut counts);
     if words::word(&counts, n) == 0 {
         return false;
     }
-    some_run_passes(runs, from, n, &counts)
+    some_run_passes(transfer_runs, from, n, &counts)
 }
 
 // Has some event's run a row that the flags skip? Window by window.
 fn some_window_skips(
-    runs: &[u32],
+    transfer_runs: &[u32],
     transfers: &[u32],
     transfer_rows: usize,
     patterns: &[u8],
@@ -247,13 +247,13 @@ fn some_window_skips(
     target: CellBitSet,
 ) -> bool
     requires { ⌜ PatternsOk (now patterns) count ⌝ ∗ ⌜ RowsIn (now transfers) «transfer_rows» ⌝
-        ∗ ⌜ RunsIn (now runs) «transfer_rows» ⌝ }
-    ensures { λ r. ⌜ RunsSkip (now (runs .entry)) (now (transfers .entry)) (now (patterns .entry)) count target r ⌝ }
+        ∗ ⌜ RunsIn (now «transfer_runs») «transfer_rows» ⌝ }
+    ensures { λ r. ⌜ RunsSkip (now («transfer_runs» .entry)) (now (transfers .entry)) (now (patterns .entry)) count target r ⌝ }
 {
     let mut from: usize = 0;
     while from < transfer_rows {
         let n = words::smaller(transfer_rows - from, 4096);
-        if window_skips(runs, transfers, patterns, count, target, from, n) {
+        if window_skips(transfer_runs, transfers, patterns, count, target, from, n) {
             return true;
         }
         from += n;
@@ -265,7 +265,7 @@ fn some_window_skips(
 // or some run has the first that is. Only where neither is so are the skipped rows counted, in windows of 4,096 rows, and in each window a run
 // is two look-ups: at most 16 passes over the events.
 fn skips_transfer(
-    runs: &[u32],
+    transfer_runs: &[u32],
     transfers: &[u32],
     transfer_rows: usize,
     patterns: &[u8],
@@ -273,25 +273,32 @@ fn skips_transfer(
     target: CellBitSet,
 ) -> bool
     requires { ⌜ PatternsOk (now patterns) count ⌝ ∗ ⌜ RowsIn (now transfers) «transfer_rows» ⌝
-        ∗ ⌜ RunsIn (now runs) «transfer_rows» ⌝ }
+        ∗ ⌜ RunsIn (now «transfer_runs») «transfer_rows» ⌝ }
     ensures { λ r. ⌜ ((T : Tables) (Q : Query) → Patterned T (now (patterns .entry)) count
-        → Transferring T (now (runs .entry)) (now (transfers .entry)) → target ≡ targetCells T Q → r ≡ skipsTransfer T Q) ⌝ }
+        → Transferring T (now («transfer_runs» .entry)) (now (transfers .entry)) → target ≡ targetCells T Q → r ≡ skipsTransfer T Q) ⌝ }
 {
     let k = first_skipped(transfers, patterns, count, target, transfer_rows);
     if transfer_rows <= k {
         return false;
     }
-    if some_run_has(runs, k) {
+    if some_run_has(transfer_runs, k) {
         return true;
     }
-    some_window_skips(runs, transfers, transfer_rows, patterns, count, target)
+    some_window_skips(
+        transfer_runs,
+        transfers,
+        transfer_rows,
+        patterns,
+        count,
+        target,
+    )
 }
 
 // Are the flags in use: not put off, and do they skip some walk edge or transfer?
 pub fn flags_in_use(
     tables: &[u32],
     c: Counts,
-    runs: &[u32],
+    transfer_runs: &[u32],
     transfers: &[u32],
     transfer_rows: usize,
     patterns: &[u8],
@@ -300,9 +307,9 @@ pub fn flags_in_use(
     flags_off: bool,
 ) -> bool
     requires { ⌜ Sane (now tables) c ⌝ ∗ ⌜ PatternsOk (now patterns) count ⌝ ∗ ⌜ RowsIn (now transfers) «transfer_rows» ⌝
-        ∗ ⌜ RunsIn (now runs) «transfer_rows» ⌝ }
+        ∗ ⌜ RunsIn (now «transfer_runs») «transfer_rows» ⌝ }
     ensures { λ r. ⌜ ((T : Tables) (Q : Query) → T .timetable ≡ timetable (now (tables .entry)) c → Patterned T (now (patterns .entry)) count
-        → Transferring T (now (runs .entry)) (now (transfers .entry)) → target ≡ targetCells T Q → Q .flagsOff ≡ «flags_off»
+        → Transferring T (now («transfer_runs» .entry)) (now (transfers .entry)) → target ≡ targetCells T Q → Q .flagsOff ≡ «flags_off»
         → r ≡ flagsInUse T Q) ⌝ }
 {
     if !use_arc_flags(count, target, flags_off) {
@@ -311,5 +318,12 @@ pub fn flags_in_use(
     if skips_edge(tables, c, patterns, count, target) {
         return true;
     }
-    skips_transfer(runs, transfers, transfer_rows, patterns, count, target)
+    skips_transfer(
+        transfer_runs,
+        transfers,
+        transfer_rows,
+        patterns,
+        count,
+        target,
+    )
 }

@@ -1,10 +1,9 @@
 -- A listed departure, by what board_listed says of it: not boarded, or boarded, noted and scanned. Assumes nothing.
-use Prim.Native.Nat.{ℕ, _*_, _≤_}
-use mathlib.Core.Path.{_≡_, refl, sym, ap, subst, _∙_}
+use Prim.Native.Nat.{ℕ, _≤_}
+use mathlib.Core.Path.{_≡_, sym, ap, subst, _∙_}
 use mathlib.Core.Bool.{Bool}
 use mathlib.Core.List.{List}
 use native.Mathlib.Omega.{arith}
-use lib.ListN.{length}
 use lib.Ieee.{Float}
 use Rattle.loops.specs.Iter.{Hit}
 use Rattle.stop_delay.specs.Times.{sizeOf}
@@ -18,9 +17,7 @@ use Rattle.frequency.specs.declared.FreqBoard.the-variants.{Nothing, Board}
 use Rattle.model.specs.Tables.{Tables, Query, trips}
 use Rattle.model.specs.Search.{Arrivals, State, at, delayOf, boardAt, boarding, board, scanTripForward}
 use Rattle.model.proofs.Sizes.{boards-soon}
-use Rattle.query_types.specs.declared.Lay.{Lay}
 use Rattle.query_types.specs.declared.Head.{Head}
-use Rattle.search_state.specs.Places.{Sized}
 use Rattle.search_state.specs.View.{Memory, memory}
 use Rattle.search_state.specs.Step.{QueueStep}
 use Rattle.trip_boarding.specs.Reads.{hitOf, Event, Agree, Asks}
@@ -37,17 +34,13 @@ use Rattle.ride_step.proofs.Scanned.{count-few, scan-rode}
 use Rattle.query_types.specs.Slices.{Slices}
 use Rattle.query_types.specs.declared.Context.{Context}
 
--- the working numbers are so many, whatever the labels are
-pub sized-work : {lay : Lay} {n b d : ℕ} → Sized lay n b d → Sized lay n (lay .stops * 104) (lay .stops * 13)
-sized-work ok = record { sections = ok .sections; rows = refl; metres = refl }
-
 module _ {ctx : Context} {sl : Slices} {stamp : ℕ} {w l : List ℕ} {m : List Float} {h : Head} {q : List ℕ}
     (G : Going ctx sl stamp (memory w l m h) q) where
   -- the chains of the round, as a listed departure is tested against them
   pub chained : RoundChains (ctx .lay) stamp (ctx .counts .timetable) (sl .built) w
   chained =
       record {
-        sized = sized-work (G .ready .sized);
+        sized = G .ready .sized .sections;
         chains = G .chains;
         trips = G .laid .netted .trips;
         lines = omega (arith, G .laid .netted .held .trips, G .laid .netted .trips);
@@ -86,7 +79,7 @@ module _ {ctx : Context} {sl : Slices} {stamp : ℕ} {w l : List ℕ} {m : List 
 
       module _ {w1 : List ℕ} (v : Noted (ctx .lay) stamp (sl .built) (hitOf adj) trip off (c .departure) w w1) where
         pub noted-kept : Kept (ctx .lay) w w1
-        noted-kept = kept-noted (length l) (length m) (G .ready .sized) v
+        noted-kept = kept-noted (G .ready .sized .sections) v
 
         pub noted-netted : Netted ctx sl w1
         noted-netted = laid-kept (G .laid) noted-kept .netted
@@ -98,7 +91,7 @@ module _ {ctx : Context} {sl : Slices} {stamp : ℕ} {w l : List ℕ} {m : List 
         taken-board z =
             ride-as (λ T Q. taken T Q flagged round stamp x after (record { trip = trip; offset = off }))
             (scan-rode G flagged adj (c .«time_shift_s») trip x off (λ T Q. board T Q round stamp (delayOf Q trip) trip off (c .departure)) row noted-kept
-            (arrivals-noted (ctx .lay) stamp (sl .built) (hitOf adj) trip off (c .departure) w w1 v (length l) (length m) (G .ready .sized) l m h (count-few (G .ready)) q)
+            (arrivals-noted (ctx .lay) stamp (sl .built) (hitOf adj) trip off (c .departure) w w1 v (G .ready .sized .sections) l m h (count-few (G .ready)) q)
             (record { earlier = λ e o. let u = noted-at (ctx .lay) stamp (sl .built) (hitOf adj) trip off (c .departure) w w1 v e (omega (arith, o)) in omega (arith, u) }) (v .chains)
             (λ T Q y k p. subst (λ (g : Hit). Books (ctx .lay) stamp T Q w1 (board T Q round stamp g trip off (c .departure) k)) (row Q (sl .stopRows) (y .nets .agree .delays))
             (v .books T Q (ctx .counts .timetable) (agrees-of (G .laid) y) (row Q (sl .stopRows) (y .nets .agree .delays)) round k p)) z)

@@ -1,6 +1,6 @@
 -- What deciding on a listed departure reads besides the tables, and a stop's part of the departures in order. Definitions only.
 -- Inner: nobody has to believe this.
-use Prim.Native.Nat.{ℕ, _*_, _≤_, _<_}
+use Prim.Native.Nat.{ℕ, _≤_, _<_}
 use mathlib.Core.Path.{_≡_}
 use mathlib.Core.List.{List}
 use lib.ListN.{length}
@@ -13,7 +13,7 @@ use Rattle.tables.specs.Timetable.{timetable}
 use Rattle.departures.specs.Departures.{rowAt, rowDeparture}
 use Rattle.departures.specs.Listed.{RowsKnown}
 use Rattle.query_types.specs.declared.Lay.{Lay}
-use Rattle.search_state.specs.Places.{Sized}
+use Rattle.search_state.specs.Places.{WorkSized}
 use Rattle.trip_boarding.specs.Reads.{hitOf, Agree}
 use Rattle.line_pruning.specs.Books.{Chains}
 use Rattle.model.specs.Tables.{Tables, Query}
@@ -21,7 +21,7 @@ use Rattle.model.specs.Search.{boardAt}
 
 -- the working numbers with the chains of this round, and each trip's line
 pub record RoundChains (lay : Lay) (stamp : ℕ) (c : Counts) (built w : List ℕ) : Type 0 where
-  pub sized : Sized lay (length w) (lay .stops * 104) (lay .stops * 13)
+  pub sized : WorkSized lay (length w)
   pub chains : Chains lay stamp w
   pub trips : c .trips ≡ lay .trips
   pub lines : lay .trips ≤ length built

@@ -18,7 +18,7 @@ use Rattle.tables.specs.Sane.{Sane}
 use Rattle.departures.specs.declared.StopRun.{StopRun}
 use Rattle.departures.specs.Departures.{runAt, runEnd, runFirst}
 use Rattle.departures.specs.Listed.{RunsListed}
-use Rattle.event_transfers.specs.Packed.{Keys, AreaSoFar, Lines, LinesAfter, Most, Prepared, SortedRuns, EventAt, TripAt, AreaWalk, alightKeys, allKeys, eventKeys, laid, lay, layEvent, layEvents, eventNoted, putRun, targets, tripKeys, areaWalk}
+use Rattle.event_transfers.specs.Packed.{Keys, AreaSoFar, LineEnds, LinesAfter, Most, Prepared, SortedRuns, EventAt, TripAt, AreaWalk, alightKeys, allKeys, eventKeys, laid, lay, layEvent, layEvents, eventNoted, putRun, targets, tripKeys, areaWalk}
 use Rattle.event_transfers.proofs.Lists.{flatten-append}
 use Rattle.event_transfers.proofs.Grouping.{lines-part}
 use Rattle.event_transfers.proofs.Laying.{events-append, events-n, lay-full, lay-n}
@@ -56,7 +56,7 @@ module _ (p : Prepared) (ends : List ℕ) (d at : ℕ) (sane : Sane (p .t) (p .c
   run-keys r q = rw (stop-part r q) (k .keys stop stop-below)
 
   pub run-lines : (r : StopRun) → r ≡ runAt (p .runs) stop
-      → Lines (take (r .first + r .length - r .first) (drop (r .first) (p .work))) (take (r .first + r .length - r .first) (drop (r .first) ends))
+      → LineEnds (take (r .first + r .length - r .first) (drop (r .first) (p .work))) (take (r .first + r .length - r .first) (drop (r .first) ends))
   run-lines r q = lines-part (p .work) ends (r .first) (r .first + r .length - r .first) (k .lines) (omega (arith, run-inside r q))
 
   open-keys : (ti arrival : ℕ) (r : StopRun) → eqb (timeOf (p .t) at 5) 1 ≡ false → arrival ≡ timeOf (p .t) at 1 → r ≡ runAt (p .runs) stop

@@ -15,7 +15,7 @@ use Rattle.loops.specs.Order.{Halved}
 use Rattle.sorts.specs.Sort.{hi, pick}
 use Rattle.sorts.specs.Orders.{keep}
 use Rattle.departures.specs.Packed.{unTrip}
-use Rattle.event_transfers.specs.Packed.{Group, Keys, AreaSoFar, LineEnd, Lines, Stretch, depX, lay, layRow, lineX, targets, toGroup}
+use Rattle.event_transfers.specs.Packed.{Group, Keys, AreaSoFar, LineEnd, LineEnds, Stretch, depX, lay, layRow, lineX, targets, toGroup}
 use Rattle.event_transfers.proofs.Laying.{lay-append}
 use Rattle.event_transfers.proofs.Lists.{first-kept, flatten-none, flatten-one, keep-append, keep-no, keep-none, keep-yes, length-keep}
 
@@ -93,7 +93,7 @@ lines-set v ends i left h u s r j a b = ⊎-elim first later (eq-or-lt-of-le a)
     later l = rw (getD-set-other ends (i - 1) j left 0 (λ e. omega arith)) (r j (omega arith) b)
 
 -- a part's
-pub lines-part : (v ends : List ℕ) (a n : ℕ) → Lines v ends → a + n ≤ length v → Lines (take n (drop a v)) (take n (drop a ends))
+pub lines-part : (v ends : List ℕ) (a n : ℕ) → LineEnds v ends → a + n ≤ length v → LineEnds (take n (drop a v)) (take n (drop a ends))
 lines-part v ends a n h u = record { size = omega (arith, size v, size ends, h .size); at = part }
   where
     size : (l : List ℕ) → length (take n (drop a l)) ≡ min n (length l - a)

@@ -44,7 +44,7 @@ pub record Stretch (v : List ℕ) (i e : ℕ) : Type 0 where
   pub next : i + e < length v → lineX (getD v (i + e) 0) ≡ lineX (getD v i 0) → ⊥
 
 -- how many, beside each
-pub record Lines (v ends : List ℕ) : Type 0 where
+pub record LineEnds (v ends : List ℕ) : Type 0 where
   pub size : length ends ≡ length v
   pub at : (i : ℕ) → i < length v → Stretch v i (getD ends i 0)
 
@@ -145,7 +145,7 @@ layEvents time e (l ∷ ls) w = layEvents time (e + 1) ls (layEvent time e l w)
 -- each stop's run is sorted, and beside each number stands how many are of its line
 pub record SortedRuns (c : Counts) (runs work ends : List ℕ) (d : ℕ) : Type 0 where
   pub size : length work ≡ d
-  pub lines : Lines work ends
+  pub lines : LineEnds work ends
   pub keys : (s : ℕ) → s < c .stops → Keys (slice (runFirst runs s) (runEnd runs s) work)
 
 -- where a walk stands: trip ti, offset off, event e of all, n transfers so far

@@ -11,7 +11,8 @@ ghost use lib.Dec.{ltb, leb, eqb};
 ghost use Rattle.loops.specs.Count.{one};
 ghost use Rattle.loops.specs.Order.{Halved};
 ghost use Rattle.sorts.specs.Sort.{hi};
-ghost use Rattle.event_transfers.specs.Packed.{Keys, Stretch, Lines, LineEnd, Group, laid, lay, layRow, putRow, toGroup, targets, LinesAfter};
+ghost use Rattle.event_transfers.specs.Packed.{Keys, Stretch, LineEnds, LineEnd, Group, laid, lay, layRow, putRow, toGroup, targets};
+ghost use Rattle.event_transfers.specs.Packed.{LinesAfter};
 ghost use Rattle.event_transfers.specs.Packed.{depX, areaWalk, putRun, layEvent, layEvents, Most, MostAt, prepared, alightKeys, eventKeys};
 ghost use Rattle.event_transfers.specs.Packed.{tripKeys, allKeys, SortedRuns, EventAt, TripAt};
 ghost use mathlib.Core.List.{flatten};
@@ -81,7 +82,7 @@ fn line_left(work: &[u64], i: usize, left: u64) -> u64
 // The same of every departure, from the last to the first.
 pub fn line_ends(work: &[u64], ends: &mut [u64])
     requires { ⌜ length (now ends) ≡ length (now work) ⌝ ∗ ⌜ length (now work) ≤ 65536 ⌝ }
-    ensures { λ _. ⌜ Lines (now (work .entry)) (now (ends .exit)) ⌝ }
+    ensures { λ _. ⌜ LineEnds (now (work .entry)) (now (ends .exit)) ⌝ }
 {
     let mut left: u64 = 0;
     let mut i = work.len();
@@ -94,7 +95,7 @@ pub fn line_ends(work: &[u64], ends: &mut [u64])
 
 // How many departures of a stop, from the k-th on, are of its line.
 fn line_end(run: &[u64], ends: &[u64], k: usize) -> usize
-    requires { ⌜ Keys (now run) ⌝ ∗ ⌜ Lines (now run) (now ends) ⌝ ∗ ⌜ k < length (now run) ⌝ }
+    requires { ⌜ Keys (now run) ⌝ ∗ ⌜ LineEnds (now run) (now ends) ⌝ ∗ ⌜ k < length (now run) ⌝ }
     ensures { λ r. ⌜ LineEnd (drop k (now (run .entry))) r ⌝ }
 {
     let left = run.len() - k;
@@ -161,7 +162,7 @@ fn ready(x: u64, w: usize) -> usize
 
 // How many lines of a stop's sorted departures have one not before w: no fewer than there are transfers to them.
 fn lines_after(run: &[u64], ends: &[u64], w: usize) -> usize
-    requires { ⌜ Keys (now run) ⌝ ∗ ⌜ Lines (now run) (now ends) ⌝ }
+    requires { ⌜ Keys (now run) ⌝ ∗ ⌜ LineEnds (now run) (now ends) ⌝ }
     ensures { λ r. ⌜ LinesAfter (now (run .entry)) w r ⌝ }
 {
     let mut n: usize = 0;
@@ -184,7 +185,7 @@ fn to_lines(
     w: usize,
     n: usize,
 ) -> usize
-    requires { ⌜ Keys (now run) ⌝ ∗ ⌜ Lines (now run) (now ends) ⌝ ∗ ⌜ time ≤ 3600 ⌝ ∗ ⌜ w < 4294967296 ⌝ }
+    requires { ⌜ Keys (now run) ⌝ ∗ ⌜ LineEnds (now run) (now ends) ⌝ ∗ ⌜ time ≤ 3600 ⌝ ∗ ⌜ w < 4294967296 ⌝ }
     ensures { λ r. ⌜ laid r (now (area .exit)) ≡ lay time (targets (now (run .entry)) ti w) (laid n (now (area .entry))) ⌝ }
 {
     let mut m = n;

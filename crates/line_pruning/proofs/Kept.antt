@@ -10,7 +10,7 @@ use Rattle.loops.specs.Iter.{Hit}
 use Rattle.query_types.specs.declared.Lay.{Lay}
 use Rattle.query_types.specs.declared.Head.{Head}
 use Rattle.search_state.specs.Part.{part}
-use Rattle.search_state.specs.Places.{Sized, Walks}
+use Rattle.search_state.specs.Places.{WorkSized, Walks}
 use Rattle.query_types.specs.Layout.{restAt, tripStampsAt}
 use Rattle.search_state.specs.View.{memory, arrivalsOf}
 use Rattle.line_pruning.specs.Books.{Noted}
@@ -25,19 +25,19 @@ module _ (lay : Lay) (stamp : ℕ) (built : List ℕ) (adj : Hit) (t o dep : ℕ
   walks-noted e = record { small = λ s h. rw (noted-at (restAt lay + s) (omega (arith, h))) (e .small s h) }
 
   -- a section below the egress table
-  pub part-noted : (b d : ℕ) → Sized lay (length w) b d → (a k : ℕ) → a + k ≤ restAt lay → part w′ a k ≡ part w a k
-  part-noted b d ok a k h = part-ext w w′ a k (n .size) (omega (arith, ok .sections .words, h)) (λ i u. noted-at (a + i) (omega (arith, h, u)))
+  pub part-noted : WorkSized lay (length w) → (a k : ℕ) → a + k ≤ restAt lay → part w′ a k ≡ part w a k
+  part-noted ok a k h = part-ext w w′ a k (n .size) (omega (arith, ok .words, h)) (λ i u. noted-at (a + i) (omega (arith, h, u)))
 
-  pub arrivals-noted : (b d : ℕ) → Sized lay (length w) b d → (l : List ℕ) (m : List Float) (h : Head) → h .count ≤ lay .stops + 64 → (q : List ℕ)
+  pub arrivals-noted : WorkSized lay (length w) → (l : List ℕ) (m : List Float) (h : Head) → h .count ≤ lay .stops + 64 → (q : List ℕ)
       → arrivalsOf lay (memory w′ l m h) q ≡ arrivalsOf lay (memory w l m h) q
-  arrivals-noted b d ok l m h few q =
+  arrivals-noted ok l m h few q =
       let a = arrivalsOf lay (memory w l m h) q in
       λ i. record {
         labels = a .labels;
-        earliest = part-noted b d ok 0 (lay .stops) (omega arith) i;
+        earliest = part-noted ok 0 (lay .stops) (omega arith) i;
         best = a .best;
-        stopStamp = part-noted b d ok (lay .stops) (lay .stops) (omega arith) i;
-        reached = part-noted b d ok (lay .list) (h .count) (omega (arith, ok .sections .fits, few)) i;
+        stopStamp = part-noted ok (lay .stops) (lay .stops) (omega arith) i;
+        reached = part-noted ok (lay .list) (h .count) (omega (arith, ok .fits, few)) i;
         segQueue = a .segQueue;
-        segReach = part-noted b d ok (lay .stops * 2) (lay .trips) (omega arith) i;
+        segReach = part-noted ok (lay .stops * 2) (lay .trips) (omega arith) i;
       }

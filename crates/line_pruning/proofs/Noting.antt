@@ -16,7 +16,7 @@ use Rattle.tables.specs.declared.Counts.{Counts}
 use Rattle.line_layout.specs.Layout.{fifoLine}
 use Rattle.query_types.specs.declared.Lay.{Lay}
 use Rattle.search_state.specs.Part.{part, tally}
-use Rattle.search_state.specs.Places.{Sized}
+use Rattle.search_state.specs.Places.{WorkSized}
 use Rattle.search_state.proofs.Part.{part-at, part-in, part-below, part-above, part-length}
 use Rattle.target_resolving.specs.Resolving.{linedOf}
 use Rattle.target_resolving.proofs.Lines.{line-known}
@@ -47,7 +47,7 @@ position-is T lay c built w t ag h =
     let e : c .stops * 5 + c .trips + 128 + t ≡ positionsAt lay + t = omega (arith, ag .stops, ag .counted) in
     ag .lines .position t (omega (arith, ag .counted, h)) ∙ ap (λ (x : ℕ). getD w x 0) e
 
-module _ (lay : Lay) (stamp : ℕ) (w w1 : List ℕ) (ok : Sized lay (length w) (lay .stops * 104) (lay .stops * 13)) (ch : Chains lay stamp w) (l t o dep : ℕ) (ht : t < lay .trips)
+module _ (lay : Lay) (stamp : ℕ) (w w1 : List ℕ) (ok : WorkSized lay (length w)) (ch : Chains lay stamp w) (l t o dep : ℕ) (ht : t < lay .trips)
     (st : Stage lay stamp l t w w1) where
   abbrev x1 : List ℕ
   x1 = set w1 (tripStampsAt lay + t) stamp
@@ -72,7 +72,7 @@ module _ (lay : Lay) (stamp : ℕ) (w w1 : List ℕ) (ok : Sized lay (length w) 
   stamp-at =
       getD-set-other x2 (boardedDeparturesAt lay + t) (tripStampsAt lay + t) dep 0 (λ e. omega (arith, e, ht))
       ∙ getD-set-other x1 (boardedOffsetsAt lay + t) (tripStampsAt lay + t) o 0 (λ e. omega (arith, e, ht))
-      ∙ getD-set-same w1 (tripStampsAt lay + t) stamp 0 (omega (arith, st .size, ok .sections .words, ht))
+      ∙ getD-set-same w1 (tripStampsAt lay + t) stamp 0 (omega (arith, st .size, ok .words, ht))
 
   stamp-other : (x : ℕ) → x < lay .trips → (x ≡ t → ⊥) → getD x3 (tripStampsAt lay + x) 0 ≡ getD w (tripStampsAt lay + x) 0
   stamp-other x h n =
@@ -80,7 +80,7 @@ module _ (lay : Lay) (stamp : ℕ) (w w1 : List ℕ) (ok : Sized lay (length w) 
       ∙ st .below (tripStampsAt lay + x) (omega (arith, h))
 
   section : (a : ℕ) → a + lay .trips ≤ lineStampsAt lay → part w1 a (lay .trips) ≡ part w a (lay .trips)
-  section a h = part-ext w w1 a (lay .trips) (st .size) (omega (arith, ok .sections .words, h)) (λ i u. st .below (a + i) (omega (arith, h, u)))
+  section a h = part-ext w w1 a (lay .trips) (st .size) (omega (arith, ok .words, h)) (λ i u. st .below (a + i) (omega (arith, h, u)))
 
   stamps3 : part x3 (tripStampsAt lay) (lay .trips) ≡ set (part w (tripStampsAt lay) (lay .trips)) t stamp
   stamps3 =
@@ -100,7 +100,7 @@ module _ (lay : Lay) (stamp : ℕ) (w w1 : List ℕ) (ok : Sized lay (length w) 
 
   tally3 : tally stamp (part x3 (tripStampsAt lay) (lay .trips)) ≡ tally stamp (part w (tripStampsAt lay) (lay .trips)) + one (not (eqb (getD w (tripStampsAt lay + t) 0) stamp))
   tally3 =
-      let e : length (part w (tripStampsAt lay) (lay .trips)) ≡ lay .trips = part-length w (tripStampsAt lay) (lay .trips) (omega (arith, ok .sections .words)) in
+      let e : length (part w (tripStampsAt lay) (lay .trips)) ≡ lay .trips = part-length w (tripStampsAt lay) (lay .trips) (omega (arith, ok .words)) in
       ap (tally stamp) stamps3 ∙ tally-grow stamp (part w (tripStampsAt lay) (lay .trips)) t (omega (arith, e, ht))
       ∙ ap (λ (y : ℕ). tally stamp (part w (tripStampsAt lay) (lay .trips)) + one (not (eqb y stamp))) (part-at w (tripStampsAt lay) (lay .trips) t ht)
 
@@ -182,7 +182,7 @@ module _ (lay : Lay) (stamp : ℕ) (w w1 : List ℕ) (ok : Sized lay (length w) 
       drop-set-lt (leastAt lay + lay .trips) x2 (boardedDeparturesAt lay + t) dep (omega (arith, ht)) ∙ drop-set-lt (leastAt lay + lay .trips) x1 (boardedOffsetsAt lay + t) o (omega (arith, ht))
       ∙ drop-set-lt (leastAt lay + lay .trips) w1 (tripStampsAt lay + t) stamp (omega (arith, ht)) ∙ st .high
 
-module _ (lay : Lay) (stamp : ℕ) (w : List ℕ) (ok : Sized lay (length w) (lay .stops * 104) (lay .stops * 13)) (ch : Chains lay stamp w) (l t o : ℕ) (ht : t < lay .trips) where
+module _ (lay : Lay) (stamp : ℕ) (w : List ℕ) (ok : WorkSized lay (length w)) (ch : Chains lay stamp w) (l t o : ℕ) (ht : t < lay .trips) where
   abbrev seen : Bool
   seen = eqb (getD w (tripStampsAt lay + t) 0) stamp
 
@@ -224,7 +224,7 @@ module _ (lay : Lay) (stamp : ℕ) (w : List ℕ) (ok : Sized lay (length w) (la
   noted-as built adj dep pr h el ep w1 w2 e1 e2 = rw (e2 ∙ ap (stampedAs lay stamp t o dep) e1) (noted built adj dep pr h el ep)
 
 -- the length is kept
-pub sized-as : (lay : Lay) (w w1 : List ℕ) → Sized lay (length w) (lay .stops * 104) (lay .stops * 13) → {stamp : ℕ} → Chains lay stamp w → {t : ℕ} → t < lay .trips
-    → (pr : Bool) (l o : ℕ) → w1 ≡ listed lay stamp pr l t o w → (pr ≡ true → l < lay .lines) → Sized lay (length w1) (lay .stops * 104) (lay .stops * 13)
+pub sized-as : (lay : Lay) (w w1 : List ℕ) → WorkSized lay (length w) → {stamp : ℕ} → Chains lay stamp w → {t : ℕ} → t < lay .trips
+    → (pr : Bool) (l o : ℕ) → w1 ≡ listed lay stamp pr l t o w → (pr ≡ true → l < lay .lines) → WorkSized lay (length w1)
 sized-as lay w w1 ok {stamp} ch {t} ht pr l o e h =
     rw (ap length e ∙ stage lay stamp w ok ch l t o ht pr (eqb (getD w (tripStampsAt lay + t) 0) stamp) h refl .size) ok

@@ -16,16 +16,11 @@ use Rattle.search_state.specs.Part.{part}
 use Rattle.search_state.proofs.Part.{part-at}
 use Rattle.model.specs.Tables.{Tables, Query, fifo}
 use Rattle.model.specs.Search.{Boardings, lineAt, undelayed, prunable, dominated, pruned, passedOver}
-use Rattle.search_state.specs.Places.{Sized}
-use Rattle.query_types.specs.Layout.{Few, positionsAt, fifoAt, tripStampsAt, boardedOffsetsAt, boardedDeparturesAt, lineStampsAt, headsAt, linksAt, leastAt}
+use Rattle.query_types.specs.Layout.{positionsAt, fifoAt, tripStampsAt, boardedOffsetsAt, boardedDeparturesAt, lineStampsAt, headsAt, linksAt, leastAt}
 use Rattle.line_pruning.specs.Chain.{chainFirst, chainFrom, isIn, before, someBefore, lowered, listed, linked, stampedAs}
 use Rattle.line_pruning.specs.Books.{Agrees, Books, Inside}
 use Rattle.line_pruning.proofs.Chains.{in-here, in-there}
 use Rattle.line_pruning.proofs.Noting.{line-is, position-is}
-
--- so few stops, trips and lines that the sections' starts are numbers of the machine
-pub few : {lay : Lay} {n b d : ℕ} → Sized lay n b d → Few lay
-few s = record { stops = s .sections .stops; trips = s .sections .trips; lines = s .sections .lines }
 
 -- a number of a section whose start was read
 pub read-at : (w : List ℕ) (i a b : ℕ) → a ≡ b → getD w (a + i) 0 ≡ getD w (b + i) 0

@@ -1,5 +1,5 @@
 -- What putting a trip into its line's chain does to the chains and to the test of line pruning. Assumes nothing.
-use Prim.Native.Nat.{ℕ, suc, _+_, _*_, _≤_, _<_}
+use Prim.Native.Nat.{ℕ, suc, _+_, _≤_, _<_}
 use mathlib.Core.Path.{_≡_, refl, sym, ap, ap₂, _∙_}
 use mathlib.Core.Logic.{_⊎_, inl, inr}
 use mathlib.Core.Bool.{Bool, true, false, cond, not, _&&_, _||_}
@@ -12,7 +12,7 @@ use borrow.Author.Tests.{eq-eqb, ne-eqb}
 use Rattle.loops.specs.Count.{one}
 use Rattle.query_types.specs.declared.Lay.{Lay}
 use Rattle.search_state.specs.Part.{part}
-use Rattle.search_state.specs.Places.{Sized}
+use Rattle.search_state.specs.Places.{WorkSized}
 use Rattle.search_state.proofs.Part.{part-at, part-length, tally-room}
 use Rattle.query_types.specs.Layout.{positionsAt, tripStampsAt, lineStampsAt, headsAt, linksAt, leastAt}
 use Rattle.line_pruning.specs.Chain.{chainFirst, chainFrom, chain, isIn, someBefore, linked, lowered}
@@ -48,7 +48,7 @@ module _ (lay : Lay) (stamp : ℕ) (w : List ℕ) (ch : Chains lay stamp w) (l t
       bad : false ≡ true → ⊥
       bad e = let z : one false ≡ one true = ap one e in omega (arith, z)
 
-module _ (lay : Lay) (stamp : ℕ) (w : List ℕ) (ok : Sized lay (length w) (lay .stops * 104) (lay .stops * 13)) (ch : Chains lay stamp w) (l t o : ℕ) (ht : t < lay .trips) where
+module _ (lay : Lay) (stamp : ℕ) (w : List ℕ) (ok : WorkSized lay (length w)) (ch : Chains lay stamp w) (l t o : ℕ) (ht : t < lay .trips) where
   abbrev low-w : List ℕ
   low-w = lowered lay t o w
 
@@ -67,7 +67,7 @@ module _ (lay : Lay) (stamp : ℕ) (w : List ℕ) (ok : Sized lay (length w) (la
   low-at = go (ltb o (getD w (leastAt lay + t) 0))
     where
       go : (b : Bool) → getD (cond b (set w (leastAt lay + t) o) w) (leastAt lay + t) 0 ≡ cond b o (getD w (leastAt lay + t) 0)
-      go true = getD-set-same w (leastAt lay + t) o 0 (omega (arith, ok .sections .words, ht))
+      go true = getD-set-same w (leastAt lay + t) o 0 (omega (arith, ok .words, ht))
       go false = refl
 
   low-chain : (m : ℕ) → m < lay .lines → chain lay stamp low-w m ≡ chain lay stamp w m
@@ -140,21 +140,21 @@ module _ (lay : Lay) (stamp : ℕ) (w : List ℕ) (ok : Sized lay (length w) (la
         getD-set-other w3 (lineStampsAt lay + l) (linksAt lay + t) stamp 0 (λ e. omega (arith, e, hl))
         ∙ getD-set-other w2 (headsAt lay + l) (linksAt lay + t) (t + 1) 0 (λ e. omega (arith, e, hl))
         ∙ getD-set-other w1 (leastAt lay + t) (linksAt lay + t) o 0 (λ e. omega (arith, e, ht))
-        ∙ getD-set-same w (linksAt lay + t) (chainFirst lay stamp w l) 0 (omega (arith, ok .sections .words, ht))
+        ∙ getD-set-same w (linksAt lay + t) (chainFirst lay stamp w l) 0 (omega (arith, ok .words, ht))
 
     at-least : getD w4 (leastAt lay + t) 0 ≡ o
     at-least =
         getD-set-other w3 (lineStampsAt lay + l) (leastAt lay + t) stamp 0 (λ e. omega (arith, e, hl))
         ∙ getD-set-other w2 (headsAt lay + l) (leastAt lay + t) (t + 1) 0 (λ e. omega (arith, e, hl))
-        ∙ getD-set-same w1 (leastAt lay + t) o 0 (omega (arith, size1, ok .sections .words, ht))
+        ∙ getD-set-same w1 (leastAt lay + t) o 0 (omega (arith, size1, ok .words, ht))
 
     at-head : getD w4 (headsAt lay + l) 0 ≡ t + 1
     at-head =
         getD-set-other w3 (lineStampsAt lay + l) (headsAt lay + l) stamp 0 (λ e. omega (arith, e, hl))
-        ∙ getD-set-same w2 (headsAt lay + l) (t + 1) 0 (omega (arith, size2, ok .sections .words, hl))
+        ∙ getD-set-same w2 (headsAt lay + l) (t + 1) 0 (omega (arith, size2, ok .words, hl))
 
     at-stamp : getD w4 (lineStampsAt lay + l) 0 ≡ stamp
-    at-stamp = getD-set-same w3 (lineStampsAt lay + l) stamp 0 (omega (arith, size3, ok .sections .words, hl))
+    at-stamp = getD-set-same w3 (lineStampsAt lay + l) stamp 0 (omega (arith, size3, ok .words, hl))
 
     -- the trip is in no chain yet
     not-in : (m : ℕ) → m < lay .lines → isIn t (chain lay stamp w m) ≡ true → ⊥
@@ -173,7 +173,7 @@ module _ (lay : Lay) (stamp : ℕ) (w : List ℕ) (ok : Sized lay (length w) (la
     room : length (chain lay stamp w l) < lay .trips
     room =
         let s = part w (tripStampsAt lay) (lay .trips) in
-        let e : length s ≡ lay .trips = part-length w (tripStampsAt lay) (lay .trips) (omega (arith, ok .sections .words)) in
+        let e : length s ≡ lay .trips = part-length w (tripStampsAt lay) (lay .trips) (omega (arith, ok .words)) in
         let r = tally-room stamp s t (omega (arith, e, ht)) (λ z. new (sym (part-at w (tripStampsAt lay) (lay .trips) t ht) ∙ z)) in
         omega (arith, ch .short l hl, r, e)
 

@@ -6,7 +6,7 @@
 // memory is as it came. proofs/Rounds: the boardings of a new round.
 // Assumes nothing.
 ghost use mathlib.Core.Path.{_≡_};
-ghost use Prim.Native.Nat.{ℕ, _*_, _≤_, _<_};
+ghost use Prim.Native.Nat.{ℕ, _≤_, _<_};
 ghost use mathlib.Core.Bool.{true};
 ghost use mathlib.Core.List.{List};
 ghost use lib.ListN.{length, getD};
@@ -15,7 +15,7 @@ ghost use Rattle.trip_boarding.specs.Reads.{hitOf};
 ghost use Rattle.model.specs.Tables.{Tables, Query};
 ghost use Rattle.model.specs.Search.{Boardings, lineAt, prunable as mayPrune, dominated as isDominated, pruned as isPruned, passedOver};
 ghost use Rattle.model.specs.Search.{undelayed as noRow};
-ghost use Rattle.search_state.specs.Places.{Sized};
+ghost use Rattle.search_state.specs.Places.{WorkSized};
 ghost use Rattle.line_pruning.specs.Chain.{chainFirst, chainFrom, before, someBefore, linked, lowered, listed, stampedAs};
 ghost use Rattle.line_pruning.specs.Books.{Agrees, Chains, Books, Inside, Noted};
 use delay_rows::Found;
@@ -33,7 +33,7 @@ fn undelayed(adj: Found) -> bool
 
 // May the trip prune and be pruned?
 fn prunable(lay: Lay, built: &[u32], adj: Found, trip: usize, work: &[u32]) -> bool
-    requires { ⌜ Sized lay (length (now work)) (lay .stops * 104) (lay .stops * 13) ⌝ ∗ ⌜ lay .trips ≤ length (now built) ⌝
+    requires { ⌜ WorkSized lay (length (now work)) ⌝ ∗ ⌜ lay .trips ≤ length (now built) ⌝
         ∗ ⌜ trip < lay .trips ⌝ }
     ensures { λ r. ⌜ (r ≡ true → getD (now (built .entry)) trip 0 < lay .lines) ⌝
         ∗ ⌜ ((T : Tables) (Q : Query) (c : Counts) → Agrees T lay c (now (built .entry)) (now (work .entry))
@@ -49,7 +49,7 @@ fn prunable(lay: Lay, built: &[u32], adj: Found, trip: usize, work: &[u32]) -> b
 
 // Where the chain of a line begins.
 fn first_of(lay: Lay, stamp: u32, line: usize, work: &[u32]) -> u32
-    requires { ⌜ Sized lay (length (now work)) (lay .stops * 104) (lay .stops * 13) ⌝ ∗ ⌜ line < lay .lines ⌝ }
+    requires { ⌜ WorkSized lay (length (now work)) ⌝ ∗ ⌜ line < lay .lines ⌝ }
     ensures { λ r. ⌜ r ≡ chainFirst lay stamp (now (work .entry)) line ⌝ }
 {
     let at = query_types::line_stamps_at(lay) + line;
@@ -61,7 +61,7 @@ fn first_of(lay: Lay, stamp: u32, line: usize, work: &[u32]) -> u32
 
 // Does a trip stand before position `p`, and was it boarded at this offset or before?
 fn is_before(lay: Lay, trip: usize, p: usize, off: usize, work: &[u32]) -> bool
-    requires { ⌜ Sized lay (length (now work)) (lay .stops * 104) (lay .stops * 13) ⌝ ∗ ⌜ trip < lay .trips ⌝ }
+    requires { ⌜ WorkSized lay (length (now work)) ⌝ ∗ ⌜ trip < lay .trips ⌝ }
     ensures { λ r. ⌜ r ≡ before lay (now (work .entry)) p off trip ⌝ }
 {
     let place = words::field(work, query_types::positions_at(lay) + trip);
@@ -71,7 +71,7 @@ fn is_before(lay: Lay, trip: usize, p: usize, off: usize, work: &[u32]) -> bool
 
 // Does one trip of the chain from `first` on?
 fn some_before(lay: Lay, first: usize, p: usize, off: usize, work: &[u32]) -> bool
-    requires { ⌜ Sized lay (length (now work)) (lay .stops * 104) (lay .stops * 13) ⌝
+    requires { ⌜ WorkSized lay (length (now work)) ⌝
         ∗ ⌜ Inside lay (chainFrom lay (now work) (lay .trips) first) ⌝ }
     ensures { λ r. ⌜ r ≡ someBefore lay (now (work .entry)) p off (chainFrom lay (now (work .entry)) (lay .trips) first) ⌝ }
 {
@@ -93,7 +93,7 @@ fn some_before(lay: Lay, first: usize, p: usize, off: usize, work: &[u32]) -> bo
 
 // An earlier trip of this line was boarded in this round at this offset or before.
 fn dominated(lay: Lay, stamp: u32, line: usize, trip: usize, off: usize, work: &[u32]) -> bool
-    requires { ⌜ Sized lay (length (now work)) (lay .stops * 104) (lay .stops * 13) ⌝
+    requires { ⌜ WorkSized lay (length (now work)) ⌝
         ∗ ⌜ Chains lay stamp (now work) ⌝
         ∗ ⌜ line < lay .lines ⌝
         ∗ ⌜ trip < lay .trips ⌝ }
@@ -115,7 +115,7 @@ pub fn pruned(
     off: usize,
     work: &[u32],
 ) -> bool
-    requires { ⌜ Sized lay (length (now work)) (lay .stops * 104) (lay .stops * 13) ⌝
+    requires { ⌜ WorkSized lay (length (now work)) ⌝
         ∗ ⌜ Chains lay stamp (now work) ⌝
         ∗ ⌜ lay .trips ≤ length (now built) ⌝
         ∗ ⌜ trip < lay .trips ⌝ }
@@ -131,7 +131,7 @@ pub fn pruned(
 
 // The trip was boarded in this round, and a boarding at this offset with this departure is no better.
 pub fn passed_over(lay: Lay, stamp: u32, trip: usize, off: u32, dep: u32, work: &[u32]) -> bool
-    requires { ⌜ Sized lay (length (now work)) (lay .stops * 104) (lay .stops * 13) ⌝ ∗ ⌜ trip < lay .trips ⌝ }
+    requires { ⌜ WorkSized lay (length (now work)) ⌝ ∗ ⌜ trip < lay .trips ⌝ }
     ensures { λ r. ⌜ ((T : Tables) (Q : Query) (b : Boardings) → Books lay stamp T Q (now (work .entry)) b → r
         ≡ passedOver T Q stamp trip off dep b) ⌝ }
 {
@@ -147,7 +147,7 @@ pub fn passed_over(lay: Lay, stamp: u32, trip: usize, off: u32, dep: u32, work: 
 
 // A trip at the front of a line's chain, with this offset.
 fn link(lay: Lay, stamp: u32, line: usize, trip: usize, off: u32, work: &mut [u32])
-    requires { ⌜ Sized lay (length (now work)) (lay .stops * 104) (lay .stops * 13) ⌝ ∗ ⌜ line < lay .lines ⌝
+    requires { ⌜ WorkSized lay (length (now work)) ⌝ ∗ ⌜ line < lay .lines ⌝
         ∗ ⌜ trip < lay .trips ⌝ }
     ensures { λ _. ⌜ now (work .exit) ≡ linked lay stamp line trip off (now (work .entry)) ⌝ }
 {
@@ -164,7 +164,7 @@ fn link(lay: Lay, stamp: u32, line: usize, trip: usize, off: u32, work: &mut [u3
 
 // The least offset of a trip, lowered.
 fn lower(lay: Lay, trip: usize, off: u32, work: &mut [u32])
-    requires { ⌜ Sized lay (length (now work)) (lay .stops * 104) (lay .stops * 13) ⌝ ∗ ⌜ trip < lay .trips ⌝ }
+    requires { ⌜ WorkSized lay (length (now work)) ⌝ ∗ ⌜ trip < lay .trips ⌝ }
     ensures { λ _. ⌜ now (work .exit) ≡ lowered lay trip off (now (work .entry)) ⌝ }
 {
     let least = query_types::least_at(lay) + trip;
@@ -176,7 +176,7 @@ fn lower(lay: Lay, trip: usize, off: u32, work: &mut [u32])
 
 // A trip that may prune, in its line's chain.
 fn list(lay: Lay, stamp: u32, prunes: bool, line: usize, trip: usize, off: u32, work: &mut [u32])
-    requires { ⌜ Sized lay (length (now work)) (lay .stops * 104) (lay .stops * 13) ⌝
+    requires { ⌜ WorkSized lay (length (now work)) ⌝
         ∗ ⌜ (prunes ≡ true → line < lay .lines) ⌝
         ∗ ⌜ trip < lay .trips ⌝ }
     ensures { λ _. ⌜ now (work .exit) ≡ listed lay stamp prunes line trip off (now (work .entry)) ⌝ }
@@ -194,7 +194,7 @@ fn list(lay: Lay, stamp: u32, prunes: bool, line: usize, trip: usize, off: u32, 
 
 // The stamp, offset and departure of a trip.
 fn stamp_trip(lay: Lay, stamp: u32, trip: usize, off: u32, dep: u32, work: &mut [u32])
-    requires { ⌜ Sized lay (length (now work)) (lay .stops * 104) (lay .stops * 13) ⌝ ∗ ⌜ trip < lay .trips ⌝ }
+    requires { ⌜ WorkSized lay (length (now work)) ⌝ ∗ ⌜ trip < lay .trips ⌝ }
     ensures { λ _. ⌜ now (work .exit) ≡ stampedAs lay stamp trip off dep (now (work .entry)) ⌝ }
 {
     let at = query_types::trip_stamps_at(lay) + trip;
@@ -216,7 +216,7 @@ pub fn note(
     dep: u32,
     work: &mut [u32],
 )
-    requires { ⌜ Sized lay (length (now work)) (lay .stops * 104) (lay .stops * 13) ⌝
+    requires { ⌜ WorkSized lay (length (now work)) ⌝
         ∗ ⌜ Chains lay stamp (now work) ⌝
         ∗ ⌜ lay .trips ≤ length (now built) ⌝
         ∗ ⌜ trip < lay .trips ⌝ }

@@ -60,12 +60,12 @@ fn in_use(
     if rust {
         return arc_flags::use_arc_flags(counts.patterns, net.target, flags_off);
     }
-    let runs = query_input::transfer_runs(built, counts);
+    let transfer_runs = query_input::transfer_runs(built, counts);
     let transfer_rows = query_input::transfer_rows(counts, transfers.len());
     arc_flags::flags_in_use(
         tables,
         counts.timetable,
-        runs,
+        transfer_runs,
         transfers,
         transfer_rows,
         patterns,

@@ -20,20 +20,16 @@ use Rattle.departures.proofs.Parts.{stop-known}
 use Rattle.model.specs.Tables.{never, Tables, Query, changeBefore, stops, departure}
 use Rattle.model.specs.Search.{Arrivals, State, at, marginOf, departuresAt, markAt, notBefore, scanDepartures, scanStops}
 use Rattle.model.specs.Door.{InOrder}
-use Rattle.query_types.specs.declared.Lay.{Lay}
 use Rattle.query_types.specs.declared.Head.{Head}
-use Rattle.search_state.specs.Part.{part}
-use Rattle.search_state.specs.Places.{Sized, otherAt}
 use Rattle.search_state.specs.View.{Memory, memory}
-use Rattle.search_state.proofs.Part.{first-at, part-at, part-length}
+use Rattle.search_state.proofs.Part.{first-at}
 use Rattle.query_input.specs.Lent.{marksAt, stopRuns, departureRows}
 use Rattle.query_input.proofs.Laws.{order-next}
 use Rattle.departure_scan.specs.Listed.{RowsOrdered}
-use Rattle.ride_step.specs.Laid.{Rides, Laid, Kept, Waiting}
+use Rattle.ride_step.specs.Laid.{Rides, Laid}
 use Rattle.ride_step.specs.Phase.{Seen}
 use Rattle.ride_step.specs.Going.{Going, Rode, Changing}
 use Rattle.ride_phase.specs.Scanned.{listAt, listedRows, scanned}
-use Rattle.ride_step.proofs.Keep.{other-kept}
 use Rattle.ride_step.proofs.Riding.{ride-none, ride-as}
 use Rattle.query_types.specs.Slices.{Slices}
 use Rattle.query_types.specs.declared.Context.{Context}
@@ -92,13 +88,6 @@ module _ (T : Tables) (Q : Query) (flagged : Bool) (round stamp : ℕ) where
 
   pub stops-end : (l : List ℕ) (i : ℕ) (s : State) → length l ≤ i → s ≡ scanStops T Q flagged round stamp (drop i l) s
   stops-end l i s h = sym (ap (λ (xs : List ℕ). scanStops T Q flagged round stamp xs s) (drop-of-length-le l h) ∙ stops-nil s)
-
--- the other list
-pub other-length : {lay : Lay} {w : List ℕ} {n b c : ℕ} → Waiting lay w n → Sized lay (length w) b c → length (part w (lay .other) n) ≡ n
-other-length {lay} {w} {n} p s = part-length w (lay .other) n (omega (arith, p .few, s .sections .other-fits, s .sections .words))
-
-pub other-in : {lay : Lay} {w w′ : List ℕ} {n : ℕ} (i : ℕ) → Waiting lay w n → Kept lay w w′ → i < n → getD (part w (lay .other) n) i 0 ≡ otherAt lay w′ i
-other-in {lay} {w} {w′} {n} i p k h = part-at w (lay .other) n i h ∙ sym (other-kept i k (omega (arith, p .few)))
 
 -- departures in order: none is earlier than one before it
 order-at : (T : Tables) (f : ℕ → DepartureRow) (n : ℕ) → InOrder T (tabFrom f 0 n) → (i d : ℕ) → i + d < n

@@ -12,7 +12,9 @@ ghost use lib.ListN.{length, getD};
 ghost use Rattle.tables.specs.Timetable.{timetable};
 ghost use Rattle.model.specs.Search.{rideSegments, scanStops};
 ghost use Rattle.search_state.specs.View.{memory, segmentAt, queueOf};
-ghost use Rattle.ride_step.specs.Laid.{Rides, Segments, Laid, Waiting};
+ghost use Rattle.answer_laws.specs.Lawful.{latest};
+ghost use Rattle.search_state.specs.Places.{StopsListed};
+ghost use Rattle.ride_step.specs.Laid.{Rides, Segments, Laid};
 ghost use Rattle.ride_step.specs.Going.{Going, Rode, rideOf, Changing};
 ghost use mathlib.Core.Bool.{cond};
 ghost use lib.Dec.{eqb};
@@ -279,7 +281,7 @@ fn scan_stops(
 ) -> Head
     requires { ⌜ Going (p .context) (slices (now tables) (now «delay_rows») (now «stop_rows») (now built) (now patterns) (now transfers))
         (p .stamp) (memory (now work) (now labels) (now «label_distances») h) (now queue) ⌝
-        ∗ ⌜ Waiting (p .context .lay) (now work) count ⌝
+        ∗ ⌜ StopsListed (p .context .lay) (now work) count latest ⌝
         ∗ ⌜ p .change ≤ timeLimit ⌝ }
     ensures { λ r. ⌜ Rode (p .context .lay) (p .stamp)
         (Changing (p .context) (slices (now (tables .entry)) (now («delay_rows» .entry)) (now («stop_rows» .entry)) (now (built .entry))

@@ -14,17 +14,18 @@ use Rattle.model.specs.Tables.{Tables, Query}
 use Rattle.query_types.specs.declared.Lay.{Lay}
 use Rattle.query_types.specs.declared.Head.{Head}
 use Rattle.search_state.specs.Part.{part}
-use Rattle.search_state.specs.Places.{Sized, Same, EgressTable, otherAt, Falls}
+use Rattle.search_state.specs.Places.{WorkSized, Same, EgressTable}
 use Rattle.query_types.specs.Layout.{restAt, eventsAt}
 use Rattle.search_state.specs.View.{memory}
 use Rattle.search_state.specs.Step.{Ready}
-use Rattle.search_state.proofs.Part.{part-at, drop-at}
+use Rattle.search_state.proofs.Part.{drop-at}
+use Rattle.search_state.proofs.Lists.{OtherKept}
 use Rattle.target_resolving.specs.Resolving.{linedOf}
 use Rattle.line_pruning.specs.Books.{Agrees, Noted}
 use Rattle.line_pruning.proofs.Kept.{noted-at, walks-noted, part-noted}
 use Rattle.query_types.specs.declared.Net.{Net}
 use Rattle.trip_scan.specs.Scan.{eventAt, eventRunAt, Nets, Netted}
-use Rattle.ride_step.specs.Laid.{Rides, Laid, Kept, Waiting}
+use Rattle.ride_step.specs.Laid.{Rides, Laid, Kept}
 use Rattle.ride_step.specs.Going.{Changing}
 use Rattle.query_types.specs.Slices.{Slices}
 use Rattle.query_types.specs.declared.Context.{Context}
@@ -46,23 +47,27 @@ kept-same {lay} {w} {w′} s =
           ap (λ (x : ℕ). getD w′ x 0) (sym e) ∙ drop-at w w′ (restAt lay) (i - restAt lay) (s .rest) ∙ ap (λ (x : ℕ). getD w x 0) e;
     }
 
+-- so the other list is as it came
+pub kept-other : {lay : Lay} {w w′ : List ℕ} → Kept lay w w′ → OtherKept lay w w′
+kept-other k = record { list = k .list }
+
 -- by a boarding
-pub kept-noted : {lay : Lay} {stamp : ℕ} {built : List ℕ} {adj : Hit} {t o dep : ℕ} {w w′ : List ℕ} (b d : ℕ) → Sized lay (length w) b d
+pub kept-noted : {lay : Lay} {stamp : ℕ} {built : List ℕ} {adj : Hit} {t o dep : ℕ} {w w′ : List ℕ} → WorkSized lay (length w)
     → Noted lay stamp built adj t o dep w w′ → Kept lay w w′
-kept-noted {lay} {stamp} {built} {adj} {t} {o} {dep} {w} {w′} b d ok n =
+kept-noted {lay} {stamp} {built} {adj} {t} {o} {dep} {w} {w′} ok n =
     record {
       size = n .size;
-      list = part-noted lay stamp built adj t o dep w w′ n b d ok (lay .other) (lay .stops + 64) (ok .sections .other-fits);
+      list = part-noted lay stamp built adj t o dep w w′ n ok (lay .other) (lay .stops + 64) (ok .other-fits);
       rest = λ i l h. noted-at lay stamp built adj t o dep w w′ n i h;
     }
 
 pub ready-noted : {lay : Lay} {stamp : ℕ} {built : List ℕ} {adj : Hit} {t o dep : ℕ} {w w′ l : List ℕ} {m : List Float} {h : Head} → Ready lay stamp (memory w l m h)
     → Noted lay stamp built adj t o dep w w′ → Ready lay stamp (memory w′ l m h)
-ready-noted {lay} {stamp} {built} {adj} {t} {o} {dep} {w} {w′} {l} {m} ok n =
+ready-noted {lay} {stamp} {built} {adj} {t} {o} {dep} {w} {w′} ok n =
     record {
       sized = rw (n .size) (ok .sized);
       walks = walks-noted lay stamp built adj t o dep w w′ n (ok .walks);
-      counted = record { fits = rw (part-noted lay stamp built adj t o dep w w′ n (length l) (length m) (ok .sized) (lay .stops) (lay .stops) (omega arith)) (ok .counted .fits) };
+      counted = record { fits = rw (part-noted lay stamp built adj t o dep w w′ n (ok .sized .sections) (lay .stops) (lay .stops) (omega arith)) (ok .counted .fits) };
       round = ok .round;
       written = ok .written;
     }
@@ -173,19 +178,6 @@ module _ {ctx : Context} {sl : Slices} {w : List ℕ} (L : Laid ctx sl w) where
         stops = L .netted .stops;
         lines = rw (L .lined) at (r .nets .lines);
       }
-
--- the stops to board at
-pub other-kept : {lay : Lay} {w w′ : List ℕ} (i : ℕ) → Kept lay w w′ → i < lay .stops + 64 → otherAt lay w′ i ≡ otherAt lay w i
-other-kept {lay} {w} {w′} i k h =
-    sym (part-at w′ (lay .other) (lay .stops + 64) i h) ∙ ap (λ (l : List ℕ). getD l i 0) (k .list) ∙ part-at w (lay .other) (lay .stops + 64) i h
-
-pub waiting-kept : {lay : Lay} {w w′ : List ℕ} {n : ℕ} → Waiting lay w n → Kept lay w w′ → Falls lay w w′ → Waiting lay w′ n
-waiting-kept {lay} {w} {w′} {n} p k f =
-    record {
-      few = p .few;
-      inside = λ i h. rw (other-kept i k (omega (arith, h, p .few))) (p .inside i h);
-      early = λ i h. rw (other-kept i k (omega (arith, h, p .few))) (omega (arith, f .earlier (otherAt lay w i) (p .inside i h), p .early i h));
-    }
 
 -- the first n stops of the other list
 part-shorter : (v : List ℕ) (a i j : ℕ) → i ≤ j → part v a i ≡ take i (part v a j)

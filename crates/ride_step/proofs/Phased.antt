@@ -12,13 +12,15 @@ use Rattle.model.specs.Search.{Arrivals, State, emptied, roundStart, rideSegmen
 use Rattle.query_types.specs.declared.Lay.{Lay}
 use Rattle.query_types.specs.declared.Head.{Head}
 use Rattle.search_state.specs.Part.{part}
-use Rattle.search_state.specs.Places.{turned}
+use Rattle.answer_laws.specs.Lawful.{latest}
+use Rattle.search_state.specs.Places.{turned, StopsListed}
 use Rattle.search_state.specs.View.{Memory, memory, arrivalsOf, queueOf}
-use Rattle.ride_step.specs.Laid.{Rides, Laid, Waiting, Segments}
+use Rattle.ride_step.specs.Laid.{Rides, Laid, Segments}
 use Rattle.ride_step.specs.Phase.{Seen, Before, Opening, startHead, RidePhase}
 use Rattle.ride_step.specs.Going.{Going, Rode, Changing}
 use Rattle.ride_step.proofs.Later.{stops-later}
-use Rattle.ride_step.proofs.Keep.{laid-kept, changing-kept, part-kept, waiting-kept}
+use Rattle.ride_step.proofs.Keep.{laid-kept, changing-kept, part-kept, kept-other}
+use Rattle.search_state.proofs.Lists.{listed-kept}
 use Rattle.ride_step.proofs.Riding.{Riding, ride-start, ride-turn, ride-over, ride-end}
 use Rattle.query_types.specs.Slices.{Slices}
 use Rattle.query_types.specs.declared.Context.{Context}
@@ -89,8 +91,8 @@ module _ {ctx : Context} {sl : Slices} {stamp change : ℕ} {w l : List ℕ} {m 
       pub going-then : Going ctx sl stamp b r
       going-then = going-on (going-first q) (ridden fit)
 
-      pub waiting-then : Waiting (ctx .lay) (b .work) (h .count)
-      waiting-then = waiting-kept (O .waiting) (z .step .kept) (z .falls fit)
+      pub waiting-then : StopsListed (ctx .lay) (b .work) (h .count) latest
+      waiting-then = listed-kept (O .waiting) (kept-other (z .step .kept)) (z .falls fit)
 
       pub phase-then : {c : Memory} {s : List ℕ}
           → Rode (ctx .lay) stamp (Changing ctx sl (stamp - 2) change (b .work)) (λ T Q. scanStops T Q flagged (stamp - 2) stamp (part (b .work) (ctx .lay .other) (h .count))) b c r s

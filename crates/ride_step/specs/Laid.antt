@@ -13,7 +13,6 @@ use Rattle.model.specs.Tables.{Tables, Query}
 use Rattle.query_types.specs.declared.Lay.{Lay}
 use Rattle.search_state.specs.Part.{part}
 use Rattle.query_types.specs.Layout.{restAt, tripStampsAt, eventsAt, listRoom}
-use Rattle.search_state.specs.Places.{otherAt}
 use Rattle.search_state.specs.View.{segmentAt}
 use Rattle.target_resolving.specs.Resolving.{linedOf}
 use Rattle.query_input.specs.Lent.{marksAt, stopRuns, departureRows}
@@ -45,12 +44,6 @@ pub record Kept (lay : Lay) (w w′ : List ℕ) : Type 0 where
   pub size : length w′ ≡ length w
   pub list : part w′ (lay .other) (listRoom (lay .stops)) ≡ part w (lay .other) (listRoom (lay .stops))
   pub rest : (i : ℕ) → restAt lay ≤ i → i < tripStampsAt lay → getD w′ i 0 ≡ getD w i 0
-
--- the n stops of the other list, to be boarded at: each one of the table's, and reached by 108,003,224, the latest arrival
-pub record Waiting (lay : Lay) (w : List ℕ) (n : ℕ) : Type 0 where
-  pub few : n ≤ listRoom (lay .stops)
-  pub inside : (i : ℕ) → i < n → otherAt lay w i < lay .stops
-  pub early : (i : ℕ) → i < n → getD w (otherAt lay w i) 0 ≤ 108003224
 
 -- the first n segments of a queue, to be ridden: there, on trips of the table, with small shifts
 pub record Segments (c : Counts) (q : List ℕ) (n : ℕ) : Type 0 where

@@ -11,11 +11,12 @@ use Rattle.model.specs.Tables.{Tables, Query, changeBefore}
 use Rattle.model.specs.Search.{State, roundStart, ridePhase}
 use Rattle.query_types.specs.declared.Lay.{Lay}
 use Rattle.query_types.specs.declared.Head.{Head}
-use Rattle.search_state.specs.Places.{turned}
+use Rattle.answer_laws.specs.Lawful.{latest}
+use Rattle.search_state.specs.Places.{turned, StopsListed}
 use Rattle.search_state.specs.View.{Memory, memory, arrivalsOf}
 use Rattle.search_state.specs.Step.{Ready}
 use Rattle.line_pruning.specs.Books.{Chains, Books}
-use Rattle.ride_step.specs.Laid.{Kept, Waiting, Segments}
+use Rattle.ride_step.specs.Laid.{Kept, Segments}
 
 -- memory holds this state of the model: its arrivals with queue q, its boardings under this stamp
 pub record Seen (lay : Lay) (stamp : ℕ) (T : Tables) (Q : Query) (a : Memory) (q : List ℕ) (s : State) : Type 0 where
@@ -43,7 +44,7 @@ startHead h = record { best = h .best; count = 0; queued = 0; full = false }
 pub record Opening (c : Counts) (lay : Lay) (stamp change : ℕ) (a : Memory) (from : List ℕ) : Type 0 where
   pub ready : Ready lay stamp (memory (a .work) (a .labels) (a .labelDistances) (startHead (a .head)))
   pub chains : Chains lay stamp (a .work)
-  pub waiting : Waiting lay (a .work) (a .head .count)
+  pub waiting : StopsListed lay (a .work) (a .head .count) latest
   pub segments : Segments c from (a .head .queued)
   pub small : change ≤ timeLimit
 

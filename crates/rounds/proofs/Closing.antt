@@ -13,7 +13,7 @@ use Rattle.query_types.specs.declared.Lay.{Lay}
 use Rattle.search_state.specs.Places.{turned}
 use Rattle.search_state.specs.View.{Memory, arrivalsOf}
 use Rattle.search_state.proofs.Marking.{counted-stops}
-use Rattle.search_begin.proofs.Turns.{turned-sized}
+use Rattle.search_state.proofs.Lists.{turned-sized}
 use Rattle.line_pruning.specs.Books.{Chains, Books}
 use Rattle.line_pruning.proofs.Rounds.{chains-rest, books-rest}
 use Rattle.walk_phase.specs.Walking.{WalksAgree}

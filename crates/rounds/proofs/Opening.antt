@@ -15,17 +15,17 @@ use Rattle.answer_laws.proofs.Bounds.{Sound, run-sound, ride-sound, reached-ear
 use Rattle.answer_laws.proofs.Runs.{Ran, rode}
 use Rattle.query_types.specs.declared.Lay.{Lay}
 use Rattle.search_state.specs.Part.{part}
-use Rattle.search_state.specs.Places.{WorkSized, turned}
+use Rattle.search_state.specs.Places.{WorkSized, StopsListed, turned}
 use Rattle.search_state.specs.View.{Memory, arrivalsOf, segmentAt, queueOf}
 use Rattle.search_state.specs.Step.{Stamp}
 use Rattle.search_state.proofs.Part.{part-at, part-length, first-at}
 use Rattle.search_state.proofs.Marking.{counted-stops}
 use Rattle.search_state.proofs.Queue.{queue-length}
-use Rattle.search_begin.proofs.Turns.{turned-sized}
+use Rattle.search_state.proofs.Lists.{turned-sized}
 use Rattle.line_pruning.specs.Books.{Chains, Books}
 use Rattle.line_pruning.proofs.Rounds.{chains-next, books-next}
 use Rattle.walk_phase.specs.Walking.{WalkGround, WalksAgree}
-use Rattle.walk_phase.specs.Lists.{StopsListed}
+use Rattle.walk_phase.specs.Lists.{latestWalker}
 use Rattle.ride_step.specs.Laid.{Rides, Laid}
 use Rattle.ride_step.proofs.Keep.{rides-kept, laid-kept}
 use Rattle.ride_step.specs.Phase.{Opening, Before, Seen, RidePhase}
@@ -129,7 +129,7 @@ module _ {ctx : Context} {sl : Slices} {distances : List Float} {r : ℕ} {a : M
     pub seen : b .head .full ≡ false → Seen (ctx .lay) stamp T Q b q′ (ridePhase T Q (ctx .flagged) r s₀)
     seen f = p .view f T Q (H .rides) r e ch s₀ (before-ride stamp e)
 
-    pub walkers : b .head .full ≡ false → StopsListed (turned (ctx .lay)) (b .work) (b .head .count)
+    pub walkers : b .head .full ≡ false → StopsListed (turned (ctx .lay)) (b .work) (b .head .count) latestWalker
     walkers f =
         let few : b .head .count ≤ ctx .lay .stops = counted-stops (ctx .lay) (b .work) (p .ready .sized .sections) stamp (b .head .count) (p .ready .counted) in
         let A = ridePhase T Q (ctx .flagged) r s₀ .arrivals in

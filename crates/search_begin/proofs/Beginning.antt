@@ -15,7 +15,8 @@ use Rattle.search_state.specs.Places.{Sized, turned}
 use Rattle.search_state.specs.View.{memory, arrivalsOf, queueOf}
 use Rattle.search_state.specs.Step.{Starting}
 use Rattle.search_begin.specs.Fill.{Fresh, newHead}
-use Rattle.search_begin.proofs.Turns.{below-view, turned-view, turned-sized}
+use Rattle.search_begin.proofs.Turns.{below-view, turned-view}
+use Rattle.search_state.proofs.Lists.{turned-sized}
 use Rattle.line_pruning.proofs.Rounds.{chains-zero, books-zero}
 use Rattle.query_types.specs.declared.QueryCounts.{QueryCounts}
 use Rattle.query_types.specs.declared.Lengths.{Lengths}

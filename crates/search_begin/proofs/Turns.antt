@@ -1,7 +1,6 @@
 -- From one phase of a query to the next: a new state with its egress table, the lists exchanged, a list emptied. Assumes nothing.
 use Prim.Native.Nat.{ℕ, _+_, _*_, _≤_, _<_}
 use mathlib.Core.Path.{_≡_, refl, sym, _∙_}
-use mathlib.Core.Logic.{_⊎_, inl, inr}
 use mathlib.Core.List.{List}
 use native.Mathlib.Omega.{arith}
 use lib.ListN.{length, getD}
@@ -12,7 +11,7 @@ use Rattle.model.specs.Search.{emptied}
 use Rattle.query_types.specs.declared.Lay.{Lay}
 use Rattle.query_types.specs.declared.Head.{Head}
 use Rattle.search_state.specs.Part.{part}
-use Rattle.search_state.specs.Places.{WorkSized, Sized, turned}
+use Rattle.search_state.specs.Places.{WorkSized, turned}
 use Rattle.query_types.specs.Layout.{restAt}
 use Rattle.search_state.specs.View.{memory, arrivalsOf, queueOf}
 use Rattle.search_state.proofs.Part.{part-at, part-length}
@@ -40,28 +39,6 @@ below-view lay w w′ l m h q ok few size below =
     }
 
 -- THE LISTS EXCHANGED, the new one empty: the model's state with no stop reached
-pub turned-sections : {lay : Lay} {a : ℕ} → WorkSized lay a → WorkSized (turned lay) a
-turned-sections {lay} ok =
-    record {
-      stops = ok .stops;
-      trips = ok .trips;
-      lines = ok .lines;
-      words = ok .words;
-      first = ok .other-first;
-      fits = ok .other-fits;
-      other-first = ok .first;
-      other-fits = ok .fits;
-      apart = go (ok .apart);
-    }
-  where
-    go : (lay .list + (lay .stops + 64) ≤ lay .other) ⊎ (lay .other + (lay .stops + 64) ≤ lay .list)
-        → (lay .other + (lay .stops + 64) ≤ lay .list) ⊎ (lay .list + (lay .stops + 64) ≤ lay .other)
-    go (inl x) = inr x
-    go (inr x) = inl x
-
-pub turned-sized : {lay : Lay} {a b c : ℕ} → Sized lay a b c → Sized (turned lay) a b c
-turned-sized ok = record { sections = turned-sections (ok .sections); rows = ok .rows; metres = ok .metres }
-
 abbrev pub emptiedHead : ℕ → Head → Head
 emptiedHead queued h = record { best = h .best; count = 0; queued = queued; full = h .full }
 

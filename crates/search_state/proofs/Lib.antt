@@ -1,5 +1,6 @@
 pub mod Part
 pub mod Labels
+pub mod Lists
 pub mod Marking
 pub mod Steps
 pub mod Queue

@@ -47,6 +47,12 @@ turned lay = record { stops = lay .stops; trips = lay .trips; lines = lay .lines
 abbrev pub otherAt : Lay → List ℕ → ℕ → ℕ
 otherAt lay w i = getD w (lay .other + i) 0
 
+-- the n stops of the other list: each one of the table's, and reached by `latest`
+pub record StopsListed (lay : Lay) (w : List ℕ) (n latest : ℕ) : Type 0 where
+  pub few : n ≤ listRoom (lay .stops)
+  pub inside : (i : ℕ) → i < n → otherAt lay w i < lay .stops
+  pub early : (i : ℕ) → i < n → getD w (otherAt lay w i) 0 ≤ latest
+
 -- no stop's earliest arrival is later than it was
 pub record Falls (lay : Lay) (w w′ : List ℕ) : Type 0 where
   pub earlier : (s : ℕ) → s < lay .stops → getD w′ s 0 ≤ getD w s 0

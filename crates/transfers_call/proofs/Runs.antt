@@ -19,7 +19,7 @@ use Rattle.departures.proofs.Flat.{listed-slice}
 use Rattle.departures.proofs.Laws.{stops-apart}
 use Rattle.departures.proofs.Parts.{stop-known}
 use Rattle.departures.proofs.All.{all-tab}
-use Rattle.event_transfers.specs.Packed.{Keys, Lines, SortedRuns, lineX, packLine, packedLineAt}
+use Rattle.event_transfers.specs.Packed.{Keys, LineEnds, SortedRuns, lineX, packLine, packedLineAt}
 use Rattle.transfers_call.specs.Call.{TransfersAdmitted, TransferLent, inputOf}
 use Rattle.event_transfers.proofs.Lists.{all-imp, all-map, map-slice, rising-at}
 use Rattle.transfers_call.proofs.Packing.{Fits, pack-line, row-fits}
@@ -74,5 +74,5 @@ module _ (x : TransferLent) (n : ℕ) (a : TransfersAdmitted x n) where
         fits = λ i u. all-at (λ y. lineX y < 4096) (sortBy hi (map (packOf x) (listedAt (x .runs) (x .rows) s))) i 0 (lines-fit s h) u;
       })
 
-  pub sorted-runs : (ends : List ℕ) → Lines (workOf x) ends → SortedRuns (x .c) (x .runs) (workOf x) ends (x .d)
+  pub sorted-runs : (ends : List ℕ) → LineEnds (workOf x) ends → SortedRuns (x .c) (x .runs) (workOf x) ends (x .d)
   sorted-runs ends l = record { size = sorted-length 0 hi (x .runs) (x .c .stops) (numbersOf x) apart ∙ size; lines = l; keys = run-sorted }

@@ -18,7 +18,7 @@ use Rattle.departures.specs.declared.DepartureRow.{DepartureRow}
 use Rattle.departures.specs.Departures.{sortStops}
 use Rattle.transfers_call.specs.declared.Built.the-variants.{Refused, Rows}
 use Rattle.event_transfers.specs.Transfers.{Input, allTransfers, builtTransfers, eventsBefore, eventsOf, runsFrom, transferOf, transferWords}
-use Rattle.event_transfers.specs.Packed.{AreaSoFar, Lines, Most, Prepared, SortedRuns, AreaWalk, allKeys, layEvents, prepared, areaWalk}
+use Rattle.event_transfers.specs.Packed.{AreaSoFar, LineEnds, Most, Prepared, SortedRuns, AreaWalk, allKeys, layEvents, prepared, areaWalk}
 use Rattle.transfers_call.specs.Settled.{settledKeys, walkAreas}
 use Rattle.transfers_call.specs.Call.{TransfersAdmitted, TransferAreas, TransferLent, TransfersOutcome, areaWith, transferAreas, inputOf, transfersOutcomeOf, roomOk, transfersSettled, written}
 use Rattle.event_transfers.proofs.Lists.{flatten-map, length-map, within-is}
@@ -167,7 +167,7 @@ settle-most p s most m b a' v' k f g h =
     settle-yes p s m m true a' v' t (sym (yes-room m (length (s .area)) (omega (arith, k .most (r .few), r .few)) (omega (arith, k .most (r .few), r .few, r .space)))) refl h
 
 -- the same, of the numbers as the code leaves them
-pub sorted-with : (x : TransferLent) (n : ℕ) → TransfersAdmitted x n → (u w ends : List ℕ) → u ≡ numbersOf x → w ≡ sortStops hi (x .runs) (x .c .stops) u → Lines w ends → SortedRuns (x .c) (x .runs) w ends (x .d)
+pub sorted-with : (x : TransferLent) (n : ℕ) → TransfersAdmitted x n → (u w ends : List ℕ) → u ≡ numbersOf x → w ≡ sortStops hi (x .runs) (x .c .stops) u → LineEnds w ends → SortedRuns (x .c) (x .runs) w ends (x .d)
 sorted-with x n a u w ends p q l =
     let e : w ≡ workOf x = q ∙ ap (sortStops hi (x .runs) (x .c .stops)) p in
     rw e (sorted-runs x n a ends (rw e at l))

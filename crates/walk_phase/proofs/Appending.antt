@@ -15,11 +15,11 @@ use Rattle.model.specs.Tables.{Tables, Query}
 use Rattle.model.specs.Search.{stamped}
 use Rattle.query_types.specs.declared.Lay.{Lay}
 use Rattle.search_state.specs.Part.{part}
-use Rattle.search_state.specs.Places.{Sized, stampsOf, otherAt}
+use Rattle.search_state.specs.Places.{WorkSized, StopsListed, stampsOf, otherAt}
 use Rattle.search_state.proofs.Part.{part-at, part-above, part-more, part-length}
 use Rattle.search_state.proofs.Marking.{same-refl, same-then, same-list}
-use Rattle.walk_phase.specs.Lists.{StopsListed, bearing, Appended}
-use Rattle.walk_phase.proofs.From.{other-kept}
+use Rattle.walk_phase.specs.Lists.{bearing, Appended}
+use Rattle.search_state.proofs.Lists.{same-other, other-kept}
 
 keep-one : (p : ℕ → Bool) (s : ℕ) (b : Bool) → p s ≡ b → keep p (s ∷ []) ≡ cond b (s ∷ []) []
 unfolding keep
@@ -45,7 +45,7 @@ stamped-is T Q stamp ss (x ∷ xs) = go (eqb (getD ss x 0) stamp) (stamped-is T 
     go true e = ap (λ (l : List ℕ). x ∷ l) e
     go false e = e
 
-module _ (lay : Lay) (w : List ℕ) {b c : ℕ} (ok : Sized lay (length w) b c) (stamp s count : ℕ) (h : s < lay .stops) where
+module _ (lay : Lay) (w : List ℕ) (ok : WorkSized lay (length w)) (stamp s count : ℕ) (h : s < lay .stops) where
   -- it does not bear the stamp
   pub append-none : (getD w (lay .stops + s) 0 ≡ stamp → ⊥) → Appended lay w w count count (bearing lay stamp w (s ∷ []))
   append-none e =
@@ -66,12 +66,12 @@ module _ (lay : Lay) (w : List ℕ) {b c : ℕ} (ok : Sized lay (length w) b c) 
       let k : bearing lay stamp w (s ∷ []) ≡ s ∷ [] =
       keep-one (λ z. eqb (getD (stampsOf lay w) z 0) stamp) s true (eq-eqb _ _ (part-at w (lay .stops) (lay .stops) s h ∙ e)) in
       rw k (record {
-        earliest = part-above w 0 (lay .stops) (lay .list + count) s (omega (arith, ok .sections .first));
-        stamps = part-above w (lay .stops) (lay .stops) (lay .list + count) s (omega (arith, ok .sections .first));
-        reached = part-more w (lay .list) count s (omega (arith, ok .sections .words, ok .sections .fits, room));
+        earliest = part-above w 0 (lay .stops) (lay .list + count) s (omega (arith, ok .first));
+        stamps = part-above w (lay .stops) (lay .stops) (lay .list + count) s (omega (arith, ok .first));
+        reached = part-more w (lay .list) count s (omega (arith, ok .words, ok .fits, room));
         counted = omega arith;
-        segReach = part-above w (lay .stops * 2) (lay .trips) (lay .list + count) s (omega (arith, ok .sections .first));
-        same = same-list lay w (ok .sections) count s room;
+        segReach = part-above w (lay .stops * 2) (lay .trips) (lay .list + count) s (omega (arith, ok .first));
+        same = same-list lay w ok count s room;
       })
 
 -- none yet
@@ -92,15 +92,15 @@ unfolding part
 part-next w a n h = rw (add-one n) (take-suc (drop a w) n 0 (simp length-drop (omega arith)) ∙ ap (λ (z : ℕ). take n (drop a w) ++ (z ∷ [])) (getD-drop a w n 0))
 
 -- one stop of the other list more
-pub append-turn : {lay : Lay} {w₀ w w′ : List ℕ} {n b c : ℕ} (stamp count k k′ i s : ℕ) → Sized lay (length w₀) b c → StopsListed lay w₀ n
+pub append-turn : {lay : Lay} {w₀ w w′ : List ℕ} {n latest : ℕ} (stamp count k k′ i s : ℕ) → WorkSized lay (length w₀) → StopsListed lay w₀ n latest
     → Appended lay w₀ w count k (bearing lay stamp w₀ (part w₀ (lay .other) i)) → Appended lay w w′ k k′ (bearing lay stamp w (s ∷ [])) → s ≡ otherAt lay w i → i < n
     → Appended lay w₀ w′ count k′ (bearing lay stamp w₀ (part w₀ (lay .other) (i + 1)))
 append-turn {lay} {w₀} {w} {w′} {n} stamp count k k′ i s ok p x y e h =
-    let z : s ≡ otherAt lay w₀ i = e ∙ other-kept i (x .same) (omega (arith, p .few)) in
+    let z : s ≡ otherAt lay w₀ i = e ∙ other-kept i (same-other (x .same)) (omega (arith, p .few)) in
     let more : bearing lay stamp w₀ (part w₀ (lay .other) i) ++ bearing lay stamp w (s ∷ []) ≡ bearing lay stamp w₀ (part w₀ (lay .other) (i + 1)) =
     ap₂ (λ (ss : List ℕ) (a : ℕ). bearing lay stamp w₀ (part w₀ (lay .other) i) ++ keep (λ q. eqb (getD ss q 0) stamp) (a ∷ [])) (x .stamps) z
     ∙ sym (keep-append (λ q. eqb (getD (stampsOf lay w₀) q 0) stamp) (part w₀ (lay .other) i) (otherAt lay w₀ i ∷ []))
-    ∙ ap (bearing lay stamp w₀) (sym (part-next w₀ (lay .other) i (omega (arith, p .few, ok .sections .other-fits, ok .sections .words)))) in
+    ∙ ap (bearing lay stamp w₀) (sym (part-next w₀ (lay .other) i (omega (arith, p .few, ok .other-fits, ok .words)))) in
     let all : Appended lay w₀ w′ count k′ (bearing lay stamp w₀ (part w₀ (lay .other) i) ++ bearing lay stamp w (s ∷ [])) = record {
       earliest = y .earliest ∙ x .earliest;
       stamps = y .stamps ∙ x .stamps;
@@ -112,19 +112,19 @@ append-turn {lay} {w₀} {w} {w′} {n} stamp count k k′ i s ok p x y e h =
     rw more at all
 
 -- no more than were looked at
-pub append-most : {lay : Lay} {w₀ w : List ℕ} {b c : ℕ} (stamp count k i : ℕ) → Sized lay (length w₀) b c → Appended lay w₀ w count k (bearing lay stamp w₀ (part w₀ (lay .other) i))
+pub append-most : {lay : Lay} {w₀ w : List ℕ} (stamp count k i : ℕ) → WorkSized lay (length w₀) → Appended lay w₀ w count k (bearing lay stamp w₀ (part w₀ (lay .other) i))
     → i ≤ lay .stops + 64 → k ≤ count + i
 append-most {lay} {w₀} stamp count k i ok x h =
     omega (
       arith,
       x .counted,
       keep-short (λ q. eqb (getD (stampsOf lay w₀) q 0) stamp) (part w₀ (lay .other) i),
-      part-length w₀ (lay .other) i (omega (arith, h, ok .sections .other-fits, ok .sections .words)),
+      part-length w₀ (lay .other) i (omega (arith, h, ok .other-fits, ok .words)),
     )
 
 -- the next stop is one of the table's, and the working numbers are as many as before
-pub append-stop : {lay : Lay} {w₀ w : List ℕ} {n count k : ℕ} {more : List ℕ} (i : ℕ) → StopsListed lay w₀ n → Appended lay w₀ w count k more → i < n → otherAt lay w i < lay .stops
-append-stop i p x h = rw (other-kept i (x .same) (omega (arith, p .few))) (p .inside i h)
+pub append-stop : {lay : Lay} {w₀ w : List ℕ} {n latest count k : ℕ} {more : List ℕ} (i : ℕ) → StopsListed lay w₀ n latest → Appended lay w₀ w count k more → i < n → otherAt lay w i < lay .stops
+append-stop i p x h = rw (other-kept i (same-other (x .same)) (omega (arith, p .few))) (p .inside i h)
 
-pub append-sized : {lay : Lay} {w₀ w : List ℕ} {count k b c : ℕ} {more : List ℕ} → Sized lay (length w₀) b c → Appended lay w₀ w count k more → Sized lay (length w) b c
+pub append-sized : {lay : Lay} {w₀ w : List ℕ} {count k : ℕ} {more : List ℕ} → WorkSized lay (length w₀) → Appended lay w₀ w count k more → WorkSized lay (length w)
 append-sized ok x = rw (x .same .size) ok

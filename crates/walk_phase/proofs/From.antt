@@ -16,13 +16,10 @@ use Rattle.tables.specs.Sane.{OrderOk}
 use Rattle.model.specs.Tables.{Tables, Query, edgesFrom}
 use Rattle.model.specs.Search.{Arrivals, at, walkFrom, walkAll}
 use Rattle.query_types.specs.declared.Lay.{Lay}
-use Rattle.search_state.specs.Part.{part}
-use Rattle.search_state.specs.Places.{Same, Sized, otherAt, Falls}
 use Rattle.search_state.specs.View.{Memory, arrivalsOf}
 use Rattle.search_state.specs.Step.{Step}
-use Rattle.search_state.proofs.Part.{first-at, part-at, part-length}
+use Rattle.search_state.proofs.Part.{first-at}
 use Rattle.walk_phase.specs.Walking.{runFrom}
-use Rattle.walk_phase.specs.Lists.{StopsListed}
 use Rattle.walk_phase.proofs.Edges.{edges-run, run-turn, run-stop, run-end}
 use Rattle.walk_phase.proofs.Edge.{walk-cons}
 
@@ -81,26 +78,3 @@ step-at {lay} {stamp} {agree} {a} {b} flagged x v h e p =
       queued = p .queued;
       full = p .full;
     }
-
--- the other list is read as it came
-pub other-kept : {lay : Lay} {w w′ : List ℕ} (i : ℕ) → Same lay w w′ → i < lay .stops + 64 → otherAt lay w′ i ≡ otherAt lay w i
-other-kept {lay} {w} {w′} i s h =
-    sym (part-at w′ (lay .other) (lay .stops + 64) i h) ∙ ap (λ (l : List ℕ). getD l i 0) (s .list) ∙ part-at w (lay .other) (lay .stops + 64) i h
-
-pub listed-kept : {lay : Lay} {w w′ : List ℕ} {n : ℕ} → StopsListed lay w n → Same lay w w′ → Falls lay w w′ → StopsListed lay w′ n
-listed-kept {lay} {w} {w′} {n} p s f =
-    record {
-      few = p .few;
-      inside = λ i h. rw (other-kept i s (k i h)) (p .inside i h);
-      early = λ i h. rw (other-kept i s (k i h)) (omega (arith, p .early i h, f .earlier (otherAt lay w i) (p .inside i h)));
-    }
-  where
-    k : (i : ℕ) → i < n → i < lay .stops + 64
-    k i h = omega (arith, p .few)
-
--- the n stops of the other list
-pub other-length : {lay : Lay} {w : List ℕ} {n b c : ℕ} → StopsListed lay w n → Sized lay (length w) b c → length (part w (lay .other) n) ≡ n
-other-length {lay} {w} {n} p s = part-length w (lay .other) n (omega (arith, p .few, s .sections .other-fits, s .sections .words))
-
-pub other-in : {lay : Lay} {w w′ : List ℕ} {n : ℕ} (i : ℕ) → StopsListed lay w n → Same lay w w′ → i < n → getD (part w (lay .other) n) i 0 ≡ otherAt lay w′ i
-other-in {lay} {w} {w′} {n} i p s h = part-at w (lay .other) n i h ∙ sym (other-kept i s (omega (arith, p .few)))

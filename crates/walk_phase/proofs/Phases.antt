@@ -1,7 +1,6 @@
 -- The walk phase: walks, then the stops reached by transit behind those reached on foot. Assumes nothing.
-use Prim.Native.Nat.{ℕ, suc, _+_, _*_, _≤_}
-use mathlib.Core.Path.{_≡_, refl, sym, ap, _∙_}
-use mathlib.Core.Logic.{_⊎_, inl, inr}
+use Prim.Native.Nat.{ℕ, suc, _+_, _≤_}
+use mathlib.Core.Path.{_≡_, sym, ap, _∙_}
 use mathlib.Core.Bool.{Bool, true, false}
 use mathlib.Core.List.{List, _++_}
 use native.Mathlib.Omega.{arith}
@@ -14,7 +13,7 @@ use Rattle.model.specs.Search.{Arrivals, Boardings, State, stamped, walkAll, wa
 use Rattle.query_types.specs.declared.Lay.{Lay}
 use Rattle.query_types.specs.declared.Head.{Head}
 use Rattle.search_state.specs.Part.{part, tally}
-use Rattle.search_state.specs.Places.{Sized, stampsOf, turned}
+use Rattle.search_state.specs.Places.{StopsListed, stampsOf, turned}
 use Rattle.search_state.specs.View.{Memory, memory, arrivalsOf, queueOf}
 use Rattle.search_state.specs.Step.{Ready, Step}
 use Rattle.search_state.proofs.Part.{tally-le}
@@ -22,32 +21,11 @@ use Rattle.search_state.proofs.Marking.{same-then, stamps-length}
 use Rattle.search_state.proofs.Steps.{walks-kept}
 use Rattle.query_types.specs.declared.Context.{Context}
 use Rattle.walk_phase.specs.Walking.{WalkGround, WalksAgree}
-use Rattle.walk_phase.specs.Lists.{StopsListed, bearing, Appended, noted, WalkPhase}
+use Rattle.walk_phase.specs.Lists.{latestWalker, bearing, Appended, noted, WalkPhase}
+use Rattle.search_state.proofs.Lists.{turned-sized}
 use Rattle.walk_phase.proofs.Appending.{stamped-is, append-most}
 
 -- what holds of a layout holds where its lists have changed places
-turn-sides : {A B : Type 0} → A ⊎ B → B ⊎ A
-turn-sides (inl a) = inr a
-turn-sides (inr b) = inl b
-
-pub turned-sized : {lay : Lay} {a b c : ℕ} → Sized lay a b c → Sized (turned lay) a b c
-turned-sized s =
-    record {
-      sections = record {
-        stops = s .sections .stops;
-        trips = s .sections .trips;
-        lines = s .sections .lines;
-        words = s .sections .words;
-        first = s .sections .other-first;
-        fits = s .sections .other-fits;
-        other-first = s .sections .first;
-        other-fits = s .sections .fits;
-        apart = turn-sides (s .sections .apart);
-      };
-      rows = s .rows;
-      metres = s .metres;
-    }
-
 pub turned-ground : {lay : Lay} {ctx : Context} {t : List ℕ} {d b : ℕ} → WalkGround lay ctx t d b → WalkGround (turned lay) ctx t d b
 turned-ground g = record { sane = g .sane; order = g .order; stops = g .stops; distances = g .distances; few = g .few; bytes = g .bytes }
 
@@ -92,10 +70,6 @@ after T Q flagged stamp xs s A =
       };
       boardings = noted (length (A .segQueue)) s;
     }
-
--- the words of memory alone
-pub sized-words : {lay : Lay} {a b c : ℕ} → Sized lay a b c → Sized lay a (lay .stops * 104) (lay .stops * 13)
-sized-words s = record { sections = s .sections; rows = refl; metres = refl }
 
 module _ (lay : Lay) (ctx : Context) (stamp : ℕ) (t : List ℕ) (d : List Float) (bs w l : List ℕ) (m : List Float) (h : Head) (ok : Ready lay stamp (memory w l m h))
     {b : Memory} (p : Step (turned lay) stamp (WalksAgree (turned lay) ctx t d bs w) (λ T Q. walkAll T Q (ctx .flagged) stamp (part w (lay .list) (h .count))) (memory w l m (emptyHead h)) b) where
@@ -158,7 +132,7 @@ module _ (lay : Lay) (ctx : Context) (stamp : ℕ) (t : List ℕ) (d : List Floa
       }
 
   -- without: those reached by transit after them
-  module _ (ls : StopsListed (turned lay) w (h .count)) (w″ : List ℕ) (count : ℕ)
+  module _ (ls : StopsListed (turned lay) w (h .count) latestWalker) (w″ : List ℕ) (count : ℕ)
       (x : Appended (turned lay) (b .work) w″ (b .head .count) count (bearing (turned lay) stamp (b .work) (part (b .work) (lay .list) (h .count)))) where
     abbrev last : Memory
     last = memory w″ (b .labels) (b .labelDistances) (record { best = b .head .best; count = count; queued = b .head .queued; full = b .head .full })
@@ -208,7 +182,7 @@ module _ (lay : Lay) (ctx : Context) (stamp : ℕ) (t : List ℕ) (d : List Floa
             sized = rw (x .same .size) (p .ready .sized);
             walks = walks-kept (x .same) (p .ready .walks);
             counted = record {
-              fits = rw (x .stamps) (omega (arith, phase-room, append-most stamp (b .head .count) count (h .count) (p .ready .sized) x (ls .few)));
+              fits = rw (x .stamps) (omega (arith, phase-room, append-most stamp (b .head .count) count (h .count) (p .ready .sized .sections) x (ls .few)));
             };
             round = p .ready .round;
             written = p .ready .written;

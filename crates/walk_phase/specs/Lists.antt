@@ -1,6 +1,6 @@
 -- The two lists of reached stops in the walk phase: the ride phase's is read, the other one is filled. Definitions only.
 -- Inner: nobody has to believe this.
-use Prim.Native.Nat.{ℕ, suc, _+_, _≤_, _<_}
+use Prim.Native.Nat.{ℕ, suc, _+_}
 use mathlib.Core.Path.{_≡_}
 use mathlib.Core.Bool.{Bool}
 use mathlib.Core.List.{List, _∷_, _++_}
@@ -9,19 +9,15 @@ use lib.Dec.{eqb}
 use Rattle.sorts.specs.Orders.{keep}
 use Rattle.model.specs.Tables.{Tables, Query}
 use Rattle.model.specs.Search.{Boardings, walkPhase}
-use Rattle.query_types.specs.Layout.{listRoom}
 use Rattle.query_types.specs.declared.Lay.{Lay}
 use Rattle.search_state.specs.Part.{part}
-use Rattle.search_state.specs.Places.{Same, earliestOf, stampsOf, reachOf, otherAt, turned}
+use Rattle.search_state.specs.Places.{Same, earliestOf, stampsOf, reachOf, turned}
 use Rattle.search_state.specs.View.{Memory, arrivalsOf}
 use Rattle.search_state.specs.Step.{Ready}
 
--- the n stops of the other list: each one of the table's, and reached early enough (28 times 2 to the 20) that a walk from there, of at
--- most 104,857,500 seconds, ends below 2 to the 27
-pub record StopsListed (lay : Lay) (w : List ℕ) (n : ℕ) : Type 0 where
-  pub few : n ≤ listRoom (lay .stops)
-  pub inside : (i : ℕ) → i < n → otherAt lay w i < lay .stops
-  pub early : (i : ℕ) → i < n → getD w (otherAt lay w i) 0 < 29360128
+-- the latest arrival from which a walk is taken: one of at most 104,857,500 seconds ends below 2 to the 27
+abbrev pub latestWalker : ℕ
+latestWalker = 29360127
 
 -- the stops among these that bear a stamp, in their order
 abbrev pub bearing : Lay → ℕ → List ℕ → List ℕ → List ℕ

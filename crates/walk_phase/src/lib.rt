@@ -6,7 +6,7 @@
 // Assumes nothing.
 ghost use mathlib.Core.Path.{_≡_};
 ghost use mathlib.Core.List.{[], _∷_};
-ghost use Prim.Native.Nat.{_+_, _*_, _≤_, _<_};
+ghost use Prim.Native.Nat.{_+_, _≤_, _<_};
 ghost use lib.ListN.{length};
 ghost use lib.Dec.{leb};
 ghost use Rattle.loops.specs.Order.{Halved};
@@ -16,12 +16,12 @@ ghost use mathlib.Core.Bool.{not, _&&_};
 ghost use Rattle.model.specs.Tables.{Tables, Query, edgesFrom};
 ghost use Rattle.model.specs.Search.{targetCells, holdsTarget, walkFrom, walkAll};
 ghost use Rattle.search_state.specs.Part.{part};
-ghost use Rattle.search_state.specs.Places.{Sized, turned, Falls};
+ghost use Rattle.search_state.specs.Places.{WorkSized, StopsListed, turned, Falls};
 ghost use Rattle.search_state.specs.View.{memory};
 ghost use Rattle.search_state.specs.Step.{Ready, Step};
 ghost use Rattle.walk_phase.specs.Walking.{WalkGround, WalksAgree};
 ghost use Rattle.arc_flags.specs.Skipping.{Patterned, PatternsOk};
-ghost use Rattle.walk_phase.specs.Lists.{StopsListed, bearing, Appended, WalkPhase};
+ghost use Rattle.walk_phase.specs.Lists.{latestWalker, bearing, Appended, WalkPhase};
 ghost use Rattle.query_types.specs.Layout.{listRoom};
 use label::Label;
 use query_types::Context;
@@ -79,7 +79,7 @@ fn walk_edge(
     requires { ⌜ Ready lay stamp (memory (now work) (now labels) (now «label_distances») h) ⌝
         ∗ ⌜ WalkGround lay ctx (now tables) (length (now distances)) (length (now patterns)) ⌝
         ∗ ⌜ x < lay .stops ⌝
-        ∗ ⌜ v < 29360128 ⌝
+        ∗ ⌜ v ≤ latestWalker ⌝
         ∗ ⌜ e < ctx .counts .timetable .edges ⌝ }
     ensures { λ r. ⌜ Step lay stamp (WalksAgree lay ctx (now (tables .entry)) (now (distances .entry)) (now (patterns .entry)) (now (work .entry)))
         (λ T Q. walkFrom T Q (ctx .flagged) stamp x v (e ∷ []))
@@ -130,7 +130,7 @@ fn walk_from(
     requires { ⌜ Ready lay stamp (memory (now work) (now labels) (now «label_distances») h) ⌝
         ∗ ⌜ WalkGround lay ctx (now tables) (length (now distances)) (length (now patterns)) ⌝
         ∗ ⌜ x < lay .stops ⌝
-        ∗ ⌜ v < 29360128 ⌝ }
+        ∗ ⌜ v ≤ latestWalker ⌝ }
     ensures { λ r. ⌜ Step lay stamp (WalksAgree lay ctx (now (tables .entry)) (now (distances .entry)) (now (patterns .entry)) (now (work .entry)))
         (λ T Q. walkFrom T Q (ctx .flagged) stamp x v (edgesFrom T x))
         (memory (now (work .entry)) (now (labels .entry)) (now («label_distances» .entry)) h)
@@ -180,7 +180,7 @@ fn walk_all(
 ) -> Head
     requires { ⌜ Ready lay stamp (memory (now work) (now labels) (now «label_distances») h) ⌝
         ∗ ⌜ WalkGround lay ctx (now tables) (length (now distances)) (length (now patterns)) ⌝
-        ∗ ⌜ StopsListed lay (now work) n ⌝ }
+        ∗ ⌜ StopsListed lay (now work) n latestWalker ⌝ }
     ensures { λ r. ⌜ Step lay stamp (WalksAgree lay ctx (now (tables .entry)) (now (distances .entry)) (now (patterns .entry)) (now (work .entry)))
         (λ T Q. walkAll T Q (ctx .flagged) stamp (part (now (work .entry)) (lay .other) n))
         (memory (now (work .entry)) (now (labels .entry)) (now («label_distances» .entry)) h)
@@ -214,7 +214,7 @@ fn walk_all(
 
 // Stop s is put behind the list where it bears the stamp. The answer is how many stops the list has then.
 fn append_one(lay: Lay, stamp: u32, s: usize, work: &mut [u32], count: usize) -> usize
-    requires { ⌜ Sized lay (length (now work)) (lay .stops * 104) (lay .stops * 13) ⌝ ∗ ⌜ s < lay .stops ⌝
+    requires { ⌜ WorkSized lay (length (now work)) ⌝ ∗ ⌜ s < lay .stops ⌝
         ∗ ⌜ count < listRoom (lay .stops) ⌝ }
     ensures { λ r. ⌜ Appended lay (now (work .entry)) (now (work .exit)) count r (bearing lay stamp (now (work .entry)) (s ∷ [])) ⌝ }
 {
@@ -229,8 +229,8 @@ fn append_one(lay: Lay, stamp: u32, s: usize, work: &mut [u32], count: usize) ->
 
 // Those of the first n stops of the other list that bear the stamp are put behind the list.
 fn append_stamped(lay: Lay, stamp: u32, n: usize, work: &mut [u32], count: usize) -> usize
-    requires { ⌜ Sized lay (length (now work)) (lay .stops * 104) (lay .stops * 13) ⌝
-        ∗ ⌜ StopsListed lay (now work) n ⌝
+    requires { ⌜ WorkSized lay (length (now work)) ⌝
+        ∗ ⌜ StopsListed lay (now work) n latestWalker ⌝
         ∗ ⌜ count + n ≤ listRoom (lay .stops) ⌝ }
     ensures { λ r. ⌜ Appended lay (now (work .entry)) (now (work .exit)) count r
         (bearing lay stamp (now (work .entry)) (part (now (work .entry)) (lay .other) n)) ⌝ }
@@ -261,7 +261,7 @@ pub fn walk_phase(
 ) -> Head
     requires { ⌜ Ready (ctx .lay) stamp (memory (now work) (now labels) (now «label_distances») h) ⌝
         ∗ ⌜ WalkGround (ctx .lay) ctx (now tables) (length (now distances)) (length (now patterns)) ⌝
-        ∗ ⌜ StopsListed (turned (ctx .lay)) (now work) (h .count) ⌝ }
+        ∗ ⌜ StopsListed (turned (ctx .lay)) (now work) (h .count) latestWalker ⌝ }
     ensures { λ r. ⌜ WalkPhase (ctx .lay) (ctx .flagged) stamp
         (WalksAgree (ctx .lay) ctx (now (tables .entry)) (now (distances .entry)) (now (patterns .entry)) (now (work .entry)))
         (memory (now (work .entry)) (now (labels .entry)) (now («label_distances» .entry)) h)

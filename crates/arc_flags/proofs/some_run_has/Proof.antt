@@ -41,7 +41,7 @@ both-requires : tie.Need-both-requires Inv-loop μ-loop
 both-requires c κs = search needs
 
 returns : tie.Need-returns Inv-loop μ-loop
-returns c = let s = c .before .before .before .before .before .before .before in let w = c .before .before .before .before .before .loop in some-yes (runHas (now (s .args .runs)) (s .args .k)) (w .e) _ (w .inv .1) (run-has (now (s .args .runs)) (s .args .k) (w .e) _ _ _ _ (c .before .before .before .field .ensures .0) (c .before .before .field2 .ensures .0) (c .before .both .ensures) (c .if1 .taken)) (c .before .before .before .before .loop-test .taken)
+returns c = let s = c .before .before .before .before .before .before .before in let w = c .before .before .before .before .before .loop in some-yes (runHas (now (s .args .transfer-runs)) (s .args .k)) (w .e) _ (w .inv .1) (run-has (now (s .args .transfer-runs)) (s .args .k) (w .e) _ _ _ _ (c .before .before .before .field .ensures .0) (c .before .before .field2 .ensures .0) (c .before .both .ensures) (c .if1 .taken)) (c .before .before .before .before .loop-test .taken)
 
 add-e : tie.Need-add-e Inv-loop μ-loop
 add-e c = omega arith
@@ -50,10 +50,10 @@ loop-less : tie.Need-loop-less Inv-loop μ-loop
 loop-less c = omega arith
 
 loop-again : tie.Need-loop-again Inv-loop μ-loop
-loop-again c = let s = c .before .before .before .before .before .before .before in let w = c .before .before .before .before .before .loop in (w .inv .0, some-again (runHas (now (s .args .runs)) (s .args .k)) (w .e) _ (w .inv .1) (run-has (now (s .args .runs)) (s .args .k) (w .e) _ _ _ _ (c .before .before .before .field .ensures .0) (c .before .before .field2 .ensures .0) (c .before .both .ensures) (c .if1 .left)) (c .before .before .before .before .loop-test .taken))
+loop-again c = let s = c .before .before .before .before .before .before .before in let w = c .before .before .before .before .before .loop in (w .inv .0, some-again (runHas (now (s .args .transfer-runs)) (s .args .k)) (w .e) _ (w .inv .1) (run-has (now (s .args .transfer-runs)) (s .args .k) (w .e) _ _ _ _ (c .before .before .before .field .ensures .0) (c .before .before .field2 .ensures .0) (c .before .both .ensures) (c .if1 .left)) (c .before .before .before .before .loop-test .taken))
 
 returns-2 : tie.Need-returns-2 Inv-loop μ-loop
-returns-2 c = let s = c .before .before .before in let w = c .before .loop in some-left (runHas (now (s .args .runs)) (s .args .k)) (w .e) _ (w .inv .1) (c .loop-test .left)
+returns-2 c = let s = c .before .before .before in let w = c .before .loop in some-left (runHas (now (s .args .transfer-runs)) (s .args .k)) (w .e) _ (w .inv .1) (c .loop-test .left)
 
 pub some-run-has-spec : {M : Type 1} → statement M
 some-run-has-spec =

@@ -49,7 +49,7 @@ returns : tie.Need-returns Inv-loop μ-loop
 returns c =
     let c₁ = c .before .before .before .before .before .before in
     let s = c₁ .before .before .before in
-    let w = c₁ .loop in λ f h. let g = withinRun f (s .args .from) (s .args .n) in some-yes (runSome g (now (s .args .runs))) (w .e) _ (w .inv .1 f h) (run-counted g (now (s .args .runs)) (w .e) _ _ _ _ _ (c .before .before .before .before .field .ensures .0) (c .before .before .before .field2 .ensures .0) (c .before .before .counted-before .ensures f h) (c .before .counted-before2 .ensures f h) (lt-ltb _ _ (c .if1 .taken))) (c .before .before .before .before .before .loop-test .taken)
+    let w = c₁ .loop in λ f h. let g = withinRun f (s .args .from) (s .args .n) in some-yes (runSome g (now (s .args .transfer-runs))) (w .e) _ (w .inv .1 f h) (run-counted g (now (s .args .transfer-runs)) (w .e) _ _ _ _ _ (c .before .before .before .before .field .ensures .0) (c .before .before .before .field2 .ensures .0) (c .before .before .counted-before .ensures f h) (c .before .counted-before2 .ensures f h) (lt-ltb _ _ (c .if1 .taken))) (c .before .before .before .before .before .loop-test .taken)
 
 add-e : tie.Need-add-e Inv-loop μ-loop
 add-e c = omega arith
@@ -61,10 +61,10 @@ loop-again : tie.Need-loop-again Inv-loop μ-loop
 loop-again c =
     let c₁ = c .before .before .before .before .before .before in
     let s = c₁ .before .before .before in
-    let w = c₁ .loop in (w .inv .0, λ f h. let g = withinRun f (s .args .from) (s .args .n) in some-again (runSome g (now (s .args .runs))) (w .e) _ (w .inv .1 f h) (run-counted g (now (s .args .runs)) (w .e) _ _ _ _ _ (c .before .before .before .before .field .ensures .0) (c .before .before .before .field2 .ensures .0) (c .before .before .counted-before .ensures f h) (c .before .counted-before2 .ensures f h) (le-ltb _ _ (c .if1 .left))) (c .before .before .before .before .before .loop-test .taken))
+    let w = c₁ .loop in (w .inv .0, λ f h. let g = withinRun f (s .args .from) (s .args .n) in some-again (runSome g (now (s .args .transfer-runs))) (w .e) _ (w .inv .1 f h) (run-counted g (now (s .args .transfer-runs)) (w .e) _ _ _ _ _ (c .before .before .before .before .field .ensures .0) (c .before .before .before .field2 .ensures .0) (c .before .before .counted-before .ensures f h) (c .before .counted-before2 .ensures f h) (le-ltb _ _ (c .if1 .left))) (c .before .before .before .before .before .loop-test .taken))
 
 returns-2 : tie.Need-returns-2 Inv-loop μ-loop
-returns-2 c = let s = c .before .before .before .before in let w = c .before .loop in λ f h. some-left (runSome (withinRun f (s .args .from) (s .args .n)) (now (s .args .runs))) (w .e) _ (w .inv .1 f h) (c .loop-test .left)
+returns-2 c = let s = c .before .before .before .before in let w = c .before .loop in λ f h. some-left (runSome (withinRun f (s .args .from) (s .args .n)) (now (s .args .transfer-runs))) (w .e) _ (w .inv .1 f h) (c .loop-test .left)
 
 pub some-run-passes-spec : {M : Type 1} → statement M
 some-run-passes-spec =

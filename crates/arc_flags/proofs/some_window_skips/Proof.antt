@@ -28,7 +28,7 @@ window-skips-requires : tie.Need-window-skips-requires Inv-loop μ-loop
 window-skips-requires c κs = let s = c .before .before .before .before .before .before in (s .pre .0, (record { few = omega (arith, s .pre .1 .0 .few, c .smaller .ensures); fit = omega (arith, s .pre .1 .0 .fit, c .smaller .ensures) }, omega (arith, c .smaller .ensures)))
 
 returns : tie.Need-returns Inv-loop μ-loop
-returns c = let s = c .before .before .before .before .before .before .before .before in record { says = λ T Q a. window-yes (rowSkipped T Q (now (s .args .transfers))) (now (s .args .runs)) _ _ (c .before .window-skips .ensures .says T Q a) (c .if1 .taken) }
+returns c = let s = c .before .before .before .before .before .before .before .before in record { says = λ T Q a. window-yes (rowSkipped T Q (now (s .args .transfers))) (now (s .args .transfer-runs)) _ _ (c .before .window-skips .ensures .says T Q a) (c .if1 .taken) }
 
 add-from : tie.Need-add-from Inv-loop μ-loop
 add-from c = omega arith
@@ -37,10 +37,10 @@ loop-less : tie.Need-loop-less Inv-loop μ-loop
 loop-less c = omega arith
 
 loop-again : tie.Need-loop-again Inv-loop μ-loop
-loop-again c = let s = c .before .before .before .before .before .before .before .before in let w = c .before .before .before .before .loop in (omega (arith, c .before .before .smaller .ensures), λ T Q a. window-no (rowSkipped T Q (now (s .args .transfers))) (now (s .args .runs)) (w .from) _ (w .inv .1 T Q a) (c .before .window-skips .ensures .says T Q a) (c .if1 .left))
+loop-again c = let s = c .before .before .before .before .before .before .before .before in let w = c .before .before .before .before .loop in (omega (arith, c .before .before .smaller .ensures), λ T Q a. window-no (rowSkipped T Q (now (s .args .transfers))) (now (s .args .transfer-runs)) (w .from) _ (w .inv .1 T Q a) (c .before .window-skips .ensures .says T Q a) (c .if1 .left))
 
 returns-2 : tie.Need-returns-2 Inv-loop μ-loop
-returns-2 c = let s = c .before .before .before .before .before in let w = c .before .loop in record { says = λ T Q a. windows-left (rowSkipped T Q (now (s .args .transfers))) (now (s .args .runs)) (w .from) (s .args .transfer-rows) (s .pre .1 .1) (w .inv .1 T Q a) (c .loop-test .left) }
+returns-2 c = let s = c .before .before .before .before .before in let w = c .before .loop in record { says = λ T Q a. windows-left (rowSkipped T Q (now (s .args .transfers))) (now (s .args .transfer-runs)) (w .from) (s .args .transfer-rows) (s .pre .1 .1) (w .inv .1 T Q a) (c .loop-test .left) }
 
 pub some-window-skips-spec : {M : Type 1} → statement M
 some-window-skips-spec =

@@ -19,7 +19,7 @@ word-requires : tie.Need-word-requires
 word-requires c κs = search needs
 
 returns : tie.Need-returns
-returns c = let s = c .before .before .before .before .before .before .before .before .before in record { says = λ T Q a. window-none (rowSkipped T Q (now (s .args .transfers))) (s .args .from) (s .args .n) _ (now (s .args .runs)) (c .before .before .before .before .count-skipped .ensures .counted T Q a) (sym (c .before .word .ensures) ∙ c .if1 .taken) }
+returns c = let s = c .before .before .before .before .before .before .before .before .before in record { says = λ T Q a. window-none (rowSkipped T Q (now (s .args .transfers))) (s .args .from) (s .args .n) _ (now (s .args .transfer-runs)) (c .before .before .before .before .count-skipped .ensures .counted T Q a) (sym (c .before .word .ensures) ∙ c .if1 .taken) }
 
 slice-aggregate-some-run-passes : tie.Need-slice-aggregate-some-run-passes
 slice-aggregate-some-run-passes c = search needs

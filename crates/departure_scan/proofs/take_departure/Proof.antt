@@ -1,5 +1,5 @@
 use Rattle.ride_step.proofs.Keep.{ready-noted}
-use Rattle.departure_scan.proofs.Taking.{chained, noted-netted, shift-small, sized-work, taken-board, taken-none}
+use Rattle.departure_scan.proofs.Taking.{chained, noted-netted, shift-small, taken-board, taken-none}
 use Rattle.ride_step.proofs.Scanned.{riding-on}
 use mathlib.Core.Path.{_∙_, sym}
 use native.Mathlib.Omega.{arith}
@@ -36,7 +36,7 @@ returns c =
     let x = a .args in let G = a .pre .0 in taken-none G (x .p .context .flagged) (c₁ .delay-of .result) (x .at .stop) (x .at .after) (x .d .trip) (x .d .offset) (x .p .stamp - 2) (c .before .before .board-listed .result) (c .before .before .board-listed .ensures .0) (c₁ .delay-of .ensures .1) (c .enum-told .given .1)
 
 note-requires : tie.Need-note-requires
-note-requires c κs = let a = c .before .before .before .before .before .before .before .before .before .before .before .before .before .before .before .before .before .before .before .before .before in let x = a .args in let G = a .pre .0 in (sized-work (G .ready .sized), (G .chains, (chained G .lines, omega (arith, a .pre .1 .0 .trip, G .laid .netted .trips))))
+note-requires c κs = let a = c .before .before .before .before .before .before .before .before .before .before .before .before .before .before .before .before .before .before .before .before .before in let x = a .args in let G = a .pre .0 in (G .ready .sized .sections, (G .chains, (chained G .lines, omega (arith, a .pre .1 .0 .trip, G .laid .netted .trips))))
 
 scan-trip-forward-requires : tie.Need-scan-trip-forward-requires
 scan-trip-forward-requires c κs =

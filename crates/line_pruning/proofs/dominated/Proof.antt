@@ -1,12 +1,13 @@
 use denote.Ref.{now}
 use mathlib.Core.Path.{_∙_}
-use Rattle.line_pruning.proofs.Reading.{few, read-at, dominated-is}
+use Rattle.search_state.proofs.Part.{few-of}
+use Rattle.line_pruning.proofs.Reading.{read-at, dominated-is}
 use borrow.Author.Needs.{needs}
 use Rattle.line_pruning.proofs.dominated.Statement.{statement}
 use Rattle.line_pruning.proofs.dominated.Tie as tie
 
 positions-at-requires : tie.Need-positions-at-requires
-positions-at-requires c κs = few (c .before .pre .0)
+positions-at-requires c κs = few-of (c .before .pre .0)
 
 add-field : tie.Need-add-field
 add-field c = search needs

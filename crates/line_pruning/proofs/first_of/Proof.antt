@@ -1,11 +1,12 @@
 use denote.Ref.{now}
-use Rattle.line_pruning.proofs.Reading.{few, first-no, first-yes}
+use Rattle.search_state.proofs.Part.{few-of}
+use Rattle.line_pruning.proofs.Reading.{first-no, first-yes}
 use borrow.Author.Needs.{needs}
 use Rattle.line_pruning.proofs.first_of.Statement.{statement}
 use Rattle.line_pruning.proofs.first_of.Tie as tie
 
 line-stamps-at-requires : tie.Need-line-stamps-at-requires
-line-stamps-at-requires c κs = few (c .before .pre .0)
+line-stamps-at-requires c κs = few-of (c .before .pre .0)
 
 add-at : tie.Need-add-at
 add-at c = search needs
@@ -20,7 +21,7 @@ returns : tie.Need-returns
 returns c = let s = c .before .before .before .before .args in first-no (s .lay) (s .stamp) (now (s .work)) (s .line) _ (c .before .before .line-stamps-at .ensures) (c .if1 .taken)
 
 heads-at-requires : tie.Need-heads-at-requires
-heads-at-requires c κs = few (c .before .before .before .before .pre .0)
+heads-at-requires c κs = few-of (c .before .before .before .before .pre .0)
 
 add-result : tie.Need-add-result
 add-result c = search needs

@@ -3,13 +3,14 @@ use mathlib.Core.Path.{ap₂, _∙_}
 use Prim.Native.Nat.{ℕ}
 use lib.Dec.{ltb, leb}
 use mathlib.Core.Bool.{_&&_}
-use Rattle.line_pruning.proofs.Reading.{few, read-at}
+use Rattle.search_state.proofs.Part.{few-of}
+use Rattle.line_pruning.proofs.Reading.{read-at}
 use borrow.Author.Needs.{needs}
 use Rattle.line_pruning.proofs.is_before.Statement.{statement}
 use Rattle.line_pruning.proofs.is_before.Tie as tie
 
 positions-at-requires : tie.Need-positions-at-requires
-positions-at-requires c κs = few (c .before .pre .0)
+positions-at-requires c κs = few-of (c .before .pre .0)
 
 add-field : tie.Need-add-field
 add-field c = search needs
@@ -18,7 +19,7 @@ field-requires : tie.Need-field-requires
 field-requires c κs = search needs
 
 least-at-requires : tie.Need-least-at-requires
-least-at-requires c κs = few (c .before .before .before .pre .0)
+least-at-requires c κs = few-of (c .before .before .before .pre .0)
 
 add-field-2 : tie.Need-add-field-2
 add-field-2 c = search needs

@@ -1,6 +1,7 @@
 use denote.Ref.{now}
 use borrow.Author.Tests.{not-true, not-false}
-use Rattle.line_pruning.proofs.Reading.{few, listed-no, listed-seen, listed-new}
+use Rattle.search_state.proofs.Part.{few-of}
+use Rattle.line_pruning.proofs.Reading.{listed-no, listed-seen, listed-new}
 use borrow.Author.Needs.{needs}
 use Rattle.line_pruning.proofs.list.Statement.{statement}
 use Rattle.line_pruning.proofs.list.Tie as tie
@@ -9,7 +10,7 @@ returns : tie.Need-returns
 returns c = let s = c .before .before in listed-no (s .args .lay) (s .args .stamp) (s .args .line) (s .args .trip) (s .args .off) (now (s .args .work)) (s .args .prunes) (not-true _ (c .if1 .taken))
 
 trip-stamps-at-requires : tie.Need-trip-stamps-at-requires
-trip-stamps-at-requires c κs = few (c .before .before .pre .0)
+trip-stamps-at-requires c κs = few-of (c .before .before .pre .0)
 
 add-at : tie.Need-add-at
 add-at c = search needs

@@ -1,11 +1,12 @@
 use denote.Ref.{now}
-use Rattle.line_pruning.proofs.Reading.{few, lowered-no, lowered-yes}
+use Rattle.search_state.proofs.Part.{few-of}
+use Rattle.line_pruning.proofs.Reading.{lowered-no, lowered-yes}
 use borrow.Author.Needs.{needs}
 use Rattle.line_pruning.proofs.lower.Statement.{statement}
 use Rattle.line_pruning.proofs.lower.Tie as tie
 
 least-at-requires : tie.Need-least-at-requires
-least-at-requires c κs = few (c .before .pre .0)
+least-at-requires c κs = few-of (c .before .pre .0)
 
 add-least : tie.Need-add-least
 add-least c = search needs

@@ -1,11 +1,12 @@
 use denote.Ref.{now}
-use Rattle.line_pruning.proofs.Reading.{few, passed-no, passed-yes}
+use Rattle.search_state.proofs.Part.{few-of}
+use Rattle.line_pruning.proofs.Reading.{passed-no, passed-yes}
 use borrow.Author.Needs.{needs}
 use Rattle.line_pruning.proofs.passed_over.Statement.{statement}
 use Rattle.line_pruning.proofs.passed_over.Tie as tie
 
 trip-stamps-at-requires : tie.Need-trip-stamps-at-requires
-trip-stamps-at-requires c κs = few (c .before .pre .0)
+trip-stamps-at-requires c κs = few-of (c .before .pre .0)
 
 add-at : tie.Need-add-at
 add-at c = search needs
@@ -20,7 +21,7 @@ returns : tie.Need-returns
 returns c = let s = c .before .before .before .before in λ T Q b bk. passed-no T Q (s .args .lay) (s .args .stamp) (now (s .args .work)) b bk (s .args .trip) (s .args .off) (s .args .dep) (s .pre .1) _ (c .before .before .trip-stamps-at .ensures) (c .if1 .taken)
 
 boarded-offsets-at-requires : tie.Need-boarded-offsets-at-requires
-boarded-offsets-at-requires c κs = few (c .before .before .before .before .pre .0)
+boarded-offsets-at-requires c κs = few-of (c .before .before .before .before .pre .0)
 
 add-o : tie.Need-add-o
 add-o c = search needs
@@ -32,7 +33,7 @@ shared-slice-read-o : tie.Need-shared-slice-read-o
 shared-slice-read-o c = search needs
 
 boarded-departures-at-requires : tie.Need-boarded-departures-at-requires
-boarded-departures-at-requires c κs = few (c .before .before .before .before .before .before .pre .0)
+boarded-departures-at-requires c κs = few-of (c .before .before .before .before .before .before .pre .0)
 
 add-d : tie.Need-add-d
 add-d c = search needs

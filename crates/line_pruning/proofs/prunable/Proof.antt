@@ -2,7 +2,8 @@ use denote.Ref.{now}
 use mathlib.Core.Path.{_∙_}
 use native.Mathlib.Omega.{arith}
 use Rattle.trip_boarding.specs.Reads.{hitOf}
-use Rattle.line_pruning.proofs.Reading.{few, read-at, prunable-past, prunable-known, never}
+use Rattle.search_state.proofs.Part.{few-of}
+use Rattle.line_pruning.proofs.Reading.{read-at, prunable-past, prunable-known, never}
 use borrow.Author.Needs.{needs}
 use Rattle.line_pruning.proofs.prunable.Statement.{statement}
 use Rattle.line_pruning.proofs.prunable.Tie as tie
@@ -14,7 +15,7 @@ returns : tie.Need-returns
 returns c = let s = c .before .before .before .before .before in (λ e. absurd (never e), λ T Q k ag. prunable-past T Q (s .args .lay) k (now (s .args .built)) (now (s .args .work)) (hitOf (s .args .adj)) (s .args .trip) _ ag (s .pre .1 .1) (c .before .before .field .ensures .0) (c .if1 .taken))
 
 fifo-at-requires : tie.Need-fifo-at-requires
-fifo-at-requires c κs = few (c .before .before .before .before .before .pre .0)
+fifo-at-requires c κs = few-of (c .before .before .before .before .before .pre .0)
 
 add-at : tie.Need-add-at
 add-at c = search needs

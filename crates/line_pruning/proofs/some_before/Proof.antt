@@ -2,7 +2,8 @@ use denote.Ref.{now}
 use mathlib.Core.Path.{sym, _∙_}
 use native.Mathlib.Omega.{arith}
 use Prim.Native.Nat.{_-_, _≤_}
-use Rattle.line_pruning.proofs.Reading.{few, read-at, Walking, walking-start, walking-none, walking-below, walking-yes, walking-next, walking-end}
+use Rattle.search_state.proofs.Part.{few-of}
+use Rattle.line_pruning.proofs.Reading.{read-at, Walking, walking-start, walking-none, walking-below, walking-yes, walking-next, walking-end}
 use Rattle.line_pruning.proofs.some_before.Statement.{statement}
 use Rattle.line_pruning.proofs.some_before.Tie as tie
 
@@ -13,7 +14,7 @@ abbrev μ-loop : tie.MeasureT-loop
 μ-loop lay first p off work links h₀ k₀ h k = lay .trips - k
 
 links-at-requires : tie.Need-links-at-requires Inv-loop μ-loop
-links-at-requires c κs = few (c .before .pre .0)
+links-at-requires c κs = few-of (c .before .pre .0)
 
 loop-holds : tie.Need-loop-holds Inv-loop μ-loop
 loop-holds c = let s = c .before .before in (omega arith, walking-start (s .args .lay) (now (s .args .work)) (s .args .p) (s .args .off) (s .args .first) (s .pre .1))
@@ -37,16 +38,16 @@ add-field : tie.Need-add-field Inv-loop μ-loop
 add-field c =
     let c₁ = c .before .before .before .before .before .before in
     let s = c₁ .before .before in
-    let v = c .before .before .before .before .before .loop in let u = walking-below (s .args .lay) (now (s .args .work)) (s .args .p) (s .args .off) (s .args .first) (v .k) (v .h) (v .inv .1) (c .before .before .before .if1 .taken) (c .before .before .if2 .left) in omega (arith, u, c₁ .links-at .ensures, s .pre .0 .sections .stops, s .pre .0 .sections .trips, s .pre .0 .sections .lines)
+    let v = c .before .before .before .before .before .loop in let u = walking-below (s .args .lay) (now (s .args .work)) (s .args .p) (s .args .off) (s .args .first) (v .k) (v .h) (v .inv .1) (c .before .before .before .if1 .taken) (c .before .before .if2 .left) in omega (arith, u, c₁ .links-at .ensures, s .pre .0 .stops, s .pre .0 .trips, s .pre .0 .lines)
 
 field-requires : tie.Need-field-requires Inv-loop μ-loop
 field-requires c κs =
     let c₁ = c .before .before .before .before .before .before in
     let s = c₁ .before .before in
-    let v = c .before .before .before .before .before .loop in let u = walking-below (s .args .lay) (now (s .args .work)) (s .args .p) (s .args .off) (s .args .first) (v .k) (v .h) (v .inv .1) (c .before .before .before .if1 .taken) (c .before .before .if2 .left) in omega (arith, u, c₁ .links-at .ensures, s .pre .0 .sections .words)
+    let v = c .before .before .before .before .before .loop in let u = walking-below (s .args .lay) (now (s .args .work)) (s .args .p) (s .args .off) (s .args .first) (v .k) (v .h) (v .inv .1) (c .before .before .before .if1 .taken) (c .before .before .if2 .left) in omega (arith, u, c₁ .links-at .ensures, s .pre .0 .words)
 
 add-k : tie.Need-add-k Inv-loop μ-loop
-add-k c = let s = c .before .before .before .before .before .before .before .before .before in omega (arith, s .pre .0 .sections .trips, c .before .before .before .before .if1 .taken)
+add-k c = let s = c .before .before .before .before .before .before .before .before .before in omega (arith, s .pre .0 .trips, c .before .before .before .before .if1 .taken)
 
 loop-less : tie.Need-loop-less Inv-loop μ-loop
 loop-less c = omega (arith, c .before .before .before .before .if1 .taken)

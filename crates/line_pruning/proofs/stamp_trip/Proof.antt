@@ -1,25 +1,26 @@
 use denote.Ref.{now}
 use native.Mathlib.Omega.{arith}
 use lib.ListN.{length-set}
-use Rattle.line_pruning.proofs.Reading.{few, stamped-as}
+use Rattle.search_state.proofs.Part.{few-of}
+use Rattle.line_pruning.proofs.Reading.{stamped-as}
 use borrow.Author.Needs.{needs}
 use Rattle.line_pruning.proofs.stamp_trip.Statement.{statement}
 use Rattle.line_pruning.proofs.stamp_trip.Tie as tie
 
 trip-stamps-at-requires : tie.Need-trip-stamps-at-requires
-trip-stamps-at-requires c κs = few (c .before .pre .0)
+trip-stamps-at-requires c κs = few-of (c .before .pre .0)
 
 add-at : tie.Need-add-at
 add-at c = search needs
 
 boarded-offsets-at-requires : tie.Need-boarded-offsets-at-requires
-boarded-offsets-at-requires c κs = few (c .before .before .pre .0)
+boarded-offsets-at-requires c κs = few-of (c .before .before .pre .0)
 
 add-offset : tie.Need-add-offset
 add-offset c = search needs
 
 boarded-departures-at-requires : tie.Need-boarded-departures-at-requires
-boarded-departures-at-requires c κs = few (c .before .before .before .pre .0)
+boarded-departures-at-requires c κs = few-of (c .before .before .before .pre .0)
 
 add-departure : tie.Need-add-departure
 add-departure c = search needs
@@ -34,13 +35,13 @@ mul-work-2 : tie.Need-mul-work-2
 mul-work-2 c = search needs
 
 slice-write-work-2 : tie.Need-slice-write-work-2
-slice-write-work-2 c = let s = c .before .before .before .before in simp length-set (omega (arith, s .pre .0 .sections .words, s .pre .1, c .before .boarded-offsets-at .ensures))
+slice-write-work-2 c = let s = c .before .before .before .before in simp length-set (omega (arith, s .pre .0 .words, s .pre .1, c .before .boarded-offsets-at .ensures))
 
 mul-work-3 : tie.Need-mul-work-3
 mul-work-3 c = search needs
 
 slice-write-work-3 : tie.Need-slice-write-work-3
-slice-write-work-3 c = let s = c .before .before .before .before in simp length-set (omega (arith, s .pre .0 .sections .words, s .pre .1, c .boarded-departures-at .ensures))
+slice-write-work-3 c = let s = c .before .before .before .before in simp length-set (omega (arith, s .pre .0 .words, s .pre .1, c .boarded-departures-at .ensures))
 
 same-length : tie.Need-same-length
 same-length c = search needs

@@ -18,22 +18,22 @@ loop-holds : tie.Need-loop-holds Inv-loop μ-loop
 loop-holds c = let a = c .before in let x = a .args in (append-start _ _ _ _, omega arith)
 
 add-at : tie.Need-add-at Inv-loop μ-loop
-add-at c = let a = c .before .before .before .before in let x = a .args in let p = c .before .before .loop .inv in let z = append-sized (a .pre .0) (p .0) in omega (arith, z .sections .other-fits, z .sections .stops, z .sections .trips, a .pre .1 .0 .few)
+add-at c = let a = c .before .before .before .before in let x = a .args in let p = c .before .before .loop .inv in let z = append-sized (a .pre .0) (p .0) in omega (arith, z .other-fits, z .stops, z .trips, a .pre .1 .0 .few)
 
 mul-s : tie.Need-mul-s Inv-loop μ-loop
-mul-s c = let a = c .before .before .before .before in let x = a .args in let p = c .before .before .loop .inv in let z = append-sized (a .pre .0) (p .0) in omega (arith, z .sections .other-fits, z .sections .stops, z .sections .trips, a .pre .1 .0 .few)
+mul-s c = let a = c .before .before .before .before in let x = a .args in let p = c .before .before .loop .inv in let z = append-sized (a .pre .0) (p .0) in omega (arith, z .other-fits, z .stops, z .trips, a .pre .1 .0 .few)
 
 slice-read-s : tie.Need-slice-read-s Inv-loop μ-loop
-slice-read-s c = let a = c .before .before .before .before .before in let x = a .args in let p = c .before .before .before .loop .inv in let z = append-sized (a .pre .0) (p .0) in omega (arith, z .sections .other-fits, z .sections .words, a .pre .1 .0 .few)
+slice-read-s c = let a = c .before .before .before .before .before in let x = a .args in let p = c .before .before .before .loop .inv in let z = append-sized (a .pre .0) (p .0) in omega (arith, z .other-fits, z .words, a .pre .1 .0 .few)
 
 cast-s : tie.Need-cast-s Inv-loop μ-loop
-cast-s c = let a = c .before .before .before .before .before in let x = a .args in let p = c .before .before .before .loop .inv in let z = append-sized (a .pre .0) (p .0) in let s = append-stop _ (a .pre .1 .0) (p .0) (c .before .before .loop-test .taken) in omega (arith, s, z .sections .stops)
+cast-s c = let a = c .before .before .before .before .before in let x = a .args in let p = c .before .before .before .loop .inv in let z = append-sized (a .pre .0) (p .0) in let s = append-stop _ (a .pre .1 .0) (p .0) (c .before .before .loop-test .taken) in omega (arith, s, z .stops)
 
 append-one-requires : tie.Need-append-one-requires Inv-loop μ-loop
 append-one-requires c κs = let a = c .before .before .before .before .before .before in let x = a .args in let p = c .before .before .before .before .loop .inv in let z = append-sized (a .pre .0) (p .0) in (z, (append-stop _ (a .pre .1 .0) (p .0) (c .before .before .before .loop-test .taken), omega (arith, append-most _ _ _ _ (a .pre .0) (p .0) (omega (arith, p .1, a .pre .1 .0 .few)), a .pre .1 .1, c .before .before .before .loop-test .taken)))
 
 add-i : tie.Need-add-i Inv-loop μ-loop
-add-i c = let a = c .before .before .before .before .before .before .before .before .before in let x = a .args in let p = c .before .before .before .before .before .before .before .loop .inv in let z = append-sized (a .pre .0) (p .0) in omega (arith, a .pre .1 .0 .few, z .sections .stops)
+add-i c = let a = c .before .before .before .before .before .before .before .before .before in let x = a .args in let p = c .before .before .before .before .before .before .before .loop .inv in let z = append-sized (a .pre .0) (p .0) in omega (arith, a .pre .1 .0 .few, z .stops)
 
 loop-less : tie.Need-loop-less Inv-loop μ-loop
 loop-less c = omega arith

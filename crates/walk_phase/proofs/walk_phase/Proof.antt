@@ -1,6 +1,6 @@
 use denote.Ref.{now}
-use Rattle.walk_phase.proofs.From.{listed-kept}
-use Rattle.walk_phase.proofs.Phases.{turned-ready, turned-ground, sized-words, phase-fits, phase-flagged, phase-plain}
+use Rattle.search_state.proofs.Lists.{same-other, listed-kept}
+use Rattle.walk_phase.proofs.Phases.{turned-ready, turned-ground, phase-fits, phase-flagged, phase-plain}
 use borrow.Author.Needs.{needs}
 use Rattle.walk_phase.proofs.walk_phase.Statement.{statement}
 use Rattle.walk_phase.proofs.walk_phase.Tie as tie
@@ -24,7 +24,7 @@ append-stamped-requires : tie.Need-append-stamped-requires
 append-stamped-requires c κs =
     let c₁ = c .before .before .before .before .before .before .before .before in
     let a = c₁ .before .before .before .before .before .before .before .before .before .before in
-    let x = a .args in let p = c₁ .walk-all .ensures .0 in (sized-words (p .ready .sized), (listed-kept (a .pre .1 .1) (p .same) (c₁ .walk-all .ensures .1), phase-fits (x .ctx .lay) (x .ctx) (x .stamp) (now (x .tables)) (now (x .distances)) (now (x .patterns)) (now (x .work)) (now (x .labels)) (now (x .label-distances)) (x .h) (a .pre .0) p))
+    let x = a .args in let p = c₁ .walk-all .ensures .0 in (p .ready .sized .sections, (listed-kept (a .pre .1 .1) (same-other (p .same)) (c₁ .walk-all .ensures .1), phase-fits (x .ctx .lay) (x .ctx) (x .stamp) (now (x .tables)) (now (x .distances)) (now (x .patterns)) (now (x .work)) (now (x .labels)) (now (x .label-distances)) (x .h) (a .pre .0) p))
 
 same-length-4 : tie.Need-same-length-4
 same-length-4 c = search needs
