@@ -1,5 +1,5 @@
 // delay_lookup: which delays a stop time has, and the margin of tbr.rs (document 01, item 4), from the delay tables (crate `delay_rows`).
-// Place: a leaf. Its calls: `leaf_calls`.
+// Place: a leaf. Its calls: `delay_call`.
 // Specs (inner): what a yes to the door's questions gives (Sane), how the code searches (Halving).
 // Proves: every function equal to its definition (`delay_rows` specs/Delays), the searches by halving among them; that a door
 // without a no gives tables with one row for a trip and one for a stop time, and delays in their range; that without a delay row the

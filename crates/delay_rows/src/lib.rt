@@ -2,7 +2,7 @@
 // Two tables of u32 numbers are lent. A delay row has 2: trip (4294967295 for an unknown trip) and delay. A stop row has 5:
 // delay row, sequence, flags (1 departure given, 2 arrival given, 4 skipped), departure delay, arrival delay. Delays are the
 // bits of an i32; what they mean is said in crate `signed`, what they do to a stop time in crate `stop_delay`.
-// Place: a leaf. Its calls: `leaf_calls`.
+// Place: a leaf. Its calls: `delay_call`.
 // Specs: Delays (what the tables say of a stop time, the margin), Flat (the tables from two slices), Door (questions 4, 5 and
 // 6 of the rows); these are claims. Asked (how the code asks) is inner.
 // Proves: each question is answered as its definition, on every input.

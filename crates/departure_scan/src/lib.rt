@@ -65,9 +65,7 @@ fn first_not_before(tables: &[u32], c: Counts, list: &[u32], m: u32) -> usize
     let mut hi = list.len() / 2;
     while lo < hi {
         let mid = lo + (hi - lo) / 2;
-        if query_input::row_departure(tables, c, departures::departure_row(list, mid))
-            < m as usize
-        {
+        if departures::row_departure(tables, c, departures::departure_row(list, mid)) < m as usize {
             lo = mid + 1;
             continue;
         }

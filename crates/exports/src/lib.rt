@@ -11,9 +11,9 @@ ghost use Rattle.leaf_calls.specs.CellSetCall.{created, resized};
 ghost use Rattle.cell_bitset.specs.CellSet.{withCell, held, meets, union, holdsNone};
 ghost use Rattle.leaf_calls.specs.WalkCall.{walkDuration};
 ghost use Rattle.walk_time.specs.Walk.{roundCount};
-ghost use Rattle.leaf_calls.specs.FrequencyCall.{freqOutcome};
+ghost use Rattle.frequency_call.specs.FrequencyCall.{freqOutcome};
 ghost use Rattle.leaf_calls.specs.StopDelayCall.{departureOutcome, arrivalOutcome, skippedOutcome};
-ghost use Rattle.leaf_calls.specs.DelayCall.{marginOutcome, delayAtOutcome};
+ghost use Rattle.delay_call.specs.DelayCall.{marginOutcome, delayAtOutcome};
 ghost use Rattle.label_call.specs.Calls.{labelOutcome, storeOutcome, loadAnswer};
 ghost use Rattle.label.specs.declared.Label.the-variants.{Access, Transit, Walk};
 ghost use Rattle.leaf_calls.specs.ClockCall.{serviceSecond};
@@ -28,11 +28,11 @@ ghost use Rattle.query_call.specs.Call.{runTbrOutcome, queryOutcome};
 ghost use Rattle.sizes.specs.Counts.{countsOf, queryCountsOf};
 ghost use Rattle.exports.specs.Shown.{shown, shownOf, shownTransfers, shownTransfersOf};
 use cell_bitset::CellBitSet;
+use delay_call::DelayAt;
 use door::Answer;
+use frequency_call::FreqAnswer;
 use label_call::LabelAnswer;
 use leaf_calls::CellSetAnswer;
-use leaf_calls::DelayAt;
-use leaf_calls::FreqAnswer;
 use lines_call::Grouped;
 use query_reply::Reply;
 use sizes::QuerySizes;
@@ -158,7 +158,7 @@ pub extern "C" fn savoiky_freq_board(
 ) -> FreqAnswer
     ensures { λ r. ⌜ r ≡ freqOutcome count (now (windows .entry)) base dep after ⌝ }
 {
-    leaf_calls::freq_board(count, windows, base, dep, after)
+    frequency_call::freq_board(count, windows, base, dep, after)
 }
 
 // The departure under delays: flags 1 departure given at the stop, 2 arrival given, 4 skipped, added. By its own delay where
@@ -212,7 +212,7 @@ pub extern "C" fn savoiky_margin(
     ensures { λ r. ⌜ r ≡ marginOutcome trips «delay_row_count» «stop_row_count»
         (now («delay_rows» .entry)) (now («stop_rows» .entry)) 21600 ⌝ }
 {
-    leaf_calls::capped_margin(
+    delay_call::capped_margin(
         trips,
         delay_row_count,
         stop_row_count,
@@ -236,7 +236,7 @@ pub extern "C" fn savoiky_delay_at(
     ensures { λ r. ⌜ r ≡ delayAtOutcome trips «delay_row_count» «stop_row_count»
         (now («delay_rows» .entry)) (now («stop_rows» .entry)) trip sequence ⌝ }
 {
-    leaf_calls::delay_at(
+    delay_call::delay_at(
         trips,
         delay_row_count,
         stop_row_count,

@@ -1,10 +1,10 @@
 // frequency: boarding a frequency trip (document 01, item 3; GTFS frequencies.txt), the Rust's `earliest_freq_board`.
-// Place: a leaf. Its call: `leaf_calls`.
+// Place: a leaf. Its call: `frequency_call`.
 // Specs: Gtfs (a claim) has windows, runs and the earliest boarding, found by trying the runs one by one; for laws, Reading says
 // in plain terms what the earliest boarding is and Rust what the Rust computes; Found (inner) has how the code hands on a run.
 // Proves: the code, which divides, finds the boarding of the definition; that is the earliest, in the first window of equals,
 // and none is found only where there is none (Reading, with the sizes of its numbers); the Rust's arithmetic with its limit of
-// 32 tries gives the same departure and shift (Rust). Worked examples: `leaf_calls`.
+// 32 tries gives the same departure and shift (Rust). Worked examples: `frequency_call`.
 // Assumes nothing.
 ghost use mathlib.Core.Path.{_≡_};
 ghost use Prim.Native.Nat.{_≤_, _<_};

@@ -1,11 +1,7 @@
 pub mod Clock
 pub mod ClockExamples
-pub mod FrequencyCall
-pub mod FrequencyExamples
 pub mod StopDelayExamples
 pub mod CellSetExamples
-pub mod DelayCall
-pub mod DelayExamples
 pub mod StopDelayCall
 pub mod WalkExamples
 pub mod WalkCall

@@ -30,7 +30,8 @@ use Rattle.line_layout.specs.Layout.{lineRunAt}
 use Rattle.line_layout.specs.Listed.{lineRunIn, lineRunsOk, entriesOk}
 use Rattle.query_types.specs.declared.Lengths.{Lengths}
 use Rattle.query_input.specs.Lent.{Lent, lineRuns, lineEntries, stopRuns as stopRunsOf, departureRows, marksAt, transferRunsAt, eventCount}
-use Rattle.query_door.specs.Door.{queryQuestion1, readOk, queryQuestion2, queryQuestion3, columnAt, columnBelow, lineNumbers, queryQuestion4, markRanges, queryQuestion5, notEarlier, partOrder, departureOrder, queryQuestion6, queryVerdict}
+use Rattle.departure_order.specs.Order.{notEarlier, partOrder, departureOrder}
+use Rattle.query_door.specs.Door.{queryQuestion1, readOk, queryQuestion2, queryQuestion3, columnAt, columnBelow, lineNumbers, queryQuestion4, markRanges, queryQuestion5, queryQuestion6, queryVerdict}
 use Rattle.promise.specs.Chain.{SameRides, Chain, DoorElse, TransfersPass, callersList}
 use Rattle.promise.proofs.Building.{T1, T2, Y, lines-facts, sort-facts, sort-made, out-runs, out-entries, cut, chain-tables}
 use Rattle.promise.proofs.Alike.{count-same, time-same, departure-same}

@@ -12,7 +12,8 @@ use Rattle.model.specs.Search.{targetsFrom, targetCells, holdsTarget, useArcFla
 use Rattle.model.specs.Promise.{effective, SteadyDay}
 use Rattle.plain_days.proofs.DayTests.{allOf, allIn, anyIn, steady-when}
 use Rattle.query_input.specs.Lent.{Lent, tablesOf, queryOf}
-use Rattle.query_door.specs.Door.{queryQuestion1, readOk, writtenOk, queryQuestion2, transferRunsOk, queryQuestion3, columnBelow, lineNumbers, queryNumbers, queryQuestion4, markRanges, transferRanges, settingRanges, walkRanges, queryQuestion5, notEarlier, partOrder, departureOrder, columnRises, queryQuestion6, queryVerdict}
+use Rattle.departure_order.specs.Order.{notEarlier, partOrder, departureOrder}
+use Rattle.query_door.specs.Door.{queryQuestion1, readOk, writtenOk, queryQuestion2, transferRunsOk, queryQuestion3, columnBelow, lineNumbers, queryNumbers, queryQuestion4, markRanges, transferRanges, settingRanges, walkRanges, queryQuestion5, columnRises, queryQuestion6, queryVerdict}
 use Rattle.tables.specs.Door.{countsOk, slicesOk, tripRuns, stopTimeNumbers, edgeNumbers, stopTimeRanges, tripRanges, windowRanges, edgeRanges, edgeRises, runsOk, numbersOk, rangesOk, orderOk}
 use Rattle.departures.specs.Listed.{runIn, stopRunsOk, rowNumbers, rowsOk, rowAtStop, stopRowsOk, atStopsOk, listedOk}
 use Rattle.line_layout.specs.Listed.{lineRunIn, lineRunsOk, entriesOk}

@@ -101,7 +101,7 @@ fn search(
 {
     let lay = query_types::lay_for(counts.timetable, counts.lines);
     let net = search_begin::net_of(counts, tables, built, distances, query);
-    let flags_off = words::field(query, 6) == 1;
+    let flags_off = query_input::flags_off(query);
     let flagged = in_use(
         rust,
         counts,

@@ -15,7 +15,8 @@ use Rattle.tables.specs.Timetable.{Timetable, timetable}
 use Rattle.departures.specs.Departures.{rowAt, rowDeparture, runLength, departuresOf}
 use Rattle.model.specs.Door.{InOrder, EgressRising}
 use Rattle.query_input.specs.Lent.{egressAt, stopRuns, departureRows, Lent, tablesOf, queryOf}
-use Rattle.query_door.specs.Door.{columnAt, notEarlier, partOrder, departureOrder, columnRises, egressOrder}
+use Rattle.departure_order.specs.Order.{notEarlier, partOrder, departureOrder}
+use Rattle.query_door.specs.Door.{columnAt, columnRises, egressOrder}
 use Rattle.query_input.proofs.Laws.{order-next}
 
 -- from each to the next

@@ -12,7 +12,8 @@ use Rattle.line_layout.specs.Listed.{lineRunIn, lineRunsOk, entriesOk}
 use Rattle.event_transfers.specs.Transfers.{eventsBefore}
 use Rattle.query_types.specs.declared.QueryCounts.{QueryCounts}
 use Rattle.query_types.specs.declared.Lengths.{Lengths}
-use Rattle.query_door.specs.Door.{queryQuestion1, readOk, writtenOk, queryQuestion2, transferRunsOk, queryQuestion3, columnBelow, lineNumbers, queryNumbers, queryQuestion4, markRanges, transferRanges, settingRanges, walkRanges, queryQuestion5, notEarlier, partOrder, departureOrder, columnRises, queryQuestion6, queryVerdict}
+use Rattle.departure_order.specs.Order.{notEarlier, partOrder, departureOrder}
+use Rattle.query_door.specs.Door.{queryQuestion1, readOk, writtenOk, queryQuestion2, transferRunsOk, queryQuestion3, columnBelow, lineNumbers, queryNumbers, queryQuestion4, markRanges, transferRanges, settingRanges, walkRanges, queryQuestion5, columnRises, queryQuestion6, queryVerdict}
 
 -- a stop time: stop, arrival, departure; a trip: first stop time, count
 unfoldable pub time : ℕ → ℕ → ℕ → List ℕ

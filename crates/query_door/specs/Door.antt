@@ -6,12 +6,12 @@ use lib.ListN.{length, getD}
 use lib.Dec.{ltb, leb, eqb}
 use Rattle.loops.specs.Iter.{everyIn}
 use Rattle.door.specs.Door.{ask, timeLimit}
-use Rattle.tables.specs.Timetable.{Timetable, timetable}
+use Rattle.tables.specs.Timetable.{timetable}
 use Rattle.tables.specs.Door.{countsOk, slicesOk, runsOk, numbersOk, rangesOk, orderOk}
-use Rattle.departures.specs.Departures.{rowAt, rowDeparture, runLength, departuresOf}
 use Rattle.departures.specs.Listed.{runIn, stopRunsOk, listedOk}
 use Rattle.line_layout.specs.Listed.{lineRunsOk, entriesOk}
 use Rattle.label.specs.Table.{lengthsRight}
+use Rattle.departure_order.specs.Order.{departureOrder}
 use Rattle.delay_rows.specs.Door.{delayNumbers, delayRanges, delayOrder}
 use Rattle.query_types.specs.declared.QueryCounts.{QueryCounts}
 use Rattle.query_types.specs.declared.Lengths.{Lengths}
@@ -94,18 +94,7 @@ queryQuestion5 t built transfers q n rows =
     (rangesOk t (n .timetable) && (markRanges built n && transferRanges transfers rows))
     && (settingRanges q && (walkRanges q n && delayRanges (delaysOf q n)))
 
--- 6: ARE EDGES, DELAY ROWS, STOP ROWS, EGRESS STOPS (STRICTLY RISING) AND DEPARTURES IN ORDER? Each row against the one before it. In a
--- part of the departures row k is not earlier:
-unfoldable pub notEarlier : Timetable → List ℕ → ℕ → Bool
-notEarlier T rows k = leb (rowDeparture T (rowAt rows (k - 1))) (rowDeparture T (rowAt rows k))
-
-unfoldable pub partOrder : Timetable → List ℕ → ℕ → Bool
-partOrder T rows count = everyIn (notEarlier T rows) 1 count
-
--- in the departures of each stop
-unfoldable pub departureOrder : Timetable → List ℕ → List ℕ → ℕ → Bool
-departureOrder T runs rows stops = everyIn (λ s. partOrder T (departuresOf runs rows s) (runLength runs s)) 0 stops
-
+-- 6: ARE EDGES, DELAY ROWS, STOP ROWS, EGRESS STOPS (STRICTLY RISING) AND DEPARTURES IN ORDER? Each row against the one before it
 -- in a column each number is above the one before it
 unfoldable pub columnRises : List ℕ → ℕ → ℕ → ℕ → Bool
 columnRises l first stride count = everyIn (λ i. ltb (columnAt l first stride (i - 1)) (columnAt l first stride i)) 1 count

@@ -10,26 +10,22 @@
 ghost use mathlib.Core.Path.{_≡_};
 ghost use Prim.Native.Nat.{_+_, _*_, _≤_, _-_, _<_};
 ghost use lib.ListN.{length};
-ghost use Rattle.tables.specs.Timetable.{timetable};
-ghost use Rattle.tables.specs.Sane.{SlicesOk, CountsOk, RunsOk};
+ghost use Rattle.tables.specs.Sane.{SlicesOk};
 ghost use Rattle.query_input.specs.Lent.{transferRunsAt, builtSize, marksAt, querySize, delaysOf, stopRuns, departureRows, lent};
 ghost use Rattle.query_door.specs.Door.{queryQuestion1, readOk, writtenOk, queryQuestion2, transferRunsOk, queryQuestion3, columnBelow};
 ghost use Rattle.query_door.specs.Door.{columnAt, lineNumbers, queryNumbers, queryQuestion4, markRanges, transferRanges, settingRanges};
-ghost use Rattle.query_door.specs.Door.{walkRanges, queryQuestion5, partOrder, departureOrder, columnRises, queryQuestion6, queryVerdict};
+ghost use Rattle.query_door.specs.Door.{walkRanges, queryQuestion5, columnRises, queryQuestion6, queryVerdict};
 ghost use Rattle.query_types.specs.Layout.{workSizeOf};
 ghost use Rattle.query_input.specs.Sane.{Limits, ReadSized, Placed};
 ghost use Rattle.query_door.specs.Columns.{Column};
 ghost use mathlib.Core.Bool.{true};
-ghost use lib.Dec.{ltb, leb};
-ghost use Rattle.departures.specs.Departures.{rowAt, rowDeparture, departuresOf, runLength};
-ghost use Rattle.departures.specs.Listed.{RunsListed, RowsKnown, RowsListed};
-ghost use Rattle.query_door.specs.Once.{Leaving, RunRight, InTurn, queryOk, tablesOk, Passed};
+ghost use lib.Dec.{ltb};
+ghost use Rattle.departures.specs.Listed.{RowsListed};
+ghost use Rattle.query_door.specs.Once.{queryOk, tablesOk, Passed};
 ghost use Rattle.delay_rows.specs.Asked.{rowsAsked};
-use departures::DepartureRow;
 use door::both;
 use query_types::Lengths;
 use query_types::QueryCounts;
-use tables::Counts;
 
 pub fn work_size(counts: QueryCounts) -> usize
     requires { ⌜ Limits counts ⌝ }
@@ -326,72 +322,6 @@ fn ranges_ok(
     )
 }
 
-// The departure of row k of a stop's part.
-fn departure_at(tables: &[u32], c: Counts, rows: &[u32], count: usize, k: usize) -> usize
-    requires { ⌜ RowsKnown (now tables) c (now rows) count ⌝ ∗ ⌜ k < count ⌝ }
-    ensures { λ b. ⌜ b ≡ rowDeparture (timetable (now (tables .entry)) c) (rowAt (now (rows .entry)) k) ⌝ }
-{
-    query_input::row_departure(tables, c, departures::departure_row(rows, k))
-}
-
-fn in_order(before: usize, after: usize) -> bool
-    ensures { λ b. ⌜ b ≡ leb before after ⌝ }
-{
-    before <= after
-}
-
-// Question 6 of a stop's part: is no row earlier than the one before it?
-fn part_order(tables: &[u32], c: Counts, rows: &[u32], count: usize) -> bool
-    requires { ⌜ RowsKnown (now tables) c (now rows) count ⌝ }
-    ensures { λ b. ⌜ b ≡ partOrder (timetable (now (tables .entry)) c) (now (rows .entry)) count ⌝ }
-{
-    if count == 0 {
-        return true;
-    }
-    let mut last = departure_at(tables, c, rows, count, 0);
-    let mut k: usize = 1;
-    while k < count {
-        let next = departure_at(tables, c, rows, count, k);
-        if !in_order(last, next) {
-            return false;
-        }
-        last = next;
-        k += 1;
-    }
-    true
-}
-
-// Of a stop.
-fn stop_order(tables: &[u32], c: Counts, runs: &[u32], rows: &[u32], d: usize, s: usize) -> bool
-    requires { ⌜ RowsListed (now tables) c (now runs) (now rows) d ⌝ ∗ ⌜ s < c .stops ⌝ }
-    ensures { λ b. ⌜ b ≡ partOrder (timetable (now (tables .entry)) c) (departuresOf (now (runs .entry)) (now (rows .entry)) s)
-        (runLength (now (runs .entry)) s) ⌝ }
-{
-    let r = departures::stop_run(runs, s);
-    part_order(
-        tables,
-        c,
-        departures::departures_of(rows, r.first, r.length),
-        r.length,
-    )
-}
-
-// Of every stop.
-fn departure_order(tables: &[u32], c: Counts, runs: &[u32], rows: &[u32], d: usize) -> bool
-    requires { ⌜ RowsListed (now tables) c (now runs) (now rows) d ⌝ }
-    ensures { λ b. ⌜ b ≡ departureOrder (timetable (now (tables .entry)) c) (now (runs .entry)) (now (rows .entry)) (c .stops) ⌝ }
-{
-    let n = c.stops;
-    let mut s: usize = 0;
-    while s < n {
-        if !stop_order(tables, c, runs, rows, d, s) {
-            return false;
-        }
-        s += 1;
-    }
-    true
-}
-
 // Question 6 of an egress stop: is it above the one before it? They begin at `at`.
 fn stop_rises(query: &[u32], at: usize, i: usize) -> bool
     requires { ⌜ 0 < i ⌝ ∗ ⌜ at + i * 2 < length (now query) ⌝ }
@@ -424,7 +354,7 @@ fn order_ok(tables: &[u32], built: &[u32], query: &[u32], counts: QueryCounts) -
     ensures { λ r. ⌜ r ≡ queryQuestion6 (now (tables .entry)) (now (built .entry)) (now (query .entry)) counts ⌝ }
 {
     let c = counts.timetable;
-    let listed = departure_order(
+    let listed = departure_order::departure_order(
         tables,
         c,
         query_input::stop_runs(built, counts),
@@ -438,63 +368,6 @@ fn order_ok(tables: &[u32], built: &[u32], query: &[u32], counts: QueryCounts) -
             delays_ok(6, query, counts),
         ),
     )
-}
-
-// Questions 4 and 6 of a listed row of stop s: when it leaves, plus 1; 0 where its numbers or its stop are not right.
-fn leaving(tables: &[u32], c: Counts, s: usize, r: DepartureRow) -> usize
-    requires { ⌜ CountsOk c ⌝ ∗ ⌜ SlicesOk (now tables) c ⌝ ∗ ⌜ RunsOk (now tables) c ⌝ }
-    ensures { λ b. ⌜ (0 < b → Leaving (now (tables .entry)) c s r b) ⌝ }
-{
-    if !departures::row_numbers(tables, c, r) {
-        return 0;
-    }
-    let at = tables::trip(tables, c, r.trip, 0) + r.offset;
-    if tables::time(tables, c, at, 0) != s {
-        return 0;
-    }
-    tables::time(tables, c, at, 2) + 1
-}
-
-// Of the rows of stop s from `first` on, up to `end`: is each right, and none earlier than the one before it?
-fn run_right(tables: &[u32], c: Counts, rows: &[u32], s: usize, first: usize, end: usize) -> bool
-    requires { ⌜ CountsOk c ⌝ ∗ ⌜ SlicesOk (now tables) c ⌝ ∗ ⌜ RunsOk (now tables) c ⌝ ∗ ⌜ end * 2 ≤ length (now rows) ⌝ }
-    ensures { λ b. ⌜ (b ≡ true → RunRight (now (tables .entry)) c (now (rows .entry)) s first end) ⌝ }
-{
-    let mut last: usize = 1;
-    let mut k = first;
-    while k < end {
-        let next = leaving(tables, c, s, departures::departure_row(rows, k));
-        if next < last {
-            return false;
-        }
-        last = next;
-        k += 1;
-    }
-    true
-}
-
-// Of all departures, each read once. Only where the stops' runs follow one another and leave no row out; else false.
-fn in_turn(tables: &[u32], c: Counts, runs: &[u32], rows: &[u32], d: usize) -> bool
-    requires { ⌜ SlicesOk (now tables) c ⌝ ∗ ⌜ RunsOk (now tables) c ⌝ ∗ ⌜ RunsListed c (now runs) d ⌝
-        ∗ ⌜ length (now rows) ≡ d * 2 ⌝ }
-    ensures { λ b. ⌜ (b ≡ true → InTurn (now (tables .entry)) c (now (runs .entry)) (now (rows .entry)) d) ⌝ }
-{
-    let n = c.stops;
-    let mut end: usize = 0;
-    let mut s: usize = 0;
-    while s < n {
-        let r = departures::stop_run(runs, s);
-        let first = r.first;
-        if first != end {
-            return false;
-        }
-        end += r.length;
-        if !run_right(tables, c, rows, s, first, end) {
-            return false;
-        }
-        s += 1;
-    }
-    end == d
 }
 
 // Questions 4 to 6 of the query's numbers.
@@ -561,7 +434,7 @@ fn passed(
     }
     let runs = query_input::stop_runs(built, counts);
     let listed = query_input::departure_rows(built, counts);
-    in_turn(tables, counts.timetable, runs, listed, counts.departures)
+    departure_order::in_turn(tables, counts.timetable, runs, listed, counts.departures)
 }
 
 // THE QUESTIONS: the number of the first that is answered no, or 0.

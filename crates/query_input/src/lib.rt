@@ -4,18 +4,13 @@
 // Proves: each function meets its definition; in proofs/Laws that what the door admits is what the model's door admits.
 // Assumes nothing.
 ghost use mathlib.Core.Path.{_≡_};
-ghost use Prim.Native.Nat.{_+_, _*_, _≤_};
-ghost use lib.ListN.{length};
-ghost use Rattle.tables.specs.Timetable.{timetable};
-ghost use Rattle.tables.specs.Sane.{CountsOk, SlicesOk, RunsOk};
-ghost use Rattle.departures.specs.Departures.{rowDeparture};
-ghost use Rattle.departures.specs.Listed.{RowKnown};
+ghost use Prim.Native.Nat.{_+_, _*_, _≤_, _<_};
+ghost use lib.ListN.{length, getD};
+ghost use lib.Dec.{eqb};
 ghost use Rattle.query_input.specs.Lent.{marksAt, transferRunsAt, querySize, section, lineRuns, lineEntries, stopRuns, departureRows};
 ghost use Rattle.query_input.specs.Lent.{delayRows, stopRows, egressPart, transferRuns, transferRows};
 ghost use Rattle.query_input.specs.Sane.{Limits};
-use departures::DepartureRow;
 use query_types::QueryCounts;
-use tables::Counts;
 
 // Sections as parts of their slice.
 fn part(s: &[u32], first: usize, count: usize) -> &[u32]
@@ -140,10 +135,10 @@ pub fn transfer_rows(counts: QueryCounts, area: usize) -> usize
     }
 }
 
-// When a listed departure leaves.
-pub fn row_departure(tables: &[u32], c: Counts, r: DepartureRow) -> usize
-    requires { ⌜ CountsOk c ⌝ ∗ ⌜ SlicesOk (now tables) c ⌝ ∗ ⌜ RunsOk (now tables) c ⌝ ∗ ⌜ RowKnown (now tables) c r ⌝ }
-    ensures { λ b. ⌜ b ≡ rowDeparture (timetable (now (tables .entry)) c) r ⌝ }
+// Is the switch on that puts arc flags off?
+pub fn flags_off(query: &[u32]) -> bool
+    requires { ⌜ 6 < length (now query) ⌝ }
+    ensures { λ r. ⌜ r ≡ eqb (getD (now (query .entry)) 6 0) 1 ⌝ }
 {
-    tables::time(tables, c, tables::trip(tables, c, r.trip, 0) + r.offset, 2)
+    query[6] == 1
 }

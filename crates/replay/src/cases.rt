@@ -12,8 +12,8 @@ use crate::words::part;
 use crate::words::rest;
 use crate::words::same_words;
 use cell_bitset::CellBitSet;
+use delay_call::DelayAt;
 use door::Answer;
-use leaf_calls::DelayAt;
 
 fn answered(a: Answer, code: u32, value: u32) -> bool {
     both(a.code == code, a.value == value)

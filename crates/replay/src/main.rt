@@ -2,6 +2,7 @@
 // The list is the program's standard input (`stdin`), a case a line; `beside/run list` writes it by asking the Rust of
 // the port alone, and beside/list.rs says what each line holds. The program prints only how many lines it replayed and
 // how many differed.
+// Place: a program; it has no specs.
 // Proves: that it is safe and ends. Assumes the contracts of the kit's io and libc.
 mod building;
 mod cases;

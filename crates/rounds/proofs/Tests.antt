@@ -1,21 +1,10 @@
--- The small tests of a round: its change time, whether anything is left to do. Assumes nothing.
-use Prim.Native.Nat.{ℕ, zero, suc}
-use mathlib.Core.Path.{_≡_, refl, sym, ap, _∙_}
+-- The small tests of a round: whether anything is left to do. Assumes nothing.
+use Prim.Native.Nat.{ℕ}
+use mathlib.Core.Path.{_≡_, sym, ap, _∙_}
 use mathlib.Core.Bool.{Bool, true, false, not, _&&_, _||_}
 use native.Mathlib.Omega.{arith}
 use lib.Dec.{eqb}
 use borrow.Author.Tests.{eq-eqb, ne-eqb}
-use Rattle.model.specs.Tables.{Query, changeBefore}
-
-pub change-first : (Q : Query) (r : ℕ) → r ≡ 0 → changeBefore Q r ≡ 0
-unfolding changeBefore
-change-first Q zero e = refl
-change-first Q (suc r) e = absurd (omega (arith, e))
-
-pub change-later : (Q : Query) (r change : ℕ) → (r ≡ 0 → ⊥) → Q .change ≡ change → changeBefore Q r ≡ change
-unfolding changeBefore
-change-later Q zero change h e = absurd (h refl)
-change-later Q (suc r) change h e = e
 
 module _ (flagged : Bool) (k m : ℕ) where
   pub idle-not : (k ≡ 0 → ⊥) → false ≡ (eqb k 0 && (not flagged || eqb m 0))

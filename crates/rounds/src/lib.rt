@@ -6,7 +6,6 @@
 // Assumes nothing.
 ghost use mathlib.Core.Path.{_≡_};
 ghost use lib.ListN.{length};
-ghost use Rattle.model.specs.Tables.{Query, changeBefore};
 ghost use Rattle.search_state.specs.View.{memory};
 ghost use Rattle.rounds.specs.Round.{BeforeRound, Round, idleHead, read, filled};
 ghost use mathlib.Core.Bool.{_||_};
@@ -18,13 +17,6 @@ use query_types::Context;
 use query_types::Head;
 use query_types::Phase;
 use query_types::Turn;
-
-// The change time before a boarding in round r: none in the first.
-fn change_before(r: u32, change: u32) -> u32
-    ensures { λ x. ⌜ ((Q : Query) → Q .change ≡ change → changeBefore Q r ≡ x) ⌝ }
-{
-    if r == 0 { 0 } else { change }
-}
 
 // ONE ROUND: the segments in `from` are ridden, the stops of lay.other boarded at; then walks. Segments are queued in `queue`.
 fn round(
@@ -53,7 +45,7 @@ fn round(
         (now (queue .exit)) ⌝ }
 {
     let stamp = r + 2;
-    let change = change_before(r, ctx.change);
+    let change = trip_boarding::change_before(r, ctx.change);
     let p = Phase {
         context: ctx,
         stamp,

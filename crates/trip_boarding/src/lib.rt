@@ -1,4 +1,4 @@
-// trip_boarding: which trips a query permits, the delays of a stop time, and boarding a trip; these only read.
+// trip_boarding: which trips a query permits, the delays of a stop time, the change time, and boarding a trip; these only read.
 // Delay rows and stop rows are two slices of their own.
 // Place: the search.
 // Specs (inner): what is read, and which tables and queries agree with it (Reads); the boarding of a frequency trip (Frequency).
@@ -16,7 +16,7 @@ ghost use Rattle.tables.specs.Timetable.{timetable};
 ghost use Rattle.tables.specs.Sane.{Sane};
 ghost use Rattle.delay_rows.specs.Flat.{delayRowCount, delayRowAt, delayTables};
 ghost use Rattle.delay_lookup.specs.Sane.{DelayRows};
-ghost use Rattle.model.specs.Tables.{Tables, Query, modeWanted, usable, permitted, noPickup};
+ghost use Rattle.model.specs.Tables.{Tables, Query, modeWanted, usable, permitted, noPickup, changeBefore};
 ghost use Rattle.model.specs.Search.{delayOf, delayAt, skipped, departureNow, arrivalNow, boardAt};
 ghost use Rattle.trip_boarding.specs.Reads.{hitOf, Known, Ground, Event, Agree, Asks};
 ghost use Rattle.trip_boarding.specs.Frequency.{freqBoardAt};
@@ -236,4 +236,11 @@ pub fn barred(
         unfit,
         skipped(tables, c, delay_rows, stop_rows, adj, trip, off),
     )
+}
+
+// The change time before a boarding in round r: none in the first.
+pub fn change_before(r: u32, change: u32) -> u32
+    ensures { λ x. ⌜ ((Q : Query) → Q .change ≡ change → changeBefore Q r ≡ x) ⌝ }
+{
+    if r == 0 { 0 } else { change }
 }

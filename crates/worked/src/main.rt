@@ -1,6 +1,7 @@
 // worked: the program behind ./run. By the exported calls alone it answers the worked examples of document 01's leaves,
 // builds and asks Timetable K (k), a second one (second) and a larger one (town), and prints the answers with their legs for a
 // person to read; the gate holds what it prints to the file `stdout`.
+// Place: a program; it has no specs.
 // Proves: that it is safe and ends. Assumes the contracts of the kit's io and libc.
 mod asking;
 mod building;

@@ -1,7 +1,5 @@
-use mathlib.Core.Path.{sym, ap}
-use Prim.Native.Nat.{ℕ}
+use mathlib.Core.Path.{sym}
 use denote.Ref.{now}
-use lib.Dec.{eqb}
 use native.Mathlib.Omega.{arith}
 use Rattle.query_call.proofs.Given.{flagging, askable, lends, sized-at, started, ended}
 use borrow.Author.Needs.{needs}
@@ -16,8 +14,8 @@ net-of-requires c κs =
     let c₁ = c .before .before .before .before .before .before .before .before .before .before .before .before in
     askable (c₁ .pre .admitted)
 
-field-requires : tie.Need-field-requires
-field-requires c κs =
+flags-off-requires : tie.Need-flags-off-requires
+flags-off-requires c κs =
     let c₁ = c .before .before .before .before .before .before .before .before .before .before .before .before .before in
     omega (arith, c₁ .pre .admitted .sized .queryIs)
 
@@ -67,7 +65,7 @@ returns c =
     let c₄ = c₃ .before in
     let c₅ = c₄ .before in
     let s = c₅ .before .before .before .before .before .before .before .before .before .before .before .before in
-    let A = s .pre .admitted in ended (s .args .rust) (c₁ .rounds .ensures) (c₂ .in-use .ensures (now (s .args .distances)) (now (s .args .query)) (c₄ .net-of .ensures _ _ A (lends A)) (ap (λ (v : ℕ). eqb v 1) (sym (c₃ .field .ensures .0)))) (c₅ .lay-for .ensures)
+    let A = s .pre .admitted in ended (s .args .rust) (c₁ .rounds .ensures) (c₂ .in-use .ensures (now (s .args .distances)) (now (s .args .query)) (c₄ .net-of .ensures _ _ A (lends A)) (sym (c₃ .flags-off .ensures))) (c₅ .lay-for .ensures)
 
 pub search-spec : {M : Type 1} → statement M
 search-spec =
@@ -75,7 +73,7 @@ search-spec =
     (tie.spec
     lay-for-requires
     net-of-requires
-    field-requires
+    flags-off-requires
     in-use-requires
     begin-requires
     shared-slice-read-change

@@ -1,6 +1,7 @@
 use Prim.Native.Nat.{ℕ}
 use Rattle.tables.specs.Timetable.{timetable}
-use Rattle.query_door.specs.Door.{departureOrder, queryQuestion6}
+use Rattle.departure_order.specs.Order.{departureOrder}
+use Rattle.query_door.specs.Door.{queryQuestion6}
 use mathlib.Core.Path.{_∙_, ap₂}
 use mathlib.Core.Bool.{_&&_}
 use mathlib.Core.List.{List}

@@ -6,7 +6,7 @@ use lib.ListN.{length}
 use denote.Ref.{now}
 use borrow.Author.Tests.{not-false}
 use Rattle.query_input.specs.Lent.{departureRows}
-use Rattle.query_door.specs.Once.{InTurn}
+use Rattle.departure_order.specs.Turn.{InTurn}
 use Rattle.query_input.proofs.Parts.{marks-room, rows-size}
 use Rattle.query_door.proofs.Once.{passed-yes}
 use borrow.Author.Needs.{needs}

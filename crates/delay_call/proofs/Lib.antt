@@ -1,0 +1,2 @@
+pub mod DelayCall
+pub mod DelayExamples

@@ -1,0 +1,2 @@
+pub mod FrequencyCall
+pub mod FrequencyExamples

@@ -1,0 +1,103 @@
+// frequency_call: the exported call of frequency boarding (document 01, item 3). It asks its questions, then hands on to `frequency`.
+// Place: a call crate; only `exports` and programs use it.
+// Specs (claim): the questions and the outcome of the call (FrequencyCall). Runs and boarding are defined in `frequency`.
+// Proves: the call's outcome is the defined one, on every input; document 01's worked rows (proofs/FrequencyExamples).
+// Assumes nothing.
+ghost use mathlib.Core.Path.{_≡_};
+ghost use Prim.Native.Nat.{_<_};
+ghost use Rattle.frequency.specs.Gtfs.{windowCount, windowIn};
+ghost use Rattle.frequency_call.specs.FrequencyCall.{areTimes, windowInRange, windowsInRange, freqInRange, freqOutcome, noBoard};
+use frequency::FreqBoard;
+
+// The most windows.
+const WINDOW_LIMIT: u32 = 65536;
+
+// What the entry answers: the code; then found 1 with the departure and the shift, or found 0 and zeros.
+#[repr(C)]
+pub struct FreqAnswer {
+    pub code: u32,
+    pub found: u32,
+    pub departure: u32,
+    pub time_shift_s: u32,
+}
+
+// No boarding: the number of the question that refused, or 0 where no run can be boarded.
+fn no_board(code: u32) -> FreqAnswer
+    ensures { λ r. ⌜ r ≡ noBoard code ⌝ }
+{
+    FreqAnswer {
+        code: code,
+        found: 0,
+        departure: 0,
+        time_shift_s: 0,
+    }
+}
+
+// Is each of the three a time in its range?
+fn are_times(a: u32, b: u32, c: u32) -> bool
+    ensures { λ r. ⌜ r ≡ areTimes a b c ⌝ }
+{
+    if door::TIME_LIMIT < a {
+        return false;
+    }
+    if door::TIME_LIMIT < b {
+        return false;
+    }
+    c <= door::TIME_LIMIT
+}
+
+// The start, the end and the headway of window i?
+fn window_in_range(windows: &[u32], i: usize) -> bool
+    requires { ⌜ i < windowCount (now windows) ⌝ }
+    ensures { λ r. ⌜ r ≡ windowInRange (windowIn (now (windows .entry)) i) ⌝ }
+{
+    are_times(windows[3 * i], windows[3 * i + 1], windows[3 * i + 2])
+}
+
+// Those of every window?
+fn windows_in_range(windows: &[u32]) -> bool
+    ensures { λ r. ⌜ r ≡ windowsInRange (now (windows .entry)) ⌝ }
+{
+    let mut i: usize = 0;
+    while 3 * i + 2 < windows.len() {
+        if !window_in_range(windows, i) {
+            return false;
+        }
+        i += 1;
+    }
+    true
+}
+
+// Question 5: is every time in its range?
+fn freq_in_range(windows: &[u32], base: u32, dep: u32, after: u32) -> bool
+    ensures { λ r. ⌜ r ≡ freqInRange (now (windows .entry)) base dep after ⌝ }
+{
+    if !are_times(base, dep, after) {
+        return false;
+    }
+    windows_in_range(windows)
+}
+
+// Frequency boarding with its questions: 1 counts, 2 lengths, 5 times.
+pub fn freq_board(count: u32, windows: &[u32], base: u32, dep: u32, after: u32) -> FreqAnswer
+    ensures { λ r. ⌜ r ≡ freqOutcome count (now (windows .entry)) base dep after ⌝ }
+{
+    if WINDOW_LIMIT < count {
+        return no_board(1);
+    }
+    if windows.len() != 3 * (count as usize) {
+        return no_board(2);
+    }
+    if !freq_in_range(windows, base, dep, after) {
+        return no_board(5);
+    }
+    let FreqBoard::Board(b) = frequency::earliest_freq_board(windows, base, dep, after) else {
+        return no_board(0);
+    };
+    FreqAnswer {
+        code: 0,
+        found: 1,
+        departure: b.departure,
+        time_shift_s: b.time_shift_s,
+    }
+}
