@@ -11,7 +11,6 @@ use Rattle.loops.specs.Iter.{someIn, firstIn, foundOr}
 use Rattle.loops.specs.Count.{count, tab}
 use Rattle.cell_bitset.specs.declared.CellBitSet.{CellBitSet}
 use Rattle.tables.specs.declared.Counts.{Counts}
-use Rattle.tables.specs.Timetable.{timetable}
 use Rattle.event_transfers.specs.Transfers.{transferAt, eventsBefore}
 use Rattle.model.specs.Tables.{Tables, Query}
 use Rattle.model.specs.Search.{targetCells, holdsTarget}

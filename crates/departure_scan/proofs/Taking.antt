@@ -14,8 +14,8 @@ use Rattle.delay_rows.specs.Flat.{delayTables}
 use Rattle.frequency.specs.declared.BoardedRun.{BoardedRun}
 use Rattle.frequency.specs.declared.FreqBoard.{FreqBoard}
 use Rattle.frequency.specs.declared.FreqBoard.the-variants.{Nothing, Board}
-use Rattle.model.specs.Tables.{Tables, Query, trips}
-use Rattle.model.specs.Search.{Arrivals, State, at, delayOf, boardAt, boarding, board, scanTripForward}
+use Rattle.model.specs.Tables.{Tables, Query}
+use Rattle.model.specs.Search.{Arrivals, State, delayOf, boardAt, boarding, board, scanTripForward}
 use Rattle.model.proofs.Sizes.{boards-soon}
 use Rattle.query_types.specs.declared.Head.{Head}
 use Rattle.search_state.specs.View.{Memory, memory}

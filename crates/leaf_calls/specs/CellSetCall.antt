@@ -1,6 +1,5 @@
 -- The calls that make a cell set and that give it more room: question 1 of a number of cells, and what each answers. Definitions only.
 use Prim.Native.Nat.{ℕ, zero, suc}
-use lib.ListN.{set}
 use lib.Dec.{leb}
 use Rattle.door.specs.Door.{ask}
 use Rattle.cell_bitset.specs.declared.CellBitSet.{CellBitSet}

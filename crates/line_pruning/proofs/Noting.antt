@@ -20,7 +20,7 @@ use Rattle.search_state.specs.Places.{WorkSized}
 use Rattle.search_state.proofs.Part.{part-at, part-in, part-below, part-above, part-length}
 use Rattle.target_resolving.specs.Resolving.{linedOf}
 use Rattle.target_resolving.proofs.Lines.{line-known}
-use Rattle.model.specs.Tables.{Tables, Query, trips, position, fifo}
+use Rattle.model.specs.Tables.{Tables, Query, position, fifo}
 use Rattle.model.specs.Search.{Boardings, lineAt, delayOf, undelayed, prunable, dominated, board}
 use Rattle.query_types.specs.Layout.{positionsAt, tripStampsAt, boardedOffsetsAt, boardedDeparturesAt, lineStampsAt, leastAt}
 use Rattle.line_pruning.specs.Chain.{chain, isIn, someBefore, linked, lowered, listed, stampedAs}

@@ -22,7 +22,6 @@ use Rattle.stop_delay.specs.Times.{departureGiven, arrivalGiven, sizeOf}
 use Rattle.cell_bitset.specs.declared.CellBitSet.{CellBitSet}
 use Rattle.departures.specs.declared.DepartureRow.{DepartureRow}
 use Rattle.tables.specs.Timetable.{Timetable}
-use Rattle.line_numbers.specs.Lines.{lineOf}
 use Rattle.event_transfers.specs.Transfers.{Transfer}
 use Rattle.model.specs.Tables.{never, Tables, Origin, Query, stops, trips, stopCount, stopAt, arrival, departure, noPickup, noWindows, edgesFrom, edgeTo, walkTime}
 use Rattle.model.specs.Search.{flagsInUse}

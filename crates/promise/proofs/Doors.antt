@@ -13,7 +13,7 @@ use Rattle.loops.proofs.Iter.{every-all}
 use Rattle.loops.proofs.Count.{count-le-n, one-le}
 use Rattle.door.specs.Door.{ask}
 use Rattle.tables.specs.declared.Counts.{Counts}
-use Rattle.tables.specs.Timetable.{Timetable, timetable}
+use Rattle.tables.specs.Timetable.{Timetable}
 use Rattle.tables.specs.declared.StopTimeRow.{StopTimeRow}
 use Rattle.tables.specs.Sane.{CountsOk, SlicesOk, RunsOk}
 use Rattle.tables.proofs.Yes.{counts-yes, slices-yes, runs-yes}

@@ -29,7 +29,6 @@ use Rattle.query_types.specs.Layout.{layOf}
 use Rattle.search_begin.specs.Begin.{netOf, Lends, Askable, Begun, contextOf}
 use Rattle.rounds.specs.Rounds.{Started, Ended}
 use Rattle.query_call.specs.Parts.{modeBy, Flagging}
-use Rattle.query_types.specs.Slices.{slices}
 
 -- the transfer runs, as a part of what the building calls wrote
 module _ (built : List ℕ) (n : QueryCounts) (events : ℕ) (long : length built ≡ transferRunsAt n + events * 2) (e : ℕ) (h : e < events) where

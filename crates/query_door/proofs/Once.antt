@@ -10,7 +10,6 @@ use lib.Bits.{bitOr}
 use borrow.Author.Tests.{lt-leb, lt-ltb, le-ltb, leb-true, leb-false}
 use Rattle.loops.proofs.Most.{or-most}
 use Rattle.door.specs.Door.{timeLimit}
-use Rattle.tables.specs.Timetable.{timetable}
 use Rattle.tables.specs.Door.{numbersOk, rangesOk, orderOk}
 use Rattle.tables.proofs.Yes.{two}
 use Rattle.departures.proofs.Yes.{listed-yes}

@@ -24,7 +24,7 @@ use Rattle.delay_rows.specs.Door.{delayNumbers, delayRanges, delayOrder}
 use Rattle.delay_lookup.proofs.Door.{delays-yes}
 use Rattle.query_types.specs.declared.QueryCounts.{QueryCounts}
 use Rattle.query_types.specs.declared.Lengths.{Lengths}
-use Rattle.query_input.specs.Lent.{marksAt, eventCount, builtSize, originsAt, egressAt, querySize, lineRuns, lineEntries, stopRuns, departureRows, delaysOf, transferRunAt, transferRows, Lent, stopRows, tablesOf, queryOf}
+use Rattle.query_input.specs.Lent.{marksAt, eventCount, builtSize, originsAt, egressAt, querySize, lineRuns, lineEntries, stopRuns, departureRows, delaysOf, transferRunAt, transferRows, Lent, tablesOf, queryOf}
 use Rattle.departure_order.specs.Order.{notEarlier, partOrder, departureOrder}
 use Rattle.query_door.specs.Door.{queryQuestion1, readOk, writtenOk, queryQuestion2, transferRunsOk, queryQuestion3, columnAt, columnBelow, lineNumbers, queryNumbers, queryQuestion4, markRanges, transferRanges, settingRanges, walkRanges, queryQuestion5, columnRises, egressOrder, queryQuestion6, queryVerdict}
 use Rattle.query_types.specs.Layout.{workSizeOf}

@@ -95,7 +95,7 @@ queryQuestion5 t built transfers q n rows =
     && (settingRanges q && (walkRanges q n && delayRanges (delaysOf q n)))
 
 -- 6: ARE EDGES, DELAY ROWS, STOP ROWS, EGRESS STOPS (STRICTLY RISING) AND DEPARTURES IN ORDER? Each row against the one before it
--- in a column each number is above the one before it
+-- (departures: `departure_order` specs/Order). In a column each number is above the one before it
 unfoldable pub columnRises : List ℕ → ℕ → ℕ → ℕ → Bool
 columnRises l first stride count = everyIn (λ i. ltb (columnAt l first stride (i - 1)) (columnAt l first stride i)) 1 count
 

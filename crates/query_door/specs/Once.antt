@@ -5,7 +5,6 @@ use Prim.Native.Nat.{ℕ}
 use mathlib.Core.Path.{_≡_}
 use mathlib.Core.Bool.{Bool, true, _&&_}
 use mathlib.Core.List.{List}
-use Rattle.tables.specs.Timetable.{timetable}
 use Rattle.tables.specs.Door.{numbersOk, rangesOk, orderOk}
 use Rattle.delay_rows.specs.Door.{delayNumbers, delayRanges, delayOrder}
 use Rattle.query_types.specs.declared.QueryCounts.{QueryCounts}

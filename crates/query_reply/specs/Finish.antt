@@ -7,7 +7,6 @@ use mathlib.Core.List.{List, []}
 use lib.ListN.{length, getD}
 use lib.Dec.{eqb}
 use lib.Ieee.{Float}
-use Rattle.tables.specs.Timetable.{timetable}
 use Rattle.walk_time.specs.Walk.{roundCount}
 use Rattle.model.specs.Tables.{Tables, Query, roundsOf, never}
 use Rattle.model.specs.Search.{Arrivals, bestTarget, candidatesFrom}

@@ -11,7 +11,7 @@ use Rattle.stop_delay.specs.Times.{sizeOf}
 use Rattle.door.specs.Door.{timeLimit}
 use Rattle.delay_rows.specs.declared.Found.{Found}
 use Rattle.delay_rows.specs.Flat.{delayTables}
-use Rattle.model.specs.Tables.{Tables, Query, trips}
+use Rattle.model.specs.Tables.{Tables, Query}
 use Rattle.model.specs.Search.{Arrivals, Boardings, State, at, delayOf, logged, scanTripForward}
 use Rattle.query_types.specs.declared.Lay.{Lay}
 use Rattle.query_types.specs.declared.Head.{Head}

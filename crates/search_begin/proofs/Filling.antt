@@ -13,7 +13,7 @@ use Rattle.loops.proofs.Count.{tab-ext}
 use Rattle.label.specs.declared.Label.the-variants.{Empty}
 use Rattle.label.specs.Label.{noDistance, labelRow, rowOf}
 use Rattle.label.specs.Table.{loaded}
-use Rattle.model.specs.Tables.{never, isEgress, egressWalk, stops, trips}
+use Rattle.model.specs.Tables.{never, isEgress, egressWalk}
 use Rattle.query_types.specs.declared.Lay.{Lay}
 use Rattle.search_state.specs.Part.{part}
 use Rattle.search_state.specs.Places.{WorkSized, egressWord}

@@ -30,7 +30,6 @@ use Rattle.query_input.specs.Sane.{Admitted}
 use Rattle.query_input.proofs.Parts.{part-at, egress-size, egress-are, marks-room, query-room}
 use Rattle.search_begin.specs.Begin.{netOf, Lends, Askable}
 use Rattle.search_begin.specs.Laying.{Layable, Origins}
-use Rattle.query_types.specs.Slices.{slices}
 
 -- what is lent is what the slices say, beside a transfer area and patterns
 pub lends-is : {x : Lent} {n : QueryCounts} {t built q : List ℕ} {distances : List Float} → Lends x n t built distances q

@@ -1,5 +1,4 @@
 -- What a yes to each question gives.
-use Rattle.loops.specs.Iter.{some}
 use Rattle.loops.specs.Count.{one}
 use Prim.Native.Nat.{ℕ, suc, max, _+_, _*_, _^_, _<_}
 use mathlib.Core.Path.{_≡_, _∙_, ap, ap₂, sym, refl}

@@ -12,7 +12,6 @@ use Rattle.loops.specs.Iter.{Hit}
 use Rattle.tables.specs.declared.Counts.{Counts}
 use Rattle.tables.specs.Tables.{timeOf, tripOf, firstOf}
 use Rattle.tables.specs.Timetable.{Timetable, timetable}
-use Rattle.delay_rows.specs.Delays.{margin}
 use Rattle.frequency.specs.declared.BoardedRun.{BoardedRun}
 use Rattle.frequency.specs.declared.FreqBoard.{FreqBoard}
 use Rattle.frequency.specs.declared.FreqBoard.the-variants.{Nothing as NoBoard, Board}

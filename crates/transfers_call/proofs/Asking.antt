@@ -1,5 +1,4 @@
 -- What each question gives when it is answered yes.
-use Rattle.loops.specs.Count.{one}
 use Prim.Native.Nat.{ℕ, zero, suc, _*_, _≤_}
 use mathlib.Core.Path.{_≡_, refl, sym, _∙_, ap, ap₂}
 use mathlib.Core.Bool.{Bool, true, false, _&&_}

@@ -1,5 +1,4 @@
 -- The events' numbers are those of the transfers as they are defined.
-use Rattle.tables.proofs.Yes.{sane}
 use Prim.Native.Nat.{ℕ, _+_, _<_, _≤_}
 use mathlib.Core.Path.{_≡_, refl, sym, _∙_, ap}
 use mathlib.Core.Bool.{Bool, true, false, not, cond}

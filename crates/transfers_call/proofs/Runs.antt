@@ -1,5 +1,4 @@
 -- Each stop's run of the numbers, packed and sorted, is the sort of the packed rows listed there.
-use Rattle.tables.proofs.Yes.{sane}
 use Prim.Native.Nat.{ℕ, _<_}
 use mathlib.Core.Path.{_≡_, sym, _∙_, ap}
 use mathlib.Core.List.{List, map}

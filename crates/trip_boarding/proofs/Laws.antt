@@ -27,7 +27,7 @@ use Rattle.delay_rows.specs.Delays.{delayRow, stopDelay}
 use Rattle.delay_rows.specs.Flat.{delaysAlone, delayTables, foundOf}
 use Rattle.frequency.specs.declared.FreqBoard.{FreqBoard}
 use Rattle.frequency.specs.declared.FreqBoard.the-variants.{Nothing as NoBoard, Board}
-use Rattle.model.specs.Tables.{Tables, Query, trips, departure, noPickup, noWindows, modeWanted, usable, permitted, stops}
+use Rattle.model.specs.Tables.{Tables, Query, departure, noPickup, noWindows, modeWanted, usable, permitted, stops}
 use Rattle.model.specs.Search.{delayOf, delayAt, skipped, departureNow, arrivalNow, boardAt, at}
 use Rattle.query_types.specs.declared.Terms.{Terms}
 use Rattle.trip_boarding.specs.Reads.{hitOf, Known, Event, Agree, Asks}

@@ -4,7 +4,6 @@ use Prim.Native.Nat.{ℕ, _+_}
 use Rattle.frequency.specs.declared.FreqBoard.{FreqBoard}
 use Rattle.frequency.specs.Gtfs.{windowFrom, earliestFreqBoard}
 use Rattle.tables.specs.Timetable.{Timetable, timeAt}
-use Rattle.model.specs.Tables.{departure}
 
 -- the earliest run of a frequency trip, whose effective departure at the boarding stop is dep
 abbrev pub freqBoardAt : Timetable → ℕ → ℕ → ℕ → FreqBoard

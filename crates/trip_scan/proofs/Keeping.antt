@@ -3,7 +3,7 @@ use Prim.Native.Nat.{ℕ, _+_, _*_, _-_, _≤_, _<_}
 use mathlib.Core.Path.{_≡_, sym, ap, ap₂, _∙_}
 use mathlib.Core.List.{List}
 use native.Mathlib.Omega.{arith}
-use lib.ListN.{length, getD}
+use lib.ListN.{getD}
 use Rattle.departures.specs.declared.StopRun.{StopRun}
 use Rattle.event_transfers.specs.Transfers.{transfersAt}
 use Rattle.model.specs.Tables.{Tables, Query}

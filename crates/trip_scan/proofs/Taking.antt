@@ -19,7 +19,7 @@ use Rattle.tables.specs.declared.Counts.{Counts}
 use Rattle.tables.specs.Tables.{timeOf, tripOf}
 use Rattle.tables.specs.Timetable.{Timetable, timetable}
 use Rattle.event_transfers.specs.Transfers.{Transfer, transferAt}
-use Rattle.model.specs.Tables.{Tables, Query, trips, stopAt, noWindows}
+use Rattle.model.specs.Tables.{Tables, Query, stopAt, noWindows}
 use Rattle.model.specs.Search.{Segment, Arrivals, at, holdsTarget, improve, relax, resolve, enqueue, takeTransfers}
 use Rattle.model.specs.Door.{Door}
 use Rattle.answer_laws.proofs.Moves.{pushed}

@@ -13,7 +13,7 @@ use Rattle.label.specs.declared.Label.{Label}
 use Rattle.label.specs.declared.Label.the-variants.{Walk}
 use Rattle.tables.specs.declared.EdgeRow.{EdgeRow}
 use Rattle.tables.specs.Tables.{edgeAt}
-use Rattle.tables.specs.Timetable.{Timetable, timetable}
+use Rattle.tables.specs.Timetable.{Timetable}
 use Rattle.model.specs.Tables.{Tables, Query, edgeTo, walkTime}
 use Rattle.model.specs.Search.{Arrivals, targetCells, holdsTarget, relax, walkFrom}
 use Rattle.arc_flags.specs.Skipping.{Patterned}

@@ -2,7 +2,6 @@ use Prim.Native.Nat.{ℕ}
 use Rattle.tables.specs.Timetable.{timetable}
 use Rattle.departures.proofs.Parts.{run-known, run-part, run-room}
 use Rattle.departure_order.specs.Order.{partOrder}
-use lib.ListN.{length}
 use native.Mathlib.Omega.{arith}
 use mathlib.Core.Path.{_∙_, ap, ap₂}
 use mathlib.Core.List.{List}

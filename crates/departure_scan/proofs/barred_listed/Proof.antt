@@ -4,7 +4,6 @@ use Rattle.departure_scan.proofs.Testing.{bars-pickup, bars-pruned, bar
 use native.Mathlib.Omega.{arith}
 use borrow.Author.Needs.{needs}
 use Rattle.departure_scan.proofs.barred_listed.Statement.{statement}
-use Rattle.query_types.specs.Slices.{slices}
 use Rattle.departure_scan.proofs.barred_listed.Tie as tie
 
 permitted-requires : tie.Need-permitted-requires

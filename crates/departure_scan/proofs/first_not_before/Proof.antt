@@ -9,7 +9,6 @@ use native.Mathlib.Omega.{arith}
 use Prim.Native.Nat.{_-_, _/_}
 use Rattle.loops.specs.Order.{Halved}
 use Rattle.departure_scan.proofs.first_not_before.Statement.{statement}
-use Rattle.query_types.specs.Slices.{slices}
 use Rattle.departure_scan.proofs.first_not_before.Tie as tie
 
 abbrev Inv-loop : tie.InvT-loop

@@ -3,7 +3,6 @@ use Rattle.departure_scan.proofs.Departing.{late-is}
 use native.Mathlib.Omega.{arith}
 use borrow.Author.Needs.{needs}
 use Rattle.departure_scan.proofs.too_late.Statement.{statement}
-use Rattle.query_types.specs.Slices.{slices}
 use Rattle.departure_scan.proofs.too_late.Tie as tie
 
 trip-requires : tie.Need-trip-requires

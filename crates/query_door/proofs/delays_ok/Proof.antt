@@ -1,5 +1,4 @@
 use Prim.Native.Nat.{ℕ}
-use Rattle.tables.specs.Timetable.{timetable}
 use mathlib.Core.Path.{_∙_, ap₂}
 use mathlib.Core.List.{List}
 use Rattle.delay_rows.specs.Asked.{rowsAsked}

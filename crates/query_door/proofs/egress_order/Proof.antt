@@ -1,4 +1,3 @@
-use Rattle.departures.proofs.Laws.{stop-rises}
 use borrow.Author.Tests.{not-false, not-true}
 use lib.Dec.{ltb}
 use Rattle.loops.specs.Iter.{everyIn}

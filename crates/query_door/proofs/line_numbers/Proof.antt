@@ -1,5 +1,4 @@
 use Prim.Native.Nat.{ℕ}
-use Rattle.tables.specs.Timetable.{timetable}
 use borrow.Author.Needs.{needs}
 use Rattle.query_door.specs.Door.{lineNumbers}
 use lib.ListN.{length}

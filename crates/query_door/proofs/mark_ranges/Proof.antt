@@ -1,5 +1,4 @@
 use Prim.Native.Nat.{ℕ}
-use Rattle.tables.specs.Timetable.{timetable}
 use Rattle.query_door.specs.Door.{columnBelow, markRanges}
 use native.Mathlib.Omega.{arith}
 use mathlib.Core.Path.{_∙_, ap}

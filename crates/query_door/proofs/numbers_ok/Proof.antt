@@ -1,5 +1,4 @@
 use Prim.Native.Nat.{ℕ}
-use Rattle.tables.specs.Timetable.{timetable}
 use Rattle.query_door.specs.Door.{queryQuestion4}
 use borrow.Author.Needs.{needs}
 use Rattle.query_input.proofs.Parts.{marks-room, query-room, rows-size}

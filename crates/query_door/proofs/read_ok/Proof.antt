@@ -1,4 +1,3 @@
-use Rattle.tables.specs.Timetable.{timetable}
 use Rattle.query_door.specs.Door.{readOk}
 use lib.Dec.{eqb}
 use mathlib.Core.Path.{_∙_, ap, ap₂}

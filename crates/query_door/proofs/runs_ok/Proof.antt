@@ -1,5 +1,4 @@
 use Prim.Native.Nat.{ℕ}
-use Rattle.tables.specs.Timetable.{timetable}
 use Rattle.departures.specs.Listed.{stopRunsOk}
 use Rattle.query_door.specs.Door.{queryQuestion3, transferRunsOk}
 use borrow.Author.Needs.{needs}

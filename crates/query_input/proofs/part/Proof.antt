@@ -1,6 +1,4 @@
 use denote.Ref.{now}
-use Rattle.loops.specs.Iter.{first}
-use Rattle.loops.specs.Count.{count}
 use native.Mathlib.Omega.{arith}
 use Prim.Native.Nat.{_+_}
 use Rattle.sorts.proofs.Within.{part-slice}

@@ -8,7 +8,6 @@ use Rattle.event_transfers.proofs.Counting.{all-of-them}
 use Prim.Native.Nat.{_-_}
 use Rattle.search_begin.proofs.Sections.{Running, running-again, running-none}
 use Rattle.search_begin.proofs.put_events.Statement.{statement}
-use Rattle.query_types.specs.Slices.{slices}
 use Rattle.search_begin.proofs.put_events.Tie as tie
 
 abbrev Inv-loop : tie.InvT-loop

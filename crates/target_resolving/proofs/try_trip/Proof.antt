@@ -1,7 +1,6 @@
 use Rattle.trip_boarding.specs.Reads.{hitOf}
 use denote.Ref.{now}
-use Rattle.tables.specs.Timetable.{timetable}
-use Rattle.target_resolving.proofs.Laws.{board-as, has-both, has-not, has-short, left, shut-as, tried-found, tried-late, tried-shut, tried-unknown}
+use Rattle.target_resolving.proofs.Laws.{board-as, has-both, has-not, has-short, shut-as, tried-found, tried-late, tried-shut, tried-unknown}
 use native.Mathlib.Omega.{arith}
 use mathlib.Core.Path.{_∙_, sym}
 use borrow.Author.Needs.{needs}

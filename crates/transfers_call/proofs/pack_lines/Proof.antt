@@ -1,4 +1,3 @@
-use Rattle.transfers_call.proofs.Packing.{pack-line}
 use Rattle.event_transfers.specs.Packed.{packLine, packedLineAt}
 use denote.Ref.{now}
 use borrow.Author.Needs.{needs}

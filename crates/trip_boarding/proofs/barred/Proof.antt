@@ -1,8 +1,5 @@
 use Rattle.trip_boarding.specs.Reads.{hitOf}
 use denote.Ref.{now}
-use Rattle.model.specs.Tables.{usable}
-use Rattle.tables.specs.Timetable.{timetable}
-use Rattle.model.specs.Search.{skipped}
 use Rattle.trip_boarding.proofs.Laws.{barred-is}
 use borrow.Author.Needs.{needs}
 use Rattle.trip_boarding.proofs.barred.Statement.{statement}

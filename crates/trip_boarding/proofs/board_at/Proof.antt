@@ -1,9 +1,6 @@
 use Rattle.trip_boarding.specs.Reads.{hitOf}
-use Rattle.tables.specs.Timetable.{timetable}
-use Rattle.tables.proofs.Yes.{sane}
 use denote.Ref.{now}
 use Rattle.tables.specs.Tables.{firstOf}
-use Rattle.model.specs.Tables.{departure}
 use Rattle.trip_boarding.proofs.Laws.{board-early, board-freq, board-planned, event-time}
 use native.Mathlib.Omega.{arith}
 use Prim.Native.Nat.{_+_}

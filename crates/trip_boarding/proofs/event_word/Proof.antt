@@ -1,5 +1,4 @@
 use Rattle.tables.specs.Tables.{timeOf}
-use Rattle.line_layout.specs.Layout.{run}
 use denote.Ref.{now}
 use native.Mathlib.Omega.{arith}
 use mathlib.Core.Path.{_∙_, ap}

@@ -1,8 +1,6 @@
-use Rattle.loops.specs.Iter.{some}
 use denote.Ref.{now}
 use Rattle.tables.specs.Tables.{firstOf}
 use Rattle.trip_boarding.proofs.Laws.{event-time, part-board, part-fits, part-nominal}
-use Rattle.model.specs.Tables.{departure}
 use native.Mathlib.Omega.{arith}
 use Prim.Native.Nat.{ℕ, _+_, _*_}
 use borrow.Author.Needs.{needs}

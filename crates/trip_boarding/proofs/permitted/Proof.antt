@@ -1,4 +1,3 @@
-use Rattle.model.specs.Tables.{usable}
 use Rattle.trip_boarding.proofs.Laws.{permitted-is}
 use native.Mathlib.Omega.{arith}
 use borrow.Author.Needs.{needs}

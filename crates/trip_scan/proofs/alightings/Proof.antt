@@ -13,7 +13,6 @@ use denote.Ref.{now}
 use mathlib.Core.Path.{_∙_, _≡_, ap, refl, sym}
 use native.Mathlib.Omega.{arith}
 use Rattle.trip_scan.proofs.alightings.Statement.{statement}
-use Rattle.query_types.specs.Slices.{slices}
 use Rattle.trip_scan.proofs.alightings.Tie as tie
 
 abbrev Inv-loop : tie.InvT-loop

@@ -6,7 +6,6 @@ use denote.Ref.{now}
 use mathlib.Core.Path.{_∙_, ap}
 use native.Mathlib.Omega.{arith}
 use Rattle.trip_scan.proofs.no_drop_off.Statement.{statement}
-use Rattle.query_types.specs.Slices.{slices}
 use Rattle.trip_scan.proofs.no_drop_off.Tie as tie
 
 trip-requires : tie.Need-trip-requires

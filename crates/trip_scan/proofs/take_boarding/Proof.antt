@@ -5,7 +5,6 @@ use mathlib.Core.Path.{_∙_, sym}
 use denote.Ref.{now}
 use borrow.Author.Needs.{needs}
 use Rattle.trip_scan.proofs.take_boarding.Statement.{statement}
-use Rattle.query_types.specs.Slices.{slices}
 use Rattle.trip_scan.proofs.take_boarding.Tie as tie
 
 trip-requires : tie.Need-trip-requires

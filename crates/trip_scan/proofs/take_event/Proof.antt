@@ -12,7 +12,6 @@ use denote.Ref.{now}
 use Prim.Native.Nat.{ℕ}
 use borrow.Author.Needs.{needs}
 use Rattle.trip_scan.proofs.take_event.Statement.{statement}
-use Rattle.query_types.specs.Slices.{slices}
 use Rattle.trip_scan.proofs.take_event.Tie as tie
 
 cast-trip : tie.Need-cast-trip

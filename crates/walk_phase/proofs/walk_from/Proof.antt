@@ -9,7 +9,6 @@ use Rattle.walk_phase.proofs.Along.{Along, along-start, along-turn, alo
 use Rattle.walk_phase.proofs.Edge.{agree-kept}
 use Rattle.walk_phase.proofs.From.{walkLeft, left-start, left-turn, left-stop, left-end}
 use Rattle.walk_phase.proofs.walk_from.Statement.{statement}
-use Rattle.query_types.specs.Slices.{slices}
 use Rattle.walk_phase.proofs.walk_from.Tie as tie
 
 abbrev Inv-loop : tie.InvT-loop
