@@ -1,11 +1,11 @@
-// leaf_calls: the exported calls of the leaves that take numbers alone (document 01, items 1, 2, 4 and 11): cell sets made and grown, walk durations,
-// effective times, clock readings. Each asks its questions, then hands on to the leaf's own function. The leaves' calls that are lent slices:
+// leaf_calls: the exported calls of the leaves that take numbers alone (document 01, items 1, 2, 4 and 11): cell sets made and grown, walks,
+// effective times, clock readings. Each asks its questions, then hands on to the leaf's own function. The calls of leaves that are lent slices:
 // `frequency_call`, `delay_call`.
 // Place: a call crate; only `exports` and programs use it.
-// Specs (claims): the questions and the outcome of each call (CellSetCall, WalkCall, StopDelayCall, ClockCall). What a leaf computes is defined beside
-// its function, in its own crate.
-// Proves: each call's outcome is the defined one, on every input; of clock readings that none is above 172,799, and that two are equal only if hours,
-// minutes and seconds are; document 01's worked rows (proofs/..Examples).
+// Specs (claims): the questions and the outcome of each call (CellSetCall, WalkCall, StopDelayCall, ClockCall). What a leaf computes is defined
+// beside its function, in its own crate.
+// Proves: each call's outcome is the defined one, on every input; of clock readings that none is above 172,799, and that two are equal only if
+// hours, minutes and seconds are; document 01's worked rows (proofs/..Examples).
 // Assumes nothing.
 ghost use mathlib.Core.Path.{_≡_};
 ghost use Rattle.leaf_calls.specs.CellSetCall.{created, resized};
