@@ -1,16 +1,11 @@
--- Facts over plain numbers and answers.
+-- A fact over plain numbers and answers.
 use Prim.Native.Nat.{ℕ}
 use mathlib.Core.Path.{_≡_}
-use mathlib.Core.Bool.{Bool, true, false, _&&_}
+use mathlib.Core.Bool.{Bool, _&&_}
 use mathlib.Core.List.{List}
 use lib.ListN.{getD}
 use lib.Dec.{leb}
-use native.Mathlib.Omega.{arith}
 use Rattle.query_door.specs.Door.{settingRanges}
-
--- a no is no yes
-pub never : {A : Type 0} → false ≡ true → A
-never h = let z : _≡_ {A = ℕ} 0 1 = cc in absurd (omega arith)
 
 pub ranges : (q : List ℕ) {a b m s w : ℕ} {t u v r : Bool} → a ≡ getD q 0 0 → b ≡ getD q 1 0 → m ≡ getD q 4 0 → s ≡ getD q 5 0 → w ≡ getD q 6 0 → t ≡ leb a 1048575 && leb b 1048575 → u ≡ leb s 1 && leb w 1 → v ≡ leb m 127 && u → r ≡ t && v → r ≡ settingRanges q
 unfolding settingRanges

@@ -1,4 +1,4 @@
-use Rattle.query_door.proofs.Small.{never}
+use Rattle.departure_order.proofs.Turn.{never}
 use Prim.Native.Nat.{ℕ}
 use mathlib.Core.Path.{_∙_, ap, subst, sym}
 use mathlib.Core.List.{List}
