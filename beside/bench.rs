@@ -83,33 +83,33 @@ fn main() {
     // sets of 500 cells that share none, so that a test looks at all of them
     let sets: Vec<_> = (0..n)
         .map(|_| {
-            let (mut s, mut o) = (unsafe { savoiky_cell_bitset_new(500) }.set, Oracle::new(500));
+            let (mut s, mut o) = (unsafe { savoiky_cell_bitset_new(OWN, 500) }.set, Oracle::new(500));
             let (mut s2, mut o2) = (s, o.clone());
             for _ in 0..20 {
                 let c = r.below(250) * 2;
-                s = unsafe { savoiky_cell_bitset_set_bit(s, c) };
+                s = unsafe { savoiky_cell_bitset_set_bit(OWN, s, c) }.set;
                 o.set_bit(c as usize);
-                s2 = unsafe { savoiky_cell_bitset_set_bit(s2, c + 1) };
+                s2 = unsafe { savoiky_cell_bitset_set_bit(OWN, s2, c + 1) }.set;
                 o2.set_bit(c as usize + 1);
             }
             (s, o, s2, o2, r.below(500))
         })
         .collect();
-    row("cell set: new", &sets, |x| unsafe { savoiky_cell_bitset_new(x.4) }.set.reserved as u64, |x| rust_new(x.4).words().len() as u64);
-    row("cell set: get_bit", &sets, |x| unsafe { savoiky_cell_bitset_get_bit(x.0, x.4) } as u64, |x| rust_get(&x.1, x.4 as usize) as u64);
-    row("cell set: set_bit", &sets, |x| unsafe { savoiky_cell_bitset_set_bit(x.0, x.4) }.bytes[0] as u64, |x| {
+    row("cell set: new", &sets, |x| unsafe { savoiky_cell_bitset_new(OWN, x.4) }.set.reserved as u64, |x| rust_new(x.4).words().len() as u64);
+    row("cell set: get_bit", &sets, |x| unsafe { savoiky_cell_bitset_get_bit(OWN, x.0, x.4) }.value as u64, |x| rust_get(&x.1, x.4 as usize) as u64);
+    row("cell set: set_bit", &sets, |x| unsafe { savoiky_cell_bitset_set_bit(OWN, x.0, x.4) }.set.bytes[0] as u64, |x| {
         let mut o = x.1.clone();
         rust_set(&mut o, x.4 as usize);
         o.words()[0]
     });
-    row("cell set: intersects", &sets, |x| unsafe { savoiky_cell_bitset_intersects(x.0, x.2) } as u64, |x| rust_meets(&x.1, &x.3) as u64);
-    row("cell set: union_with", &sets, |x| unsafe { savoiky_cell_bitset_union_with(x.0, x.2) }.bytes[0] as u64, |x| {
+    row("cell set: intersects", &sets, |x| unsafe { savoiky_cell_bitset_intersects(OWN, x.0, x.2) }.value as u64, |x| rust_meets(&x.1, &x.3) as u64);
+    row("cell set: union_with", &sets, |x| unsafe { savoiky_cell_bitset_union_with(OWN, x.0, x.2) }.set.bytes[0] as u64, |x| {
         let mut o = x.1.clone();
         rust_union(&mut o, &x.3);
         o.words()[0]
     });
-    let none: Vec<_> = (0..n).map(|_| (unsafe { savoiky_cell_bitset_new(500) }.set, Oracle::new(500))).collect();
-    row("cell set: is_empty", &none, |x| unsafe { savoiky_cell_bitset_is_empty(x.0) } as u64, |x| rust_empty(&x.1) as u64);
+    let none: Vec<_> = (0..n).map(|_| (unsafe { savoiky_cell_bitset_new(OWN, 500) }.set, Oracle::new(500))).collect();
+    row("cell set: is_empty", &none, |x| unsafe { savoiky_cell_bitset_is_empty(OWN, x.0) }.value as u64, |x| rust_empty(&x.1) as u64);
     let walks: Vec<_> = (0..n)
         .map(|_| {
             let (d, m, w) = (r.below(LIMIT), r.below(8), r.below(2));
@@ -117,18 +117,18 @@ fn main() {
             (d, m, w, WalkEdge { from_stop_idx: 0, to_stop_idx: 0, duration_s: d, distance_m: 0.0, pathway_mode })
         })
         .collect();
-    row("walk duration", &walks, |x| unsafe { savoiky_walk_duration(x.0, x.1, x.2) }.value as u64, |x| rust_walk(&x.3, x.2 == 1) as u64);
+    row("walk duration", &walks, |x| unsafe { savoiky_walk_duration(OWN, x.0, x.1, x.2) }.value as u64, |x| rust_walk(&x.3, x.2 == 1) as u64);
     let asked: Vec<_> = (0..n).map(|_| ItineraryQuery { raptor_max_rounds: r.below(20), max_transfers: r.below(20), ..Default::default() }).collect();
-    row("round count", &asked, |q| unsafe { savoiky_max_rounds(q.raptor_max_rounds, q.max_transfers) } as u64, |q| rust_rounds(q) as u64);
+    row("round count", &asked, |q| unsafe { savoiky_max_rounds(OWN, q.raptor_max_rounds, q.max_transfers) }.value as u64, |q| rust_rounds(q) as u64);
     let windows: Vec<_> = (0..n)
         .map(|_| loop {
             let (count, w, base, dep, after) = random_windows(&mut r);
-            if count > 0 && freq_outcome(count, &w, base, dep, after).code == 0 {
+            if count > 0 && freq_outcome(OWN, count, &w, base, dep, after).code == 0 {
                 break (count, w.clone(), trip_of(&w), (base, dep, after));
             }
         })
         .collect();
-    row("frequency boarding", &windows, |x| unsafe { savoiky_freq_board(x.0, x.1.as_ptr(), x.1.len(), x.3 .0, x.3 .1, x.3 .2) }.departure as u64, |x| {
+    row("frequency boarding", &windows, |x| unsafe { savoiky_freq_board(OWN, x.0, x.1.as_ptr(), x.1.len(), x.3 .0, x.3 .1, x.3 .2) }.departure as u64, |x| {
         rust_freq(&x.2, x.3).map(|b| b.0).unwrap_or(0) as u64
     });
     let delays: Vec<_> = (0..n)
@@ -138,12 +138,16 @@ fn main() {
             (time, trip, flags, own, shift, adjust(trip, flags, own, own), stop_time(time, 7))
         })
         .collect();
-    row("effective departure", &delays, |x| unsafe { savoiky_effective_departure(x.0, x.1, x.2, x.3) }.value as u64, |x| rust_dep(Some(&x.5), &x.6) as u64);
-    row("effective arrival", &delays, |x| unsafe { savoiky_effective_arrival(x.0, x.4, x.1, x.2, x.3) }.value as u64, |x| rust_arr(Some(&x.5), &x.6, x.4 as i32) as u64);
+    row("effective departure", &delays, |x| unsafe { savoiky_effective_departure(OWN, x.0, x.1, x.2, x.3) }.value as u64, |x| {
+        rust_dep(Some(&x.5), &x.6) as u64
+    });
+    row("effective arrival", &delays, |x| unsafe { savoiky_effective_arrival(OWN, x.0, x.4, x.1, x.2, x.3) }.value as u64, |x| {
+        rust_arr(Some(&x.5), &x.6, x.4 as i32) as u64
+    });
     let tables: Vec<_> = (0..200)
         .map(|_| {
             let d = loop {
-                let d = random_delays(&mut r);
+                let d = Delays { settings: OWN, ..random_delays(&mut r) };
                 if d.door() == 0 {
                     break d;
                 }
@@ -155,7 +159,7 @@ fn main() {
         .collect();
     row("delay margin", &tables, |x| x.0.margin().value as u64, |x| routing::tbr::margin(&x.1, &x.2) as u64);
     let clock: Vec<_> = (0..n).map(|_| (r.below(48), r.below(60), r.below(60))).collect();
-    row("clock reading (no Rust)", &clock, |x| unsafe { savoiky_service_second(x.0, x.1, x.2) }.value as u64, |x| (x.0 * 3600 + x.1 * 60 + x.2) as u64);
+    row("clock reading (no Rust)", &clock, |x| unsafe { savoiky_service_second(OWN, x.0, x.1, x.2) }.value as u64, |x| (x.0 * 3600 + x.1 * 60 + x.2) as u64);
     let labels: Vec<_> = (0..n).map(|_| (r.below(3), r.below(13), [r.below(99), 2, 1, 4, 5, 6, 7], r.below(9) as f64)).collect();
     let (mut words, mut dist) = (vec![0u32; 312], vec![0f64; 39]);
     let mut table = routing::tbr::LabelTable::new(3);
@@ -164,9 +168,9 @@ fn main() {
         &labels,
         |x| unsafe {
             savoiky_label_store_transit(
-                3, x.0, x.1, x.2[0], x.2[1], x.2[2], x.2[3], x.2[4], x.2[5], x.2[6], words.as_mut_ptr(), 312, dist.as_mut_ptr(), 39,
+                OWN, 3, x.0, x.1, x.2[0], x.2[1], x.2[2], x.2[3], x.2[4], x.2[5], x.2[6], words.as_mut_ptr(), 312, dist.as_mut_ptr(), 39,
             );
-            savoiky_label_load(3, x.0, x.1, words.as_ptr(), 312, dist.as_ptr(), 39).row.word1 as u64
+            savoiky_label_load(OWN, 3, x.0, x.1, words.as_ptr(), 312, dist.as_ptr(), 39).row.word1 as u64
         },
         |x| table.store_and_read(x.0 as usize, x.1 as usize, x.2) as u64,
     );

@@ -79,8 +79,8 @@ fn timetable(r: &mut Random, stops: u32, shapes: &[Vec<u32>], trips: u32, shared
     tables.extend(trip_words);
     tables.extend(vec![0; stops as usize]);
     Timetable {
-        counts, tables, departures: d as u32, runs, rows, lines: 0, entry_count: 0, line_runs: vec![], entries: vec![], marks: vec![0; stops as usize],
-        line_of: vec![0; t], made_runs: vec![0; 2 * t], made_entries: vec![0; t], positions: vec![0; t], fifo: vec![], work: vec![0; d], other: vec![0; d],
+        settings: OWN, counts, tables, departures: d as u32, runs, rows, lines: 0, entry_count: 0, line_runs: vec![], entries: vec![],
+        marks: vec![0; stops as usize], line_of: vec![0; t], made_runs: vec![0; 2 * t], made_entries: vec![0; t], positions: vec![0; t], fifo: vec![], work: vec![0; d], other: vec![0; d],
         line_work: vec![0; t], line_other: vec![0; t], line_count: 0, lines_of: vec![], area: vec![0; 4 * 65536], transfer_runs: vec![],
     }
 }
@@ -102,7 +102,7 @@ fn case(name: &str, mut x: Timetable) {
             timed(|| {
                 let code = unsafe {
                     savoiky_sort_stop_departures(
-                        c[0], c[1], c[2], c[3], c[4], x.departures, x.tables.as_ptr(), x.tables.len(), x.runs.as_ptr(), x.runs.len(), rows.as_mut_ptr(),
+                        OWN, c[0], c[1], c[2], c[3], c[4], x.departures, x.tables.as_ptr(), x.tables.len(), x.runs.as_ptr(), x.runs.len(), rows.as_mut_ptr(),
                         rows.len(), x.marks.as_mut_ptr(), x.marks.len(), x.work.as_mut_ptr(), x.work.len(), x.other.as_mut_ptr(), x.other.len(),
                     )
                 };
@@ -126,7 +126,7 @@ fn case(name: &str, mut x: Timetable) {
             timed(|| {
                 let a = unsafe {
                     savoiky_compute_line_groups(
-                        c[0], c[1], c[2], c[3], c[4], x.tables.as_ptr(), x.tables.len(), x.line_of.as_mut_ptr(), x.line_of.len(),
+                        OWN, c[0], c[1], c[2], c[3], c[4], x.tables.as_ptr(), x.tables.len(), x.line_of.as_mut_ptr(), x.line_of.len(),
                         x.made_runs.as_mut_ptr(), x.made_runs.len(), x.made_entries.as_mut_ptr(), x.made_entries.len(), x.line_work.as_mut_ptr(),
                         x.line_work.len(), x.line_other.as_mut_ptr(), x.line_other.len(),
                     )
@@ -146,7 +146,7 @@ fn case(name: &str, mut x: Timetable) {
             timed(|| {
                 let code = unsafe {
                     savoiky_line_layout(
-                        c[0], c[1], c[2], c[3], c[4], lines, c[1], x.tables.as_ptr(), x.tables.len(), line_runs.as_ptr(), line_runs.len(),
+                        OWN, c[0], c[1], c[2], c[3], c[4], lines, c[1], x.tables.as_ptr(), x.tables.len(), line_runs.as_ptr(), line_runs.len(),
                         x.made_entries.as_ptr(), x.made_entries.len(), x.positions.as_mut_ptr(), x.positions.len(), fifo.as_mut_ptr(), fifo.len(),
                     )
                 };
@@ -167,7 +167,7 @@ fn case(name: &str, mut x: Timetable) {
     let mut transfer_runs = vec![0u32; 2 * events];
     let mut transfers = |area: &mut [u32]| unsafe {
         savoiky_compute_trip_transfers(
-            c[0], c[1], c[2], c[3], c[4], lines, x.departures, x.tables.as_ptr(), x.tables.len(), x.line_of.as_ptr(), x.line_of.len(), x.runs.as_ptr(),
+            OWN, c[0], c[1], c[2], c[3], c[4], lines, x.departures, x.tables.as_ptr(), x.tables.len(), x.line_of.as_ptr(), x.line_of.len(), x.runs.as_ptr(),
             x.runs.len(), x.rows.as_ptr(), x.rows.len(), area.as_mut_ptr(), area.len(), transfer_runs.as_mut_ptr(), transfer_runs.len(),
         )
     };

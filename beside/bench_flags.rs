@@ -25,7 +25,7 @@ fn lent(trips: usize, each: usize, rows: usize, run: impl Fn(usize) -> (u32, u32
     let patterns = [[255u8; 64], [0; 64]].concat();
     // origin: stop 0; egress: stop 1
     let query = vec![100, 120, 4, 0, 127, 0, 0, 0, 10, 1, 10];
-    Lent { sizes, tables, built, transfers, patterns, distances: vec![0], query }
+    Lent { settings: OWN, sizes, tables, built, transfers, patterns, distances: vec![0], query }
 }
 
 fn least(x: &Lent, a: &mut Areas) -> f64 {

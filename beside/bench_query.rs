@@ -63,7 +63,7 @@ fn network(r: &mut Random, stops: u32, trips: u32, each: u32) -> StaticEpoch {
             e.stop_departures[s as usize].push((t as u32, o));
         }
     }
-    build_all(&mut e);
+    build_all(&mut e, OWN);
     e
 }
 

@@ -30,10 +30,13 @@ pub fn trip_of(w: &[u32]) -> GlobalTrip {
     GlobalTrip { frequency_windows: windows, ..Default::default() }
 }
 
-pub fn freq_outcome(count: u32, w: &[u32], base: u32, dep: u32, after: u32) -> FreqAnswer {
+pub fn freq_outcome(s: Settings, count: u32, w: &[u32], base: u32, dep: u32, after: u32) -> FreqAnswer {
     let no = |code| FreqAnswer { code, found: 0, departure: 0, time_shift_s: 0 };
     if count > 65536 {
         return no(1);
+    }
+    if !s.in_range() {
+        return no(14);
     }
     if w.len() as u64 != 3 * count as u64 {
         return no(2);
@@ -106,23 +109,44 @@ fn add_stop(a: &mut RtTripAdjust, sequence: u32, flags: u32, departure: u32, arr
     }
 }
 
-pub fn oracle_departure(time: u32, trip: u32, flags: u32, own: u32) -> Answer {
-    if time > LIMIT || large(trip) || large(own) || flags > 7 {
-        return refused(5);
+// of a call that asks 14 and then 5
+pub fn numbers_outcome(s: Settings, ranged: bool, value: impl FnOnce() -> u32) -> Answer {
+    match s.code(if ranged { 0 } else { 5 }) {
+        0 => given(value()),
+        code => refused(code),
     }
-    given(routing::effective_dep(Some(&adjust(trip, flags, own, 9)), &stop_time(time, 7)))
 }
 
-pub fn oracle_arrival(time: u32, shift: u32, trip: u32, flags: u32, own: u32) -> Answer {
-    if time > LIMIT || large(shift) || large(trip) || large(own) || flags > 7 {
-        return refused(5);
-    }
-    given(routing::effective_arr(Some(&adjust(trip, flags, 9, own)), &stop_time(time, 7), shift as i32))
+pub fn walk_outcome(s: Settings, duration: u32, mode: u32, wheelchair: u32) -> Answer {
+    numbers_outcome(s, duration <= LIMIT && mode <= 7 && wheelchair <= 1, || oracle_duration(duration, mode, wheelchair == 1))
+}
+
+pub fn clock_outcome(s: Settings, hour: u32, minute: u32, second: u32) -> Answer {
+    numbers_outcome(s, hour <= 47 && minute <= 59 && second <= 59, || 3600 * hour + 60 * minute + second)
+}
+
+pub fn skipped_outcome(s: Settings, flags: u32) -> Answer {
+    numbers_outcome(s, flags <= 7, || flags / 4)
+}
+
+pub fn rounds_outcome(s: Settings, wanted: u32, transfers: u32) -> Answer {
+    numbers_outcome(s, true, || oracle_rounds(wanted, transfers))
+}
+
+pub fn oracle_departure(s: Settings, time: u32, trip: u32, flags: u32, own: u32) -> Answer {
+    let ranged = time <= LIMIT && !large(trip) && !large(own) && flags <= 7;
+    numbers_outcome(s, ranged, || routing::effective_dep(Some(&adjust(trip, flags, own, 9)), &stop_time(time, 7)))
+}
+
+pub fn oracle_arrival(s: Settings, time: u32, shift: u32, trip: u32, flags: u32, own: u32) -> Answer {
+    let ranged = time <= LIMIT && !large(shift) && !large(trip) && !large(own) && flags <= 7;
+    numbers_outcome(s, ranged, || routing::effective_arr(Some(&adjust(trip, flags, 9, own)), &stop_time(time, 7), shift as i32))
 }
 
 // Delay tables, with counts that may be damaged.
 #[derive(Clone)]
 pub struct Delays {
+    pub settings: Settings,
     pub trips: u32,
     pub rows: Vec<u32>,
     pub stop_rows: Vec<u32>,
@@ -135,7 +159,7 @@ impl Delays {
     pub fn filled(n: u32) -> Delays {
         let rows = (0..n).flat_map(|i| [i, i.wrapping_sub(3)]).collect();
         let stop_rows = (0..n).flat_map(|i| [i / 2, i, i % 8, i, 0u32.wrapping_sub(i)]).collect();
-        Delays { trips: n.min(4096), rows, stop_rows, row_count: n, stop_row_count: n }
+        Delays { settings: OWN, trips: n.min(4096), rows, stop_rows, row_count: n, stop_row_count: n }
     }
 
     // questions 4, 5 and 6 of the rows, each: is it answered yes? (4 to 6 may be asked only where 2 is yes.)
@@ -156,6 +180,9 @@ impl Delays {
     pub fn door(&self) -> u32 {
         if self.trips > 4096 || self.row_count > 4096 || self.stop_row_count > 4096 {
             return 1;
+        }
+        if !self.settings.in_range() {
+            return 14;
         }
         if self.rows.len() as u64 != 2 * self.row_count as u64 || self.stop_rows.len() as u64 != 5 * self.stop_row_count as u64 {
             return 2;
@@ -194,7 +221,7 @@ impl Delays {
         let mut e = StaticEpoch::default();
         let mut q = ItineraryQuery::default();
         self.fill(&mut e, &mut q);
-        routing::tbr::margin(&e, &q)
+        under(self.settings, || routing::tbr::margin(&e, &q))
     }
 }
 
@@ -219,7 +246,7 @@ pub fn random_delays(r: &mut Random) -> Delays {
         }
     }
     let stop_row_count = stop_rows.len() as u32 / 5;
-    let mut d = Delays { trips, rows, stop_rows, row_count, stop_row_count };
+    let mut d = Delays { settings: r.any_settings(), trips, rows, stop_rows, row_count, stop_row_count };
     match r.below(12) {
         0 => d.trips = r.any(),
         1 => d.row_count = r.any(),

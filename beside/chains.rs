@@ -1,7 +1,8 @@
 // Chains: the tables of a day as our building calls write them from the caller's list of departures, called as a board calls them, and then `query` on
 // these tables. Its answer is held to all journeys and ways of the timetable and of the caller's list; no table that a call of ours wrote is read for
 // that. Each building call is lent stop times and trips as the query has them, with bytes active and excluded, walk edges, cells and unused windows
-// that may be others. On plain days all three calls are made; on steady days lines and departures, beside transfers of any origin.
+// that may be others, and settings of its own: only the transfer time that transfers are built with is the query's. On plain days all three calls
+// are made; on steady days lines and departures, beside transfers of any origin.
 
 // what chains on plain days must have met: of the tables, then of the query
 const CHAINS: [&str; 22] = [
@@ -62,6 +63,7 @@ struct Made {
 
 // the timetable as a building call is lent it, with these bytes; at times windows that no trip has, other walk edges and other cells
 fn lend_to_build(r: &mut Random, c: &Case, bytes: &Bytes, other: bool, y: &mut Timetable) {
+    y.settings = r.settings();
     let (stops, trips, times) = (c.e.stops.len() as u32, c.e.trips.len() as u32, c.e.stop_times.len() as u32);
     let first = 6 * times as usize;
     y.counts = [stops, trips, times, 0, c.e.walk_edges.len() as u32];
@@ -111,6 +113,7 @@ fn build_ours(r: &mut Random, c: &Case, day: Day) -> Made {
     let rows = y.rows.clone();
     let made = if day == Day::Plain {
         lend_to_build(r, c, &bytes[2], other, &mut y);
+        y.settings.transfer_time = c.settings.transfer_time;
         y.rows = if early { list.clone() } else { y.rows };
         make_transfers(&mut y)
     } else {
@@ -140,10 +143,10 @@ fn chain_searches(r: &mut Random, t: &mut Tallies, day: Day) {
     // the same by the Rust, for its scans
     build_departures(&mut c.e);
     if day == Day::Plain {
-        build_transfers(&mut c.e);
+        under(c.settings, || build_transfers(&mut c.e));
     }
     let m = build_ours(r, &c, day);
-    t.wrong += !(m.fine && calm(&c)) as u64;
+    t.wrong += !(m.fine && calm(&c) && (day != Day::Plain || built_for(&c))) as u64;
     for k in 0..ASKED {
         if k > 0 || day != Day::Plain {
             ask_again(r, &mut c);
@@ -171,6 +174,7 @@ fn chain_search(r: &mut Random, t: &mut Tallies, c: &mut Case, m: &Made, day: Da
     let right = reply.code == 0 && demand_3(c, &scans, &reply, &a.candidates);
     std::mem::swap(&mut c.e.stop_departures, &mut c.listed);
     t.wrong += (reply.code != 0) as u64;
+    t.houses_of(c, &reply);
     let chains = &mut t.chains[(day != Day::Plain) as usize];
     chains.compared += 1;
     chains.no_way += (reply.total == u32::MAX) as u64;

@@ -5,6 +5,7 @@
 fn counted(sizes: QuerySizes) -> Lent {
     let n = sizes;
     Lent {
+        settings: OWN,
         sizes,
         tables: counted_tables(n),
         built: counted_built(n),
@@ -77,7 +78,20 @@ fn search_limits() -> Vec<(Lent, Option<u32>)> {
             out.push((counted(sizes), code));
         }
     }
+    out.extend(settings_ends());
     out
+}
+
+// each end of the settings' ranges and one past each; besides too many stops, and a timetable that is too long
+fn settings_ends() -> Vec<(Lent, Option<u32>)> {
+    let with = |settings: Settings, code: u32| {
+        let (good, mut many) = (Lent { settings, ..counted(FEW) }, Lent { settings, ..counted(FEW) });
+        let mut long = good.clone();
+        many.sizes.stops = 4097;
+        long.tables.push(0);
+        [(good, Some(code)), (many, Some(1)), (long, Some(if code == 0 { 2 } else { code }))]
+    };
+    range_ends().into_iter().flat_map(|(s, code)| with(s, code)).collect()
 }
 
 impl Lent {
@@ -128,7 +142,7 @@ impl Lent {
     }
 
     fn damage(&mut self, r: &mut Random) {
-        match r.below(16) {
+        match r.below(17) {
             0 => self.sizes.numbers()[r.below(15) as usize] = r.any(),
             1 => {
                 let n = &mut self.sizes.numbers()[r.below(15) as usize];
@@ -142,6 +156,7 @@ impl Lent {
                 self.patterns[i] = r.next() as u8;
             }
             6 => self.uneven(r),
+            7 => self.settings = r.settings_outside(),
             _ => self.poke(r),
         }
     }
@@ -174,7 +189,7 @@ fn scatter(r: &mut Random, v: &mut [u32], percent: u32, few: u32) {
 fn hostile(r: &mut Random) -> (Lent, Areas) {
     let mut sizes = QuerySizes::default();
     sizes.numbers().iter_mut().for_each(|n| *n = r.below(6));
-    let mut x = counted(sizes);
+    let mut x = Lent { settings: r.any_settings(), ..counted(sizes) };
     let (percent, few) = ([1, 5, 30, 100][r.below(4) as usize], 1 + r.below(8));
     let counts: Vec<(usize, u32)> = (0..sizes.trips as usize).map(|t| 6 * sizes.times as usize + 8 * t + 1).map(|i| (i, x.tables[i])).collect();
     for k in [0, 2, 4, 6] {

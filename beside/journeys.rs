@@ -110,7 +110,7 @@ fn day_of(r: &mut Random, day: Day) -> Case {
         list_unevenly(r, &mut c);
         leave_later(r, &mut c, day);
     }
-    build_all(&mut c.e);
+    build_all(&mut c.e, c.settings);
     if day != Day::Plain {
         any_transfers(r, &mut c.e);
     }
@@ -230,7 +230,7 @@ fn ways(c: &Case, scans: &[(u32, u32, u32)], end: u32, walks: u32) -> Ways {
 }
 
 // demand 3 of an answer, where the reference has these scans: no journey arrives earlier, "no way" only if there is none, each total is the arrival
-// of a way; and for at most n rides a candidate of row n or lower arrives no later than any journey within 3,600 s of the best
+// of a way; and for at most n rides a candidate of row n or lower arrives no later than any journey within the slack of the best
 fn demand_3(c: &Case, scans: &[(u32, u32, u32)], reply: &Reply, candidates: &[u32]) -> bool {
     let (total, stop) = (reply.total, reply.stop);
     let candidates: Vec<&[u32]> = candidates.chunks(3).take(reply.candidates as usize).collect();
@@ -248,6 +248,6 @@ fn demand_3(c: &Case, scans: &[(u32, u32, u32)], reply: &Reply, candidates: &[u3
         let all = ways(c, scans, last, walks);
         arrives(&all, total, stop) && candidates.iter().all(|k| arrives(&all, k[0], k[1]))
     };
-    let covered = |n: usize, v: u32| v > total + 3600 || candidates.iter().any(|k| k[0] <= v && k[2] as usize <= n);
+    let covered = |n: usize, v: u32| v > total + c.settings.candidate_slack || candidates.iter().any(|k| k[0] <= v && k[2] as usize <= n);
     (by_ways(1) || by_ways(u32::MAX)) && earliest.iter().enumerate().all(|(n, v)| *v == u32::MAX || covered(n, *v))
 }

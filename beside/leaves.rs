@@ -1,112 +1,131 @@
 // The leaves beside the Rust: the same inputs to the exported calls and to docs/src, every answer compared.
-// It prints only how many inputs of each leaf were compared and how many differed; status 1 where any did.
+// Each input has settings of its own, one in twenty of them out of range; besides, each call is made at all ends of the ranges and one past each.
+// It prints only how many inputs of each leaf were compared, how many must be refused by 14 and how many differed; status 1 where any did.
 #![allow(dead_code, unused)]
 include!(concat!(env!("BESIDE"), "/parts.rs"));
 include!(concat!(env!("BESIDE"), "/ours.rs"));
 
 const RANDOM: u64 = 1_000_000;
 
-// A leaf's tally.
+// A leaf's tally: how many inputs, how many of them must be refused by 14, how many differed.
 struct Tally {
     name: &'static str,
     inputs: u64,
+    refused: u64,
     differed: u64,
 }
 
 impl Tally {
     fn new(name: &'static str) -> Self {
-        Tally { name, inputs: 0, differed: 0 }
+        Tally { name, inputs: 0, refused: 0, differed: 0 }
     }
-    fn same(&mut self, yes: bool) {
+    fn same(&mut self, s: Settings, yes: bool) {
         self.inputs += 1;
-        if !yes {
-            self.differed += 1;
-        }
+        self.refused += !s.in_range() as u64;
+        self.differed += !yes as u64;
     }
+}
+
+// a set made for so many cells, and one that is resized so
+fn sized(t: &mut Tally, s: Settings, n: u32, came: CellBitSet, o: &Oracle) {
+    let (made, resized) = unsafe { (savoiky_cell_bitset_new(s, n), savoiky_cell_bitset_ensure_sized(s, came, n)) };
+    let code = if n > 512 { 1 } else { s.code(0) };
+    if code != 0 {
+        t.same(s, made.code == code && made.set.reserved == 0 && made.set.bytes == [0; 64]);
+        t.same(s, resized.code == code && same_set(&resized.set, o));
+        return;
+    }
+    let mut e = o.clone();
+    e.ensure_sized(n);
+    t.same(s, made.code == 0 && same_set(&made.set, &Oracle::new(n)));
+    t.same(s, resized.code == 0 && same_set(&resized.set, &e));
+}
+
+// a cell put into a set, looked up there, and is the set empty?
+fn one_cell(t: &mut Tally, s: Settings, c: u32, came: CellBitSet, o: &Oracle) {
+    let mut with = o.clone();
+    with.set_bit(c as usize);
+    t.same(s, set_agrees(unsafe { savoiky_cell_bitset_set_bit(s, came, c) }, s, o, &with));
+    let set = unsafe { savoiky_cell_bitset_set_bit(OWN, came, c) }.set;
+    t.same(s, yes_agrees(unsafe { savoiky_cell_bitset_get_bit(s, set, c) }, s, with.get_bit(c as usize)));
+    t.same(s, yes_agrees(unsafe { savoiky_cell_bitset_is_empty(s, set) }, s, with.is_empty()));
+}
+
+fn two_sets(t: &mut Tally, s: Settings, r: &mut Random) {
+    let ((a, oa), (b, ob)) = (random_set(r), random_set(r));
+    t.same(s, same_set(&a, &oa));
+    let c = r.below(530);
+    t.same(s, yes_agrees(unsafe { savoiky_cell_bitset_get_bit(s, a, c) }, s, oa.get_bit(c as usize)));
+    t.same(s, yes_agrees(unsafe { savoiky_cell_bitset_intersects(s, a, b) }, s, oa.intersects(&ob)));
+    t.same(s, yes_agrees(unsafe { savoiky_cell_bitset_is_empty(s, a) }, s, oa.is_empty()));
+    let mut u = oa.clone();
+    u.union_with(&ob);
+    t.same(s, set_agrees(unsafe { savoiky_cell_bitset_union_with(s, a, b) }, s, &oa, &u));
+    sized(t, s, r.below(560), a, &oa);
 }
 
 fn cells(r: &mut Random) -> Tally {
     let mut t = Tally::new("cell set");
     // every count, and every cell up to past the largest set
     for n in 0..=600u32 {
-        let made = unsafe { savoiky_cell_bitset_new(n) };
-        if n > 512 {
-            t.same(made.code == 1 && made.set.reserved == 0 && made.set.bytes == [0; 64]);
-            continue;
-        }
-        let empty = Oracle::new(n);
-        t.same(made.code == 0 && same_set(&made.set, &empty));
-        for c in (0..600).chain([1 << 16, u32::MAX - 1, u32::MAX]) {
-            let mut o = empty.clone();
-            o.set_bit(c as usize);
-            let s = unsafe { savoiky_cell_bitset_set_bit(made.set, c) };
-            t.same(same_set(&s, &o));
-            t.same(unsafe { savoiky_cell_bitset_get_bit(s, c) } == o.get_bit(c as usize));
-            t.same(unsafe { savoiky_cell_bitset_is_empty(s) } == o.is_empty());
+        let empty = Oracle::new(n.min(512));
+        let made = unsafe { savoiky_cell_bitset_new(OWN, n.min(512)) }.set;
+        sized(&mut t, r.any_settings(), n, made, &empty);
+        for c in (0..600).chain([1 << 16, u32::MAX - 1, u32::MAX]).filter(|_| n <= 512) {
+            one_cell(&mut t, r.any_settings(), c, made, &empty);
         }
     }
+    for (s, _) in range_ends() {
+        (0..20).for_each(|_| two_sets(&mut t, s, r));
+        (0..20).for_each(|k| one_cell(&mut t, s, 40 * k, random_set(&mut Random(k as u64)).0, &random_set(&mut Random(k as u64)).1));
+    }
     for _ in 0..RANDOM {
-        let (a, oa) = random_set(r);
-        let (b, ob) = random_set(r);
-        t.same(same_set(&a, &oa));
-        let c = r.below(530);
-        t.same(unsafe { savoiky_cell_bitset_get_bit(a, c) } == oa.get_bit(c as usize));
-        t.same(unsafe { savoiky_cell_bitset_intersects(a, b) } == oa.intersects(&ob));
-        t.same(unsafe { savoiky_cell_bitset_is_empty(a) } == oa.is_empty());
-        let mut u = oa.clone();
-        u.union_with(&ob);
-        t.same(same_set(&unsafe { savoiky_cell_bitset_union_with(a, b) }, &u));
-        let n = r.below(560);
-        let sized = unsafe { savoiky_cell_bitset_ensure_sized(a, n) };
-        if n > 512 {
-            t.same(sized.code == 1 && same_set(&sized.set, &oa));
-        } else {
-            let mut e = oa.clone();
-            e.ensure_sized(n);
-            t.same(sized.code == 0 && same_set(&sized.set, &e));
-        }
+        two_sets(&mut t, r.any_settings(), r);
     }
     t
 }
 
 fn walks(r: &mut Random) -> Tally {
     let mut t = Tally::new("walk duration");
-    let mut one = |d: u32, m: u32, w: u32| {
-        let want = if d > LIMIT || m > 7 || w > 1 { refused(5) } else { given(oracle_duration(d, m, w == 1)) };
-        t.same(unsafe { savoiky_walk_duration(d, m, w) } == want);
-    };
+    let mut one = |s: Settings, d: u32, m: u32, w: u32| t.same(s, unsafe { savoiky_walk_duration(s, d, m, w) } == walk_outcome(s, d, m, w));
     for d in (0..300).chain(near_limit()) {
         for m in 0..10 {
             for w in 0..3 {
-                one(d, m, w);
+                one(r.any_settings(), d, m, w);
             }
         }
     }
+    for (s, _) in range_ends() {
+        [(0, 0, 0), (LIMIT, 4, 1), (LIMIT + 1, 7, 0), (5, 8, 2)].into_iter().for_each(|(d, m, w)| one(s, d, m, w));
+    }
     for _ in 0..RANDOM {
-        one(r.time(), r.below(9), r.below(3));
+        one(r.any_settings(), r.time(), r.below(9), r.below(3));
     }
     t
 }
 
 fn rounds(r: &mut Random) -> Tally {
     let mut t = Tally::new("round count");
-    let mut one = |w: u32, x: u32| t.same(unsafe { savoiky_max_rounds(w, x) } == oracle_rounds(w, x));
+    let mut one = |s: Settings, w: u32, x: u32| t.same(s, unsafe { savoiky_max_rounds(s, w, x) } == rounds_outcome(s, w, x));
     for w in (0..40).chain([u32::MAX - 2, u32::MAX - 1, u32::MAX]) {
         for x in (0..40).chain([u32::MAX - 2, u32::MAX - 1, u32::MAX]) {
-            one(w, x);
+            one(r.any_settings(), w, x);
         }
     }
+    for (s, _) in range_ends() {
+        [(0, 0), (9, 3), (u32::MAX, u32::MAX)].into_iter().for_each(|(w, x)| one(s, w, x));
+    }
     for _ in 0..RANDOM {
-        one(r.any(), r.any());
+        one(r.any_settings(), r.any(), r.any());
     }
     t
 }
 
 fn frequency(r: &mut Random) -> Tally {
     let mut t = Tally::new("frequency boarding");
-    let mut one = |count: u32, w: &[u32], base: u32, dep: u32, after: u32| {
-        let want = freq_outcome(count, w, base, dep, after);
-        t.same(unsafe { savoiky_freq_board(count, w.as_ptr(), w.len(), base, dep, after) } == want);
+    let mut one = |s: Settings, count: u32, w: &[u32], base: u32, dep: u32, after: u32| {
+        let want = freq_outcome(s, count, w, base, dep, after);
+        t.same(s, unsafe { savoiky_freq_board(s, count, w.as_ptr(), w.len(), base, dep, after) } == want);
     };
     for start in 0..5 {
         for end in 0..8 {
@@ -114,7 +133,7 @@ fn frequency(r: &mut Random) -> Tally {
                 for base in 0..4 {
                     for dep in 0..6 {
                         for after in 0..9 {
-                            one(1, &[start, end, headway], base, dep, after);
+                            one(r.any_settings(), 1, &[start, end, headway], base, dep, after);
                         }
                     }
                 }
@@ -122,46 +141,64 @@ fn frequency(r: &mut Random) -> Tally {
         }
     }
     let most: Vec<u32> = (0..65536 * 3 + 3).map(|i| [600, 1200, 300][i as usize % 3]).collect();
-    for n in [0, 1, 65535, 65536, 65537] {
-        one(n, &most[..n as usize * 3], 600, 660, 961);
-        one(n, &most[..n as usize * 3], 600, 660, 661);
+    let ends = range_ends().into_iter().map(|(s, _)| s);
+    for (s, n) in [0, 1, 65535, 65536, 65537].into_iter().map(|n| (OWN, n)).chain(ends.flat_map(|s| [0, 1, 65537].map(|n| (s, n)))) {
+        one(s, n, &most[..n as usize * 3], 600, 660, 961);
+        one(s, n, &most[..n as usize * 3], 600, 660, 661);
+        one(s, n, &most[..1], 600, 660, 661);
+        one(s, n, &most[..n as usize * 3], 600, LIMIT + 1, 661);
     }
     for _ in 0..RANDOM {
         let (count, w, base, dep, after) = random_windows(r);
-        one(count, &w, base, dep, after);
+        one(r.any_settings(), count, &w, base, dep, after);
     }
     t
 }
 
-fn delays(r: &mut Random) -> Tally {
-    let mut t = Tally::new("delays");
+fn one_flags(t: &mut Tally, s: Settings, flags: u32) {
+    t.same(s, unsafe { savoiky_skipped(s, flags) } == skipped_outcome(s, flags));
+}
+
+// small times and delays under these flags, each with settings of its own
+fn small_delays(t: &mut Tally, r: &mut Random, flags: u32) {
     let small = [0u32, 1, 2, 3, u32::MAX, u32::MAX - 1, u32::MAX - 2];
-    for flags in 0..10 {
-        t.same(unsafe { savoiky_skipped(flags) } == if flags > 7 { refused(5) } else { given(flags / 4) });
-        for time in 0..4 {
-            for trip in small {
-                for own in small {
-                    t.same(departure_agrees(time, trip, flags, own));
-                    for shift in small {
-                        t.same(arrival_agrees(time, shift, trip, flags, own));
-                    }
+    for time in 0..4 {
+        for trip in small {
+            for own in small {
+                let s = r.any_settings();
+                t.same(s, departure_agrees(s, time, trip, flags, own));
+                for shift in small {
+                    t.same(s, arrival_agrees(s, time, shift, trip, flags, own));
                 }
             }
         }
     }
-    for _ in 0..RANDOM {
-        let flags = r.below(9);
-        t.same(departure_agrees(r.time(), r.signed(), flags, r.signed()));
-        t.same(arrival_agrees(r.time(), r.signed(), r.signed(), flags, r.signed()));
-        let d = random_delays(r);
-        t.same(d.margin_agrees());
-        t.same(d.row_agrees(r));
+}
+
+fn delays(r: &mut Random) -> Tally {
+    let mut t = Tally::new("delays");
+    for flags in 0..10 {
+        one_flags(&mut t, r.any_settings(), flags);
+        small_delays(&mut t, r, flags);
     }
-    for n in [0, 1, 4095, 4096, 4097] {
-        let d = Delays::filled(n);
-        t.same(d.margin_agrees());
-        for _ in 0..200 {
-            t.same(d.row_agrees(r));
+    for _ in 0..RANDOM {
+        let (s, flags) = (r.any_settings(), r.below(9));
+        one_flags(&mut t, s, flags);
+        t.same(s, departure_agrees(s, r.time(), r.signed(), flags, r.signed()));
+        t.same(s, arrival_agrees(s, r.time(), r.signed(), r.signed(), flags, r.signed()));
+        let d = random_delays(r);
+        t.same(d.settings, d.margin_agrees());
+        t.same(d.settings, d.row_agrees(r));
+    }
+    let ends = range_ends().into_iter().flat_map(|(s, _)| [0, 1, 4, 4097].map(|n| (s, n)));
+    for (s, n) in [0, 1, 4095, 4096, 4097].into_iter().map(|n| (OWN, n)).chain(ends) {
+        let d = Delays { settings: s, ..Delays::filled(n) };
+        t.same(s, d.margin_agrees());
+        for flags in 0..10 {
+            one_flags(&mut t, s, flags);
+            t.same(s, departure_agrees(s, r.time(), r.signed(), flags, r.signed()));
+            t.same(s, arrival_agrees(s, r.time(), r.signed(), r.signed(), flags, r.signed()));
+            (0..20).for_each(|_| t.same(s, d.row_agrees(r)));
         }
     }
     t
@@ -169,19 +206,19 @@ fn delays(r: &mut Random) -> Tally {
 
 fn clock(r: &mut Random) -> Tally {
     let mut t = Tally::new("clock reading");
-    let mut one = |h: u32, m: u32, s: u32| {
-        let want = if h > 47 || m > 59 || s > 59 { refused(5) } else { given(3600 * h + 60 * m + s) };
-        t.same(unsafe { savoiky_service_second(h, m, s) } == want);
-    };
+    let mut one = |set: Settings, h: u32, m: u32, s: u32| t.same(set, unsafe { savoiky_service_second(set, h, m, s) } == clock_outcome(set, h, m, s));
     for h in 0..50 {
         for m in 0..62 {
             for s in 0..62 {
-                one(h, m, s);
+                one(r.any_settings(), h, m, s);
             }
         }
     }
+    for (s, _) in range_ends() {
+        [(0, 0, 0), (47, 59, 59), (48, 60, 60)].into_iter().for_each(|(h, m, second)| one(s, h, m, second));
+    }
     for _ in 0..RANDOM {
-        one(r.any(), r.any(), r.any());
+        one(r.any_settings(), r.any(), r.any(), r.any());
     }
     t
 }
@@ -191,7 +228,7 @@ fn label_naming(kind: u32, field: usize, number: u32, stops: u32, row: u32) -> L
     let mut fields = [0; 7];
     fields[field] = number;
     let n = 13 * stops as usize;
-    LabelCase { stops, stop: stops - 1, row, kind, fields, distance: 2.5, words: vec![3; 8 * n], distances: vec![5; n] }
+    LabelCase { settings: OWN, stops, stop: stops - 1, row, kind, fields, distance: 2.5, words: vec![3; 8 * n], distances: vec![5; n] }
 }
 
 // each field of each label that names a stop: below the count, at it and past it; question 4 before 5
@@ -200,9 +237,20 @@ fn label_stops(t: &mut Tally) {
         for &field in stop_fields(kind) {
             for (number, code) in [(0, 0), (stops - 1, 0), (stops, 4), (stops + 1, 4), (u32::MAX, 4)] {
                 let (c, late) = (label_naming(kind, field, number, stops, 12), label_naming(kind, field, number, stops, 13));
-                t.same(c.door() == code && c.stores());
-                t.same(late.door() == if code == 0 { 5 } else { 4 } && late.stores());
+                t.same(OWN, c.door() == code && c.stores());
+                t.same(OWN, late.door() == if code == 0 { 5 } else { 4 } && late.stores());
             }
+        }
+    }
+}
+
+// each kind of label, well and with an unknown stop, at the ends of the settings' ranges
+fn label_settings(t: &mut Tally) {
+    for (kind, (settings, code)) in (1..4).flat_map(|kind| range_ends().into_iter().map(move |e| (kind, e))) {
+        let field = stop_fields(kind)[0];
+        for (number, later) in [(0, 0), (3, 4)] {
+            let c = LabelCase { settings, ..label_naming(kind, field, number, 3, 12) };
+            t.same(settings, c.door() == if code == 0 { later } else { code } && c.stores() && c.loads());
         }
     }
 }
@@ -210,8 +258,10 @@ fn label_stops(t: &mut Tally) {
 fn labels(r: &mut Random) -> Tally {
     let mut t = Tally::new("label");
     label_stops(&mut t);
+    label_settings(&mut t);
     for _ in 0..RANDOM {
-        t.same(label_agrees(r));
+        let s = r.any_settings();
+        t.same(s, label_agrees(s, r));
     }
     t
 }
@@ -220,9 +270,10 @@ fn main() {
     let mut r = Random(0x5EED);
     let tallies = [cells(&mut r), walks(&mut r), rounds(&mut r), frequency(&mut r), delays(&mut r), clock(&mut r), labels(&mut r)];
     for t in &tallies {
-        println!("{}: {} compared, {} differed", t.name, t.inputs, t.differed);
+        println!("{}: {} compared ({} refused by 14), {} differed", t.name, t.inputs, t.refused, t.differed);
     }
-    if tallies.iter().any(|t| t.differed > 0 || t.inputs < RANDOM) {
+    let ends_wrong = range_ends().iter().any(|(s, code)| s.code(0) != *code);
+    if ends_wrong || tallies.iter().any(|t| t.differed > 0 || t.inputs < RANDOM || t.refused == 0) {
         std::process::exit(1);
     }
 }

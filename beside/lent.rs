@@ -4,6 +4,7 @@
 // What a call is lent to read.
 #[derive(Clone)]
 pub struct Lent {
+    pub settings: Settings,
     pub sizes: QuerySizes,
     // the timetable (rows.rs)
     pub tables: Vec<u32>,
@@ -57,9 +58,9 @@ pub fn ask_ours(call: Call, x: &Lent, a: &mut Areas) -> Reply {
     let f = if call == Call::RunTbr { savoiky_run_tbr } else { savoiky_query };
     unsafe {
         f(
-            x.sizes, x.tables.as_ptr(), x.tables.len(), x.built.as_ptr(), x.built.len(), x.transfers.as_ptr(), x.transfers.len(), x.patterns.as_ptr(),
-            x.patterns.len(), x.distances.as_ptr() as *const f64, x.distances.len(), x.query.as_ptr(), x.query.len(), a.labels.as_mut_ptr(),
-            a.labels.len(), a.label_distances.as_mut_ptr() as *mut f64, a.label_distances.len(), a.work.as_mut_ptr(), a.work.len(),
+            x.settings, x.sizes, x.tables.as_ptr(), x.tables.len(), x.built.as_ptr(), x.built.len(), x.transfers.as_ptr(), x.transfers.len(),
+            x.patterns.as_ptr(), x.patterns.len(), x.distances.as_ptr() as *const f64, x.distances.len(), x.query.as_ptr(), x.query.len(),
+            a.labels.as_mut_ptr(), a.labels.len(), a.label_distances.as_mut_ptr() as *mut f64, a.label_distances.len(), a.work.as_mut_ptr(), a.work.len(),
             a.queue_a.as_mut_ptr(), a.queue_a.len(), a.queue_b.as_mut_ptr(), a.queue_b.len(), a.candidates.as_mut_ptr(), a.candidates.len(),
         )
     }
@@ -160,7 +161,7 @@ fn lend(r: &mut Random, c: &Case, loose: bool) -> Lent {
     if loose {
         area.extend((0..r.below(9)).map(|_| r.next() as u32));
     }
-    Lent { sizes, tables: table_words(c), built, transfers: area, patterns: pattern_bytes(c), distances, query: query_words(c) }
+    Lent { settings: c.settings, sizes, tables: table_words(c), built, transfers: area, patterns: pattern_bytes(c), distances, query: query_words(c) }
 }
 
 // areas of the right lengths, of any content
@@ -183,7 +184,8 @@ pub struct Sections<'a> {
     departures: &'a [u32],
     marks: &'a [u32],
     transfer_runs: &'a [u32],
-    settings: &'a [u32],
+    // the query's first seven
+    first: &'a [u32],
     origins: &'a [u32],
     egress: &'a [u32],
     delays: Delays,
@@ -213,11 +215,12 @@ impl Lent {
             departures: cut(b, 2 * n.departures as usize),
             marks: cut(b, n.stops as usize),
             transfer_runs: b,
-            settings: cut(q, 7),
+            first: cut(q, 7),
             origins: cut(q, 2 * n.origins as usize),
             egress: cut(q, 2 * n.egress as usize),
             delays: Delays {
-                trips: n.trips, rows: cut(q, 2 * n.delays as usize).to_vec(), stop_rows: q.to_vec(), row_count: n.delays, stop_row_count: n.stop_rows,
+                settings: self.settings, trips: n.trips, rows: cut(q, 2 * n.delays as usize).to_vec(), stop_rows: q.to_vec(), row_count: n.delays,
+                stop_row_count: n.stop_rows,
             },
         }
     }
@@ -271,7 +274,7 @@ impl Lent {
     }
 
     fn question_5(&self, s: &Sections) -> bool {
-        let q = s.settings;
+        let q = s.first;
         self.rows().ranged()
             && s.marks.iter().all(|&m| m <= 1)
             && self.transfers.chunks(4).take(self.transfer_rows()).all(|t| t[2] <= LIMIT)
@@ -296,6 +299,9 @@ impl Lent {
     fn door(&self, a: &Areas) -> u32 {
         if !self.question_1() {
             return 1;
+        }
+        if !self.settings.in_range() {
+            return 14;
         }
         if !self.question_2(a) {
             return 2;
@@ -363,7 +369,7 @@ impl Lent {
     fn read(&self) -> Case {
         let s = self.sections();
         let e = self.epoch(&s);
-        let w = s.settings;
+        let w = s.first;
         let excluded = (0..e.trips.len()).filter(|t| self.rows().at(1, *t, 7) == 1).map(|t| format!("t{t}")).collect();
         let modes = (0..7).filter(|m| (w[4] >> m) & 1 == 1).map(|m| MODES[m]).collect();
         let mut q = ItineraryQuery {
@@ -376,6 +382,7 @@ impl Lent {
         }
         let far = &self.distances[self.sizes.edges as usize..];
         Case {
+            settings: self.settings,
             q,
             modes: w[4],
             delays: s.delays.rows.chunks(2).map(|c| (c[0], c[1] as i32)).collect(),

@@ -1,17 +1,19 @@
 // The fixed list of the oracle's answers that crates/replay replays: a case a line, numbers in decimal, kind first.
-// Only the Rust of docs/src is asked (and, for refusals and the clock, cases.rs's own reading of document 01).
-//   1 cells: n, k, k cells set, m, j, j cells set, probe; then: probe held, empty, intersects, probe held by the union, union's bytes reserved
-//   2 walk: duration, mode, wheelchair; then code, value          3 rounds: wanted, transfers; then rounds
+// Only the Rust of docs/src is asked (and, for refusals and the clock, cases.rs's own reading of document 01). After the kind stand the four
+// settings (transfer_time, line_scan, candidate_slack, margin_cap), some of them out of range, so that every call answers 14; then:
+//   1 cells: n, k, k cells set, m, j, j cells set, probe; then: code, probe held, empty, intersects, probe held by the union, union's bytes reserved
+//   2 walk: duration, mode, wheelchair; then code, value          3 rounds: wanted, transfers; then code, value
 //   4 frequency: count, length, words, base, departure, wanted; then code, found, departure, shift
 //   5 departure: time, trip delay, flags, own; then code, value   6 arrival: time, shift, trip delay, flags, own; then code, value
 //   7 margin: trips, rows, stop rows, length, words, length, words; then code, value
-//   8 one stop time: the tables as in 7, trip, sequence, time, shift; then skipped, departure, arrival
+//   8 one stop time: the tables as in 7, trip, sequence, time, shift; then code, skipped, departure, arrival
 //   9 clock: hour, minute, second; then code, value
 //   11 building, of 3 stops, 5 trips of 3 stop times, 15 stop times, 1 window, 1 walk edge, 10 departures, 3 lines of 6 entries: the five
 //      counts, departures, line count, lines, entries; timetable (141), runs (6), rows (20), each trip's line (5), line runs (6),
 //      entries (6); then sorting: code, rows (20), marks (3); lines: code, count, lines (5), runs (10), entries (5); layout: code,
 //      positions (5), FIFO (3); transfers: code, count, area (96), runs (30). What is lent to be written holds 7 in every word.
-//   10 label: kind, seven fields, distance (a whole number), stop, row of three stops; then the code, the record's eight words and its distance
+//   10 label: kind, seven fields, distance (a whole number), stop, row of three stops; then the codes of storing and of reading, the record's eight
+//      words and its distance
 //   12 a search put to run_tbr and query: list_queries.rs says what it holds
 //   13 a timetable put to the building calls, and a query on what they wrote: list_chains.rs says what it holds
 #![allow(dead_code, unused)]
@@ -26,16 +28,16 @@ include!(concat!(env!("BESIDE"), "/list_queries.rs"));
 include!(concat!(env!("BESIDE"), "/list_chains.rs"));
 
 const EACH: u32 = 240;
-const QUERIES: u32 = 66 * 17;
-const CHAINS: u32 = 160;
+const QUERIES: u32 = 66 * 18;
+const CHAINS: u32 = 18 * 9;
 
 // The program reads the list in blocks of so many bytes; a line that would go from one into the next begins with that one, after empty lines.
 const BLOCK: usize = 262_144;
 
-fn line(kind: u32, words: &[u32]) {
+fn line(kind: u32, settings: Settings, words: &[u32]) {
     static BYTES: std::sync::atomic::AtomicUsize = std::sync::atomic::AtomicUsize::new(0);
     let mut s = kind.to_string();
-    for w in words {
+    for w in settings.numbers().iter().chain(words) {
         s += " ";
         s += &w.to_string();
     }
@@ -59,7 +61,7 @@ fn some_cells(r: &mut Random) -> (u32, Vec<u32>, Oracle) {
     (n, cells, o)
 }
 
-fn cells(r: &mut Random) {
+fn cells(r: &mut Random, h: Settings) {
     let (n, a, oa) = some_cells(r);
     let (m, b, ob) = some_cells(r);
     let probe = match (a.first(), b.first()) {
@@ -74,8 +76,10 @@ fn cells(r: &mut Random) {
     w.extend([m, b.len() as u32]);
     w.extend(&b);
     let p = probe as usize;
-    w.extend([probe, oa.get_bit(p) as u32, oa.is_empty() as u32, oa.intersects(&ob) as u32, u.get_bit(p) as u32, 8 * u.words().len() as u32]);
-    line(1, &w);
+    let values = [oa.get_bit(p) as u32, oa.is_empty() as u32, oa.intersects(&ob) as u32, u.get_bit(p) as u32, 8 * u.words().len() as u32];
+    w.extend([probe, h.code(0)]);
+    w.extend(if h.in_range() { values } else { [0; 5] });
+    line(1, h, &w);
 }
 
 fn tables(d: &Delays) -> Vec<u32> {
@@ -93,13 +97,11 @@ fn delays(r: &mut Random) {
         0 => w.extend([0, d.oracle_margin()]),
         n => w.extend([n, 0]),
     }
-    line(7, &w);
-    let d = loop {
-        let d = random_delays(r);
-        if d.door() == 0 && d.trips > 0 {
-            break d;
-        }
-    };
+    line(7, d.settings, &w);
+    let (mut d, h) = (random_delays(r), r.any_settings());
+    while !(Delays { settings: OWN, ..d.clone() }.door() == 0 && d.trips > 0) {
+        d = random_delays(r);
+    }
     let mut w = tables(&d);
     let trip = if d.rows.is_empty() || r.below(3) == 0 || d.rows[0] == UNKNOWN { r.below(d.trips) } else { d.rows[0] };
     let sequence = if d.stop_rows.is_empty() || r.below(3) == 0 { r.below(6) } else { d.stop_rows[1] };
@@ -109,8 +111,10 @@ fn delays(r: &mut Random) {
     let adj = d.rows.chunks(2).position(|c| c[0] == trip).map(|i| &all[i]);
     let st = stop_time(time, sequence);
     let skipped = adj.map(|a| a.is_skipped(sequence)).unwrap_or(false);
-    w.extend([trip, sequence, time, shift as u32, skipped as u32, routing::effective_dep(adj, &st), routing::effective_arr(adj, &st, shift)]);
-    line(8, &w);
+    let values = [skipped as u32, routing::effective_dep(adj, &st), routing::effective_arr(adj, &st, shift)];
+    w.extend([trip, sequence, time, shift as u32, h.code(0)]);
+    w.extend(if h.in_range() { values } else { [0; 3] });
+    line(8, h, &w);
 }
 
 // A timetable of the fixed shape, damaged in one word or count now and then.
@@ -147,8 +151,8 @@ fn fixed_timetable(r: &mut Random) -> Timetable {
     }
     let line_runs = (0..3).flat_map(|_| { let a = r.below(7); [a, r.below(7 - a)] }).collect();
     let mut x = Timetable {
-        counts: [3, 5, 15, 1, 1], tables, departures: 10, runs, rows, lines: 3, entry_count: 6, line_runs, entries: (0..6).map(|_| r.below(5)).collect(),
-        marks: vec![7; 3], line_of: vec![7; 5], made_runs: vec![7; 10], made_entries: vec![7; 5], positions: vec![7; 5], fifo: vec![7; 3],
+        settings: r.any_settings(), counts: [3, 5, 15, 1, 1], tables, departures: 10, runs, rows, lines: 3, entry_count: 6, line_runs,
+        entries: (0..6).map(|_| r.below(5)).collect(), marks: vec![7; 3], line_of: vec![7; 5], made_runs: vec![7; 10], made_entries: vec![7; 5], positions: vec![7; 5], fifo: vec![7; 3],
         work: vec![7; 10], other: vec![7; 10], line_work: vec![7; 5], line_other: vec![7; 5], line_count: 3, lines_of: (0..5).map(|_| r.below(3)).collect(),
         area: vec![7; 96], transfer_runs: vec![7; 30],
     };
@@ -183,11 +187,11 @@ fn building(r: &mut Random) {
     let (a, z) = transfers_outcome(&x);
     w.extend([a.code, a.value]);
     w.extend(z.area.iter().chain(&z.transfer_runs));
-    line(11, &w);
+    line(11, x.settings, &w);
 }
 
 // the label's own stops most often below the count; where one is not, nothing is stored
-fn label(r: &mut Random, apart: &mut Random) {
+fn label(r: &mut Random, h: Settings, apart: &mut Random) {
     let kind = 1 + r.below(3);
     let mut f = [0u32; 7];
     for x in f.iter_mut() {
@@ -196,43 +200,47 @@ fn label(r: &mut Random, apart: &mut Random) {
     f[if kind == 2 { 5 } else { 4 }] = if kind == 1 { 0 } else { r.below(13) };
     stop_fields(kind).iter().for_each(|k| f[*k] = apart.stop_number(3));
     let d = r.below(100_000);
-    let refused = stop_fields(kind).iter().any(|k| f[*k] > 2);
-    let (words, bits) = if refused { ([0; 8], 0) } else { routing::tbr::label_words(kind, f, d as f64) };
+    let code = h.code(if stop_fields(kind).iter().any(|k| f[*k] > 2) { 4 } else { 0 });
+    let (words, bits) = if code != 0 { ([0; 8], 0) } else { routing::tbr::label_words(kind, f, d as f64) };
     let mut all = vec![kind];
     all.extend(f);
-    all.extend([d, r.below(3), r.below(13), if refused { 4 } else { 0 }]);
+    all.extend([d, r.below(3), r.below(13), code, h.code(0)]);
     all.extend(words);
     all.push(f64::from_bits(bits) as u32);
-    line(10, &all);
+    line(10, h, &all);
+}
+
+// the calls that take numbers only, and frequency boarding
+fn numbers(r: &mut Random) {
+    let (h, d, m, w) = (r.any_settings(), r.time(), r.below(9), r.below(3));
+    let a = walk_outcome(h, d, m, w);
+    line(2, h, &[d, m, w, a.code, a.value]);
+    let (h, x, y) = (r.any_settings(), r.any(), r.any());
+    let a = rounds_outcome(h, x, y);
+    line(3, h, &[x, y, a.code, a.value]);
+    let (h, (count, w, base, dep, after)) = (r.any_settings(), random_windows(r));
+    let f = freq_outcome(h, count, &w, base, dep, after);
+    let all = [&[count, w.len() as u32][..], &w, &[base, dep, after, f.code, f.found, f.departure, f.time_shift_s]].concat();
+    line(4, h, &all);
+    let (h, time, trip, flags, own, shift) = (r.any_settings(), r.time(), r.signed(), r.below(9), r.signed(), r.signed());
+    let a = oracle_departure(h, time, trip, flags, own);
+    line(5, h, &[time, trip, flags, own, a.code, a.value]);
+    let a = oracle_arrival(h, time, shift, trip, flags, own);
+    line(6, h, &[time, shift, trip, flags, own, a.code, a.value]);
+    let (set, h, m, s) = (r.any_settings(), r.below(50), r.below(62), r.below(62));
+    let a = clock_outcome(set, h, m, s);
+    line(9, set, &[h, m, s, a.code, a.value]);
 }
 
 fn main() {
     let mut r = Random(2026);
-    // for the labels' stops and the chains
-    let mut apart = Random(13);
+    // for the labels' stops and the chains, and for settings
+    let (mut apart, mut house) = (Random(13), Random(14));
     for _ in 0..EACH {
-        cells(&mut r);
-        let (d, m, w) = (r.time(), r.below(9), r.below(3));
-        let a = if d > LIMIT || m > 7 || w > 1 { refused(5) } else { given(oracle_duration(d, m, w == 1)) };
-        line(2, &[d, m, w, a.code, a.value]);
-        let (x, y) = (r.any(), r.any());
-        line(3, &[x, y, oracle_rounds(x, y)]);
-        let (count, w, base, dep, after) = random_windows(&mut r);
-        let f = freq_outcome(count, &w, base, dep, after);
-        let mut all = vec![count, w.len() as u32];
-        all.extend(&w);
-        all.extend([base, dep, after, f.code, f.found, f.departure, f.time_shift_s]);
-        line(4, &all);
-        let (time, trip, flags, own, shift) = (r.time(), r.signed(), r.below(9), r.signed(), r.signed());
-        let a = oracle_departure(time, trip, flags, own);
-        line(5, &[time, trip, flags, own, a.code, a.value]);
-        let a = oracle_arrival(time, shift, trip, flags, own);
-        line(6, &[time, shift, trip, flags, own, a.code, a.value]);
+        numbers(&mut r);
+        cells(&mut r, house.any_settings());
         delays(&mut r);
-        let (h, m, s) = (r.below(50), r.below(62), r.below(62));
-        let a = if h > 47 || m > 59 || s > 59 { refused(5) } else { given(3600 * h + 60 * m + s) };
-        line(9, &[h, m, s, a.code, a.value]);
-        label(&mut r, &mut apart);
+        label(&mut r, house.any_settings(), &mut apart);
     }
     for _ in 0..160 {
         building(&mut r);

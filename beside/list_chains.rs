@@ -1,6 +1,6 @@
 // Stored chains, for crates/replay: a timetable put to the building calls, and a plain day's query on what they wrote. All have one shape: 3 stops, 5
 // trips of 3 stop times in two lines, 15 stop times, a window that no trip has, 3 walk edges, 10 listed departures; 3 origins, 2 egress stops. A
-// line, of kind 13:
+// line, of kind 13, after the settings, which all four calls have:
 //   the timetable as the building calls are lent it (151), the stops' runs (6), the caller's list (20); what the calls for lines, departures and
 //   transfers must answer (3 codes); the timetable (151) and the query (17) as `query` is lent them, distances of edges and origins (6).
 //   Then, where all three answer 0, what `query` must answer, as in a line of kind 12; where one does not, the words of each trip's line, line
@@ -8,8 +8,8 @@
 // The transfers are made of the caller's list as it came. The answers are the Rust's, on tables that the Rust built; that each is what demand 3 asks,
 // and its total the earliest of all journeys, is tried here.
 
-// of eight chains in a row, the rides of the best total; 7 is no way, 6 a refusal at building for the order of walk edges
-const RIDES: [u32; 8] = [1, 2, 1, 2, 1, 0, 7, 6];
+// of nine chains in a row, the rides of the best total; 7 is no way, 6 a refusal at building for the order of walk edges, 14 one for a setting
+const RIDES: [u32; 9] = [1, 2, 1, 2, 1, 0, 7, 6, 14];
 
 fn rides(o: &Outcome) -> u32 {
     if o.reply.total == u32::MAX { 7 } else { o.areas.candidates[3 * o.reply.candidates as usize - 1] }
@@ -56,10 +56,10 @@ fn fixed_day(r: &mut Random) -> Case {
         e.walk_edges.push(WalkEdge { from_stop_idx, to_stop_idx, duration_s, distance_m: r.below(100) as f64, pathway_mode });
     }
     e.arc_flag_pattern = vec![0; 3];
-    let listed = e.stop_departures.clone();
-    build_all(&mut e);
-    let mut c = Case { listed, ..unasked(e) };
-    (c.q, c.modes) = settings(r, &c.e, &SMALL);
+    let (listed, settings) = (e.stop_departures.clone(), r.settings());
+    build_all(&mut e, settings);
+    let mut c = Case { settings, listed, ..unasked(e) };
+    (c.q, c.modes) = wishes(r, &c.e, &SMALL);
     let at = r.below(3);
     c.origins = (0..3).map(|_| access(if r.yes(60) { at } else { r.below(3) }, 10 * r.below(9), r.below(100) as f64)).collect();
     let unreached = r.below(3);
@@ -87,7 +87,8 @@ fn building_tables(r: &mut Random, c: &Case, falling: bool) -> Vec<u32> {
 fn building_outcome(r: &mut Random, c: &Case, falling: bool) -> (Timetable, Timetable, [u32; 3]) {
     let (runs, rows) = runs_of(r, &c.listed, &[]);
     let x = Timetable {
-        counts: [3, 5, 15, 1, 3], tables: building_tables(r, c, falling), departures: 10, runs, rows: rows.iter().flat_map(|d| [d.0, d.1]).collect(),
+        settings: c.settings, counts: [3, 5, 15, 1, 3], tables: building_tables(r, c, falling), departures: 10, runs,
+        rows: rows.iter().flat_map(|d| [d.0, d.1]).collect(),
         marks: vec![7; 3], line_of: vec![7; 5], made_runs: vec![7; 10], made_entries: vec![7; 5], work: vec![7; 10], other: vec![7; 10],
         line_work: vec![7; 5], line_other: vec![7; 5], area: vec![7; 96], transfer_runs: vec![7; 30], ..Timetable::default()
     };
@@ -98,8 +99,11 @@ fn building_outcome(r: &mut Random, c: &Case, falling: bool) -> (Timetable, Time
     (x, last, [lines.code, sorted, moved.code])
 }
 
-fn chain_words(r: &mut Random, wanted: u32) -> Option<Vec<u32>> {
-    let c = fixed_day(r);
+fn chain_words(r: &mut Random, wanted: u32) -> Option<(Settings, Vec<u32>)> {
+    let mut c = fixed_day(r);
+    if wanted == 14 {
+        c.settings = r.settings_outside();
+    }
     let (x, left, codes) = building_outcome(r, &c, wanted == 6);
     let mut asked = lend(r, &c, false);
     with_window(&mut asked.tables);
@@ -107,7 +111,7 @@ fn chain_words(r: &mut Random, wanted: u32) -> Option<Vec<u32>> {
     let mut a = areas(r, &asked.sizes, 8);
     sevens(&mut a);
     let o = outcome(Call::Query, &asked, &a);
-    if !(asked.sizes.lines == 2 && walks_complete(&c) && schedule_rises(&c.e) && (wanted == 6 || rides(&o) == wanted)) {
+    if !(asked.sizes.lines == 2 && walks_complete(&c) && schedule_rises(&c.e) && (wanted == 6 || wanted == 14 || rides(&o) == wanted)) {
         return None;
     }
     let mut w = [&x.tables[..], &x.runs, &x.rows, &codes, &asked.tables, &asked.query].concat();
@@ -115,24 +119,25 @@ fn chain_words(r: &mut Random, wanted: u32) -> Option<Vec<u32>> {
     let built = [&left.line_of[..], &left.made_runs[..4], &left.made_entries, &left.runs, &left.rows, &left.marks, &left.transfer_runs].concat();
     if codes != [0; 3] {
         w.extend(built);
-        return Some(w);
+        return Some((c.settings, w));
     }
     // what the calls must write is what the query is asked on
-    assert!(built == asked.built && left.area[..asked.transfers.len()] == asked.transfers && by_brute_force(c, &o));
+    assert!(built == asked.built && left.area[..asked.transfers.len()] == asked.transfers && by_brute_force(&c, &o));
     w.extend(outcome_words(&o));
-    Some(w)
+    Some((c.settings, w))
 }
 
 // is this what demand 3 asks of the timetable and the caller's list, and the total the earliest of all journeys?
-fn by_brute_force(mut c: Case, o: &Outcome) -> bool {
-    let scans = run(&c, switch(Call::Query, &c)).1;
+fn by_brute_force(c: &Case, o: &Outcome) -> bool {
+    let scans = run(c, switch(Call::Query, c)).1;
+    let mut c = c.clone();
     c.e.stop_departures = c.listed.clone();
     journeys(&c).into_iter().min() == Some(o.reply.total) && demand_3(&c, &scans, &o.reply, &o.areas.candidates)
 }
 
 fn stored_chains(r: &mut Random, rows: u32) {
     for i in 0..rows {
-        let words = std::iter::repeat_with(|| chain_words(r, RIDES[i as usize % 8])).flatten().next().unwrap();
-        line(13, &words);
+        let (settings, words) = std::iter::repeat_with(|| chain_words(r, RIDES[i as usize % 9])).flatten().next().unwrap();
+        line(13, settings, &words);
     }
 }

@@ -1,4 +1,4 @@
-// Stored answers of `run_tbr` and `query`, for crates/replay. A line, of kind 12:
+// Stored answers of `run_tbr` and `query`, for crates/replay. A line, of kind 12, after the settings:
 //   the 15 counts; the lengths of the 12 slices lent (timetable, built, transfers, patterns, distances, query; labels, their distances,
 //   workspace, the two queue halves, candidates); the words of timetable, built, transfers, query, then the patterns (a byte a word) and
 //   the distances (whole numbers). Then for `run_tbr`, and again for `query`: code, total, stop, number of candidates, their words (3 each),
@@ -8,8 +8,8 @@
 // the most words of a line, and of labels, their distances, workspace, queue half, candidates; of patterns and distances
 const ROOM: [usize; 8] = [640, 840, 105, 384, 128, 40, 256, 64];
 
-// of 17 searches in a row: 9 with a way, one with none (7), one refused by 8 and one by each of 1 to 6
-const WANTED: [u32; 17] = [0, 0, 1, 0, 2, 0, 3, 0, 4, 0, 5, 0, 6, 0, 7, 0, 8];
+// of 18 searches in a row: 9 with a way, one with none (7), one refused by 8, by 14 and by each of 1 to 6
+const WANTED: [u32; 18] = [0, 0, 1, 0, 2, 0, 3, 0, 4, 0, 5, 0, 6, 0, 7, 0, 8, 14];
 
 fn met(o: &Outcome) -> u32 {
     if o.reply.code == 0 && o.reply.total == u32::MAX { 7 } else { o.reply.code }
@@ -70,6 +70,9 @@ fn drawn_small(r: &mut Random, kind: u32, wanted: u32) -> (Lent, Areas) {
     let mut x = lend(r, &c, loose);
     let half = half_for(r, flags_on(&c), &ran.2);
     let mut a = areas(r, &x.sizes, half);
+    if wanted == 14 {
+        x.settings = r.settings_outside();
+    }
     if (1..7).contains(&wanted) {
         (0..1 + r.below(2)).for_each(|_| x.damage(r));
         if r.yes(20) {
@@ -91,13 +94,13 @@ fn stored_query(r: &mut Random, kind: u32, wanted: u32) {
         w.extend(outcome_words(&one));
         w.extend(outcome_words(&two));
         if w.len() < ROOM[0] && met(&one) == wanted {
-            return line(12, &w);
+            return line(12, x.settings, &w);
         }
     }
 }
 
 fn stored_queries(r: &mut Random, rows: u32) {
     for i in 0..rows {
-        stored_query(r, i % 16, WANTED[i as usize % 17]);
+        stored_query(r, i % 16, WANTED[i as usize % 18]);
     }
 }

@@ -1,6 +1,6 @@
 // What the answered searches have met: how often each thing of document 01's domain was there. A run that never met one of them shows too little.
 
-const THINGS: [&str; 38] = [
+const THINGS: [&str; 43] = [
     "arc flags put off by the switch", "arc flags in use that skip some row", "arc flags on that skip nothing", "segments queued", "a queue half that is just full",
     "a frequency trip ridden", "a mark at a stop without windows", "windows at a stop without mark", "a negative shift", "a window of headway 0 or that ends before it begins",
     "a delay row", "a skipped stop", "an unknown trip", "unknown trips repeated", "a delay past the margin's cap", "a delay near the limit",
@@ -8,19 +8,25 @@ const THINGS: [&str; 38] = [
     "an origin repeated", "shared stop times", "a trip of one stop time", "wheelchair query with stairs or escalator", "a trip no wheelchair can take", "modes asked that bar a trip",
     "pickup or drop-off 2 or 3", "barred pickup or drop-off", "an excluded trip", "an inactive trip", "two egress stops of one total", "a time at the limit", "a duration at the limit",
     "a distance that is a NaN in a label", "rows in no run, or runs that share rows or fall", "answered after damage or with hostile words",
+    "settings other than the Rust's own numbers", "transfers all of one time that is not 120", "of a sample, line_scan decides what is left",
+    "of a sample, candidate_slack decides", "of a sample, margin_cap decides",
 ];
+
+// of so many answered searches one is asked of the Rust again, with one of the three numbers of a query put back to the Rust's own
+const SAMPLE: u64 = 8;
 
 // groups of counts: name, the least value, how many values, the last one meaning it or more
 const GROUPS: [(&str, u32, usize); 5] = [("rounds", 4, 9), ("wanted rounds", 0, 14), ("transfers", 0, 12), ("row of a label", 0, 13), ("row of the best total", 0, 13)];
 
 struct Met {
-    things: [u64; 38],
+    answered: u64,
+    things: [u64; 43],
     groups: [[u64; 14]; 5],
 }
 
 impl Default for Met {
     fn default() -> Met {
-        Met { things: [0; 38], groups: [[0; 14]; 5] }
+        Met { answered: 0, things: [0; 43], groups: [[0; 14]; 5] }
     }
 }
 
@@ -51,7 +57,7 @@ fn delays_met(c: &Case) -> [bool; 6] {
     let unknown = c.delays.iter().filter(|d| d.0 == UNKNOWN).count();
     let sizes = || c.delays.iter().map(|d| d.1.unsigned_abs()).chain(c.stop_rows.iter().flat_map(|s| [s[3], s[4]]).map(|d| (d as i32).unsigned_abs()));
     let skipped = c.stop_rows.iter().any(|s| s[2] & 4 != 0);
-    [!c.delays.is_empty(), skipped, unknown > 0, unknown > 1, sizes().any(|d| d > 21600), sizes().any(|d| d > LIMIT - 1000)]
+    [!c.delays.is_empty(), skipped, unknown > 0, unknown > 1, sizes().any(|d| d > c.settings.margin_cap), sizes().any(|d| d > LIMIT - 1000)]
 }
 
 // of tables that no building call writes
@@ -62,8 +68,10 @@ fn hand_made_met(c: &Case) -> [bool; 6] {
     let strange = e.line_trips.iter().enumerate().any(|(l, ts)| ts.iter().any(|t| e.line_of_trip[*t as usize] != l as u32));
     let twice = e.stop_departures.iter().any(|d| (1..d.len()).any(|i| d[..i].contains(&d[i])));
     let moves = || e.trip_transfers.iter().flatten().flatten();
+    // built ones all have one time
+    let time = moves().next().map(|x| x.min_transfer_s);
     let last = e.stop_departures.iter().flatten().any(|d| d.1 + 1 == e.trips[d.0 as usize].stop_time_len);
-    let (long, other) = (e.line_trips.iter().any(|l| l.len() > 63), moves().any(|x| x.min_transfer_s != 120));
+    let (long, other) = (e.line_trips.iter().any(|l| l.len() > 63), moves().any(|x| Some(x.min_transfer_s) != time));
     [strange || times.iter().any(|n| *n != 1), long, twice, other, moves().any(|x| x.target_trip as usize >= e.trips.len()), last]
 }
 
@@ -101,6 +109,18 @@ fn ends_met(c: &Case, x: &Lent, ran: &Ran, damaged: bool) -> [bool; 6] {
     ]
 }
 
+// of the settings: the last three where it is one of the sample
+fn settings_met(c: &Case, ran: &Ran, sample: bool) -> [bool; 5] {
+    let times = || c.e.trip_transfers.iter().flatten().flatten().map(|x| x.min_transfer_s);
+    let one_time = times().next().is_some_and(|t| t != 120 && times().all(|u| u == t));
+    let decides = |k: usize| {
+        let own = OWN.numbers()[k];
+        let other = || Case { settings: c.settings.with(k, own), ..c.clone() };
+        sample && c.settings.numbers()[k] != own && !same_ran(ran, &run(&other(), c.off))
+    };
+    [c.settings != OWN, one_time, decides(1), decides(2), decides(3)]
+}
+
 impl Lent {
     fn odd_runs(&self) -> bool {
         let s = self.sections();
@@ -124,9 +144,12 @@ impl Met {
         if want.reply.code != 0 {
             return;
         }
+        self.answered += 1;
+        let sample = self.answered % SAMPLE == 0;
         let all = [
             &flags_met(c, a, ran, want.flagged, idle)[..], &windows_met(c, ran), &delays_met(c), &hand_made_met(c),
             &trips_met(c, !c.q.excluded_trip_ids.is_empty()), &ends_met(c, x, ran, damaged),
+            &settings_met(c, ran, sample),
         ];
         self.things.iter_mut().zip(all.concat()).for_each(|(n, yes)| *n += yes as u64);
         self.group(0, routing::tbr::rounds(&c.q) as u32);
@@ -139,6 +162,7 @@ impl Met {
     }
 
     fn join(&mut self, other: &Met) {
+        self.answered += other.answered;
         self.things.iter_mut().zip(other.things).for_each(|(a, b)| *a += b);
         self.groups.iter_mut().flatten().zip(other.groups.iter().flatten()).for_each(|(a, b)| *a += b);
     }

@@ -40,6 +40,22 @@ fn wrong(call: Call, x: &Lent, a: &Areas, o: &mut Outcome) {
         11 if o.reply.code == 8 => o.areas.candidates.fill(0),
         // a best total that is one second late, where there are three candidates
         12 if ok && call == Call::Query && o.reply.total != u32::MAX && o.reply.candidates > 2 => o.reply.total += 1,
+        _ => wrong_house(call, x, a, o),
+    }
+}
+
+// the same of the settings
+fn wrong_house(call: Call, x: &Lent, a: &Areas, o: &mut Outcome) {
+    let ignored = |k: usize| outcome(call, &Lent { settings: x.settings.with(k, OWN.numbers()[k]), ..x.clone() }, a);
+    match mutant() {
+        // question 14 before question 1
+        17 if o.reply.code == 1 && !x.settings.in_range() => o.reply.code = 14,
+        // after question 2
+        18 if o.reply.code == 14 && !x.question_2(a) => o.reply.code = 2,
+        // not asked of the transfer time, which a query does not read
+        19 if o.reply.code == 14 => *o = ignored(0),
+        // one of the three numbers that a query reads, ignored
+        20..=22 if o.reply.code == 0 => *o = ignored(mutant() as usize - 19),
         _ => {}
     }
 }
@@ -51,13 +67,13 @@ unsafe fn words<T: Clone>(p: *const T, n: usize) -> Vec<T> {
 macro_rules! stand_in {
     ($name:ident, $call:expr) => {
         pub unsafe extern "C" fn $name(
-            sizes: QuerySizes, t: *const u32, tn: usize, b: *const u32, bn: usize, x: *const u32, xn: usize, p: *const u8, pn: usize, d: *const f64, dn: usize,
-            q: *const u32, qn: usize, l: *mut u32, ln: usize, ld: *mut f64, ldn: usize, w: *mut u32, wn: usize, qa: *mut u32, qan: usize, qb: *mut u32,
-            qbn: usize, c: *mut u32, cn: usize,
+            settings: Settings, sizes: QuerySizes, t: *const u32, tn: usize, b: *const u32, bn: usize, x: *const u32, xn: usize, p: *const u8, pn: usize,
+            d: *const f64, dn: usize, q: *const u32, qn: usize, l: *mut u32, ln: usize, ld: *mut f64, ldn: usize, w: *mut u32, wn: usize, qa: *mut u32,
+            qan: usize, qb: *mut u32, qbn: usize, c: *mut u32, cn: usize,
         ) -> Reply {
             let lent = Lent {
-                sizes, tables: words(t, tn), built: words(b, bn), transfers: words(x, xn), patterns: words(p, pn), distances: words(d as *const u64, dn),
-                query: words(q, qn),
+                settings, sizes, tables: words(t, tn), built: words(b, bn), transfers: words(x, xn), patterns: words(p, pn),
+                distances: words(d as *const u64, dn), query: words(q, qn),
             };
             let a = Areas {
                 labels: words(l, ln), label_distances: words(ld as *const u64, ldn), work: words(w, wn), queue_a: words(qa, qan), queue_b: words(qb, qbn),
@@ -76,6 +92,6 @@ macro_rules! stand_in {
 stand_in!(savoiky_run_tbr, Call::RunTbr);
 stand_in!(savoiky_query, Call::Query);
 
-pub unsafe extern "C" fn savoiky_work_size(n: QuerySizes) -> Answer {
-    work_outcome(&n)
+pub unsafe extern "C" fn savoiky_work_size(settings: Settings, n: QuerySizes) -> Answer {
+    work_outcome(settings, &n)
 }

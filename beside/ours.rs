@@ -11,28 +11,37 @@ pub fn same_set(s: &CellBitSet, o: &Oracle) -> bool {
 pub fn random_set(r: &mut Random) -> (CellBitSet, Oracle) {
     let n = r.below(513);
     let mut o = Oracle::new(n);
-    let mut s = unsafe { savoiky_cell_bitset_new(n) }.set;
+    let mut s = unsafe { savoiky_cell_bitset_new(OWN, n) }.set;
     for _ in 0..r.below(5) {
         let c = r.below(530);
         o.set_bit(c as usize);
-        s = unsafe { savoiky_cell_bitset_set_bit(s, c) };
+        s = unsafe { savoiky_cell_bitset_set_bit(OWN, s, c) }.set;
     }
     (s, o)
 }
 
-pub fn departure_agrees(time: u32, trip: u32, flags: u32, own: u32) -> bool {
-    unsafe { savoiky_effective_departure(time, trip, flags, own) == oracle_departure(time, trip, flags, own) }
+pub fn departure_agrees(s: Settings, time: u32, trip: u32, flags: u32, own: u32) -> bool {
+    unsafe { savoiky_effective_departure(s, time, trip, flags, own) == oracle_departure(s, time, trip, flags, own) }
 }
 
-pub fn arrival_agrees(time: u32, shift: u32, trip: u32, flags: u32, own: u32) -> bool {
-    unsafe { savoiky_effective_arrival(time, shift, trip, flags, own) == oracle_arrival(time, shift, trip, flags, own) }
+pub fn arrival_agrees(s: Settings, time: u32, shift: u32, trip: u32, flags: u32, own: u32) -> bool {
+    unsafe { savoiky_effective_arrival(s, time, shift, trip, flags, own) == oracle_arrival(s, time, shift, trip, flags, own) }
+}
+
+// Is this the set, with this code? Refused by 14, a set that was handed in is handed back.
+pub fn set_agrees(got: CellSetAnswer, s: Settings, came: &Oracle, want: &Oracle) -> bool {
+    got.code == s.code(0) && same_set(&got.set, if s.in_range() { want } else { came })
+}
+
+pub fn yes_agrees(got: Answer, s: Settings, want: bool) -> bool {
+    got == numbers_outcome(s, true, || want as u32)
 }
 
 impl Delays {
     pub fn margin(&self) -> Answer {
         unsafe {
             savoiky_margin(
-                self.trips, self.row_count, self.stop_row_count, self.rows.as_ptr(), self.rows.len(), self.stop_rows.as_ptr(), self.stop_rows.len(),
+                self.settings, self.trips, self.row_count, self.stop_row_count, self.rows.as_ptr(), self.rows.len(), self.stop_rows.as_ptr(), self.stop_rows.len(),
             )
         }
     }
@@ -51,13 +60,13 @@ impl Delays {
         let sequence = if r.below(4) > 0 && self.stop_rows.len() > 4 { self.stop_rows[5 * r.below(self.stop_rows.len() as u32 / 5) as usize + 1] } else { r.below(9) };
         let got = unsafe {
             savoiky_delay_at(
-                self.trips, self.row_count, self.stop_row_count, self.rows.as_ptr(), self.rows.len(), self.stop_rows.as_ptr(), self.stop_rows.len(), trip,
-                sequence,
+                self.settings, self.trips, self.row_count, self.stop_row_count, self.rows.as_ptr(), self.rows.len(), self.stop_rows.as_ptr(),
+                self.stop_rows.len(), trip, sequence,
             )
         };
         let code = match self.door() {
             0 if trip >= self.trips => 4,
-            n if n > 4 && trip >= self.trips => 4,
+            n if n > 4 && n != 14 && trip >= self.trips => 4,
             n => n,
         };
         if code != 0 {
@@ -69,12 +78,13 @@ impl Delays {
         let shift = r.below(2 * LIMIT + 1) as i32 - LIMIT as i32;
         let st = stop_time(time, sequence);
         let skipped = adj.map(|a| a.is_skipped(sequence)).unwrap_or(false);
+        let s = self.settings;
         unsafe {
             got.code == 0
                 && got.known == adj.is_some() as u32
-                && savoiky_skipped(got.flags) == given(skipped as u32)
-                && savoiky_effective_departure(time, got.trip_delay, got.flags, got.departure_delay) == given(routing::effective_dep(adj, &st))
-                && savoiky_effective_arrival(time, shift as u32, got.trip_delay, got.flags, got.arrival_delay)
+                && savoiky_skipped(s, got.flags) == given(skipped as u32)
+                && savoiky_effective_departure(s, time, got.trip_delay, got.flags, got.departure_delay) == given(routing::effective_dep(adj, &st))
+                && savoiky_effective_arrival(s, time, shift as u32, got.trip_delay, got.flags, got.arrival_delay)
                     == given(routing::effective_arr(adj, &st, shift))
         }
     }
@@ -96,6 +106,7 @@ pub fn stop_fields(kind: u32) -> &'static [usize] {
 
 // A label to be stored in tables of any content, and the place.
 pub struct LabelCase {
+    pub settings: Settings,
     pub stops: u32,
     pub stop: u32,
     pub row: u32,
@@ -112,6 +123,8 @@ impl LabelCase {
     fn code(&self, fields: &[usize]) -> u32 {
         if self.stops > 4096 {
             1
+        } else if !self.settings.in_range() {
+            14
         } else if self.words.len() as u64 != self.stops as u64 * 104 || self.distances.len() as u64 != self.stops as u64 * 13 {
             2
         } else if self.stop >= self.stops || fields.iter().any(|k| self.fields[*k] >= self.stops) {
@@ -136,13 +149,13 @@ impl LabelCase {
     pub fn stores(&self) -> bool {
         let (mut words, mut distances) = (self.words.clone(), self.distances.clone());
         let (label, bits) = routing::tbr::label_words(self.kind, self.fields, self.distance);
-        let (f, d) = (self.fields, self.distance);
+        let (s, f, d) = (self.settings, self.fields, self.distance);
         let (wp, wl, dp, dl) = (words.as_mut_ptr(), words.len(), distances.as_mut_ptr() as *mut f64, distances.len());
         let got = unsafe {
             match self.kind {
-                1 => savoiky_label_store_access(self.stops, self.stop, self.row, f[0], f[1], f[2], d, wp, wl, dp, dl),
-                2 => savoiky_label_store_transit(self.stops, self.stop, self.row, f[0], f[1], f[2], f[3], f[4], f[5], f[6], wp, wl, dp, dl),
-                _ => savoiky_label_store_walk(self.stops, self.stop, self.row, f[0], f[1], f[2], f[3], d, f[4], wp, wl, dp, dl),
+                1 => savoiky_label_store_access(s, self.stops, self.stop, self.row, f[0], f[1], f[2], d, wp, wl, dp, dl),
+                2 => savoiky_label_store_transit(s, self.stops, self.stop, self.row, f[0], f[1], f[2], f[3], f[4], f[5], f[6], wp, wl, dp, dl),
+                _ => savoiky_label_store_walk(s, self.stops, self.stop, self.row, f[0], f[1], f[2], f[3], d, f[4], wp, wl, dp, dl),
             }
         };
         if self.door() != 0 {
@@ -151,7 +164,7 @@ impl LabelCase {
         let (mut want_words, mut want_distances) = (self.words.clone(), self.distances.clone());
         want_words[8 * self.at()..8 * self.at() + 8].copy_from_slice(&label);
         want_distances[self.at()] = bits;
-        let back = unsafe { savoiky_label_load(self.stops, self.stop, self.row, wp, wl, dp as *const f64, dl) };
+        let back = unsafe { savoiky_label_load(s, self.stops, self.stop, self.row, wp, wl, dp as *const f64, dl) };
         got == 0 && words == want_words && distances == want_distances && back.code == 0 && row_words(&back.row) == label && back.row.distance.to_bits() == bits
     }
 
@@ -166,7 +179,7 @@ impl LabelCase {
     // does reading give the row that is there, its unused words and distance 0?
     pub fn loads(&self) -> bool {
         let (wp, dp) = (self.words.as_ptr(), self.distances.as_ptr() as *const f64);
-        let back = unsafe { savoiky_label_load(self.stops, self.stop, self.row, wp, self.words.len(), dp, self.distances.len()) };
+        let back = unsafe { savoiky_label_load(self.settings, self.stops, self.stop, self.row, wp, self.words.len(), dp, self.distances.len()) };
         let (mut words, mut bits) = ([0; 8], 0);
         if self.load_code() == 0 {
             let there = &self.words[8 * self.at()..8 * self.at() + 8];
@@ -179,7 +192,7 @@ impl LabelCase {
 }
 
 // Stores one label of random kind into tables of random content and reads it back; compares every word of both tables.
-pub fn label_agrees(r: &mut Random) -> bool {
+pub fn label_agrees(settings: Settings, r: &mut Random) -> bool {
     let stops = 1 + r.below(3);
     let n = 13 * stops as usize;
     let words = (0..8 * n).map(|i| (i as u32).wrapping_mul(2_654_435_761)).collect();
@@ -190,7 +203,7 @@ pub fn label_agrees(r: &mut Random) -> bool {
     // the round is a u16 in the Rust
     fields[if kind == 2 { 5 } else { 4 }] = if kind == 1 { 0 } else { r.below(13) };
     stop_fields(kind).iter().for_each(|k| fields[*k] = r.stop_number(stops));
-    let mut c = LabelCase { stops, stop: r.below(stops), row: r.below(13), kind, fields, distance: r.distance(), words, distances };
+    let mut c = LabelCase { settings, stops, stop: r.below(stops), row: r.below(13), kind, fields, distance: r.distance(), words, distances };
     match r.below(20) {
         0 => c.stops = r.any(),
         1 => c.stop = r.any(),

@@ -76,7 +76,10 @@ fn outcome(call: Call, x: &Lent, a: &Areas) -> Outcome {
     }
 }
 
-fn work_outcome(n: &QuerySizes) -> Answer {
-    let x = Lent { sizes: *n, tables: vec![], built: vec![], transfers: vec![], patterns: vec![], distances: vec![], query: vec![] };
-    if x.question_1() { given(work_size(n) as u32) } else { refused(1) }
+fn work_outcome(settings: Settings, n: &QuerySizes) -> Answer {
+    let x = Lent { settings, sizes: *n, tables: vec![], built: vec![], transfers: vec![], patterns: vec![], distances: vec![], query: vec![] };
+    match if x.question_1() { settings.code(0) } else { 1 } {
+        0 => given(work_size(n) as u32),
+        code => refused(code),
+    }
 }

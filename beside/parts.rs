@@ -2,4 +2,5 @@
 include!(concat!(env!("ORACLE"), "/oracle.rs"));
 include!(concat!(env!("BESIDE"), "/ffi.rs"));
 include!(concat!(env!("BESIDE"), "/random.rs"));
+include!(concat!(env!("BESIDE"), "/settings.rs"));
 include!(concat!(env!("BESIDE"), "/cases.rs"));

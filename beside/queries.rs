@@ -1,11 +1,11 @@
-// queries [COUNT [SEED [JOBS]]]: `run_tbr` and `query` beside the Rust: COUNT random searches of all kinds, small and large, a third of them damaged;
-// queue halves with just enough room and too little; 0, 1, limit and limit + 1 of every count; for every ten of them a search of hostile words,
-// four plain days and two steady ones, there against all journeys and ways, and five plain days and one steady on tables that our building calls
-// wrote (chains.rs); for every hundred, four days with one condition of a steady day broken, where the same test must find answers that are not
-// what demand 3 asks. JOBS threads share them, each with a seed of its own. Every word of every area is compared, after a refusal too; one
-// instance is one call with all that it could have written. It prints how many were compared, by the code expected, what was met in the
-// answered ones (met.rs), on steady days (steady.rs) and in chains, and how many differed; status 1 where any did, where a code or a thing was
-// never met, or where a broken condition was never found.
+// queries [COUNT [SEED [JOBS]]]: `run_tbr` and `query` beside the Rust: COUNT random searches of all kinds, small and large, a third of them damaged,
+// under random settings; queue halves with just enough room and too little; 0, 1, limit and limit + 1 of every count, each end of the settings'
+// ranges and one past each; for every ten of them a search of hostile words, four plain days and two steady ones, there against all journeys and
+// ways, and five plain days and one steady on tables that our building calls wrote (chains.rs); for every hundred, four days with one condition of
+// a steady day broken, where the same test must find answers that are not what demand 3 asks. JOBS threads share them, each with a seed of its
+// own. Every word of every area is compared, after a refusal too; one instance is one call with all that it could have written. It prints how
+// many were compared, by the code expected, what was met in the answered ones (met.rs), on steady days (steady.rs) and in chains, and how many
+// differed; status 1 where any did, where a code or a thing was never met, or where a broken condition was never found.
 #![allow(dead_code, unused)]
 include!(concat!(env!("BESIDE"), "/query_parts.rs"));
 include!(concat!(env!("BESIDE"), "/timetables.rs"));
@@ -25,7 +25,7 @@ const COUNT: u64 = 400_000;
 struct Tally {
     compared: u64,
     differed: u64,
-    codes: [u64; 9],
+    codes: [u64; 15],
     no_way: u64,
     flagged: u64,
 }
@@ -49,12 +49,13 @@ impl Tally {
     }
     fn met_all(&self) -> bool {
         let c = &self.codes;
-        c[..7].iter().all(|n| *n > 0) && c[8] > 0 && self.no_way > 0 && self.no_way < c[0] && self.flagged > 0 && self.flagged < c[0]
+        c[..7].iter().all(|n| *n > 0) && c[8] > 0 && c[14] > 0 && self.no_way > 0 && self.no_way < c[0] && self.flagged > 0 && self.flagged < c[0]
     }
     fn print(&self, name: &str) {
         let c = &self.codes;
         println!("{name}: {} compared, {} differed", self.compared, self.differed);
-        println!("  answered {} ({} no way, {} with flags in use); refused by 1 to 6: {:?}, by 8: {}", c[0], self.no_way, self.flagged, &c[1..7], c[8]);
+        let answered = format!("answered {} ({} no way, {} with flags in use)", c[0], self.no_way, self.flagged);
+        println!("  {answered}; refused by 1 to 6: {:?}, by 8: {}, by 14: {}", &c[1..7], c[8], c[14]);
     }
 }
 
@@ -67,6 +68,9 @@ struct Tallies {
     hostile: u64,
     plain: Tally,
     steady: Tally,
+    // of what days, plain ones and chains among them, must have met of the settings (HOUSES), how often
+    houses: [u64; HOUSES.len()],
+    days: u64,
     // of what steady days must have met (STEADY), how often
     steady_met: [u64; STEADY.len()],
     // steady days with one condition broken (BREAKS): those that differed were found
@@ -84,6 +88,8 @@ impl Tallies {
         (0..2).for_each(|k| self.calls[k].join(&t.calls[k]));
         self.plain.join(&t.plain);
         self.steady.join(&t.steady);
+        self.houses.iter_mut().zip(t.houses).for_each(|(a, b)| *a += b);
+        self.days += t.days;
         self.steady_met.iter_mut().zip(t.steady_met).for_each(|(a, b)| *a += b);
         self.broken.iter_mut().zip(&t.broken).for_each(|(a, b)| a.join(b));
         self.chains.iter_mut().zip(&t.chains).for_each(|(a, b)| a.join(b));
@@ -105,6 +111,9 @@ impl Tallies {
     // have steady days and chains met all they must, and was each broken condition found?
     fn days_fine(&self) -> bool {
         let s = &self.steady;
+        if self.houses.contains(&0) {
+            return false;
+        }
         let met = s.no_way > 0 && s.flagged > 0 && s.flagged < s.compared && self.steady_met.iter().all(|n| *n > 0);
         met && self.broken.iter().all(|b| b.differed > 0) && self.chains.iter().all(|c| c.no_way > 0) && self.chains_met.iter().all(|n| *n > 0)
     }
@@ -119,6 +128,11 @@ impl Tallies {
             println!("{} cases are not what they should be", self.wrong);
         }
     }
+    fn houses_of(&mut self, c: &Case, reply: &Reply) {
+        self.days += 1;
+        let met = houses_met(c, reply, self.days % SAMPLE == 0);
+        self.houses.iter_mut().zip(met).for_each(|(n, yes)| *n += yes as u64);
+    }
     // the comparison with all journeys and ways
     fn print_days(&self) {
         let all = ["plain days", "steady days", "plain days of tables built by our calls", "steady days of tables built by our calls"];
@@ -130,6 +144,8 @@ impl Tallies {
             let met: Vec<String> = things.iter().zip(met).map(|(thing, n)| format!("{thing} {n}")).collect();
             println!("  {name} with: {}", met.join(", "));
         }
+        let houses: Vec<String> = HOUSES.iter().zip(self.houses).map(|(name, n)| format!("{name} {n}")).collect();
+        println!("  all of them with: {}", houses.join(", "));
         let broken: Vec<String> = BREAKS.iter().zip(&self.broken).map(|((name, _), b)| format!("{name} {} of {}", b.differed, b.compared)).collect();
         println!("  found to differ where one condition is broken: {}", broken.join(", "));
     }
@@ -161,7 +177,7 @@ fn compare(t: &mut Tallies, x: &Lent, a: &Areas, given: Option<&Ran>) {
         t.calls[k].add(want, reply == want.reply && got == want.areas);
     }
     t.sizes += 1;
-    t.sizes_differed += (unsafe { savoiky_work_size(x.sizes) } != work_outcome(&x.sizes)) as u64;
+    t.sizes_differed += (unsafe { savoiky_work_size(x.settings, x.sizes) } != work_outcome(x.settings, &x.sizes)) as u64;
 }
 
 // so many searches on tables drawn once
@@ -185,6 +201,10 @@ fn random_search(r: &mut Random, t: &mut Tallies, c: &Case, ran: &Ran) {
     let half = half_for(r, flags_on(c), &ran.2);
     let mut a = areas(r, &x.sizes, half);
     let damaged = r.below(3) == 0;
+    // a search does not read the transfer time
+    if r.yes(30) {
+        x.settings.transfer_time = r.settings().transfer_time;
+    }
     if damaged {
         (0..1 + r.below(2)).for_each(|_| x.damage(r));
         if r.yes(8) {
@@ -195,7 +215,8 @@ fn random_search(r: &mut Random, t: &mut Tallies, c: &Case, ran: &Ran) {
     compare(t, &x.clone(), &a, if damaged { None } else { Some(ran) });
 }
 
-// so many queries on the tables of one day: another start, egress, change time, rounds, modes, excluded trips, delays; the walks stay complete
+// so many queries on the tables of one day: another start, egress, change time, rounds, modes, excluded trips, delays, settings; the walks stay
+// complete, and the transfer time stays the one that the tables were built with
 const ASKED: u32 = 4;
 
 fn ask_again(r: &mut Random, c: &mut Case) {
@@ -216,9 +237,25 @@ fn day_searches(r: &mut Random, t: &mut Tallies, day: Day) {
         if !made && !is_of(&c, day) {
             continue;
         }
-        t.wrong += !(is_of(&c, day) && (k > 0 || calm(&c))) as u64;
+        t.wrong += !(is_of(&c, day) && (k > 0 || calm(&c)) && (day != Day::Plain || built_for(&c))) as u64;
         day_search(r, t, &c, day);
     }
+}
+
+// what days must have met of their settings; of a sample alone, journeys later than the best total by more than one slack and not by the other
+const HOUSES: [&str; 6] = [
+    "settings other than the Rust's own", "transfers of another time than 120", "a journey past the slack and within 3,600 s",
+    "a journey within the slack and past 3,600 s", "a delay past the cap and within 21,600 s", "a delay within the cap and past 21,600 s",
+];
+
+fn houses_met(c: &Case, reply: &Reply, sample: bool) -> [bool; 6] {
+    let (slack, cap) = (c.settings.candidate_slack, c.settings.margin_cap);
+    let late = if sample && slack != 3600 && reply.total != u32::MAX { journeys(c) } else { vec![] };
+    let late = |past: u32, within: u32| late.iter().any(|v| v.saturating_sub(reply.total) > past && v.saturating_sub(reply.total) <= within);
+    let delay = |past: u32, within: u32| c.delays.iter().any(|d| d.1.unsigned_abs() > past && d.1.unsigned_abs() <= within);
+    let own_time = |x: &TripTransferEntry| x.min_transfer_s == c.settings.transfer_time && x.min_transfer_s != 120;
+    let timed = c.e.trip_transfers.iter().flatten().flatten().any(own_time);
+    [c.settings != OWN, timed, late(slack, 3600), late(3600, slack), delay(cap, 21_600), delay(21_600, cap)]
 }
 
 // is `query`'s answer what demand 3 asks? A refusal is none, and finds nothing on a broken day.
@@ -229,6 +266,7 @@ fn day_search(r: &mut Random, t: &mut Tallies, c: &Case, day: Day) {
     let scans = run(c, switch(Call::Query, c)).1;
     let differs = if reply.code == 0 { !demand_3(c, &scans, &reply, &a.candidates) } else { !matches!(day, Day::Broken(_)) };
     t.wrong += (reply.code != 0) as u64;
+    t.houses_of(c, &reply);
     let days = match day {
         Day::Plain => &mut t.plain,
         Day::Steady => &mut t.steady,

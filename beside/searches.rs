@@ -1,6 +1,6 @@
 // Random searches: tables and queries as the Rust has them, and the reference's answers to them.
 // KIND, a sum: 1 frequency windows, 2 delays, 4 arc flags, 8 hand-made lines, marks, departures and transfers.
-// Every case has a yes to every question at the door.
+// Every case has a yes to every question at the door; its settings are in their ranges.
 use gtfs::pack::*;
 use routing::journey::*;
 use routing::tbr::{ask, Given};
@@ -24,6 +24,7 @@ type Cells = (u32, Vec<u32>);
 
 #[derive(Clone)]
 struct Case {
+    settings: Settings,
     e: StaticEpoch,
     listed: Vec<Vec<(u32, u32)>>,
     patterns: Vec<Cells>,
@@ -221,7 +222,7 @@ fn flags(r: &mut Random, e: &mut StaticEpoch, on: bool) -> Vec<Cells> {
 }
 
 // a transfer's target is not active; in its line there follow about as many entries that are not active either as a transfer tries
-fn long_line(r: &mut Random, e: &mut StaticEpoch) {
+fn long_line(r: &mut Random, e: &mut StaticEpoch, tried: u32) {
     let nt = e.trips.len() as u32;
     let targets: Vec<u32> = e.trip_transfers.iter().flatten().flatten().map(|x| x.target_trip).collect();
     let y = r.below(nt);
@@ -235,12 +236,14 @@ fn long_line(r: &mut Random, e: &mut StaticEpoch) {
     (e.active[a as usize], e.active[y as usize]) = (false, false);
     let line = &mut e.line_trips[e.line_of_trip[a as usize] as usize];
     line.retain(|t| *t != a);
-    (0..61 + r.below(4)).for_each(|_| line.insert(0, y));
+    // no longer than for the Rust's own number
+    let tried = if tried > 70 { 64 } else { tried };
+    (0..(tried + r.below(4)).saturating_sub(3)).for_each(|_| line.insert(0, y));
     line.insert(0, a);
 }
 
 // lines, marks, departures and transfers that no building call wrote
-fn by_hand(r: &mut Random, e: &mut StaticEpoch) {
+fn by_hand(r: &mut Random, e: &mut StaticEpoch, settings: Settings) {
     let (nt, nl) = (e.trips.len() as u32, e.line_trips.len() as u32);
     for m in e.stop_has_freq.iter_mut().filter(|_| r.yes(30)) {
         *m = !*m;
@@ -263,7 +266,7 @@ fn by_hand(r: &mut Random, e: &mut StaticEpoch) {
         }
     }
     if r.yes(40) {
-        long_line(r, e);
+        long_line(r, e, settings.line_scan);
     }
     for d in e.stop_departures.iter_mut() {
         if r.yes(30) && !d.is_empty() {
@@ -296,12 +299,17 @@ fn transfers_by_hand(r: &mut Random, e: &mut StaticEpoch) {
     }
 }
 
+// somewhat more than the margin's cap, where that is not too large
+fn past_cap_of(c: &Case) -> u32 {
+    c.settings.margin_cap.min(500_000) + 400
+}
+
 // delay rows by trip, stop rows by row and sequence, some skipped, and one of an unknown trip, at times past the margin's cap
 fn late(r: &mut Random, c: &mut Case) {
     // at times all delays are longer than the cap, and the query is as much later; at times most trips run early
-    let most = LIMIT as i32 - 400;
-    let far = if r.yes(12) { 22000 } else if r.yes(20) { -250 } else if r.yes(3) { [most, -most][r.below(2) as usize] } else { 0 };
-    c.start += if far > 0 { 21800 } else { 0 };
+    let (most, past) = (LIMIT as i32 - 400, past_cap_of(c) as i32);
+    let far = if r.yes(12) { past } else if r.yes(20) { -250 } else if r.yes(3) { [most, -most][r.below(2) as usize] } else { 0 };
+    c.start += if far > 0 { past as u32 - 200 } else { 0 };
     for t in 0..c.e.trips.len() as u32 {
         if !r.yes(if far != 0 { 85 } else { 45 }) {
             continue;
@@ -351,7 +359,7 @@ fn few(r: &mut Random, percent: u32, far: [u32; 3], least: u32, most: u32) -> u3
 }
 
 // modes, rounds, wheelchair, change time, excluded trips
-fn settings(r: &mut Random, e: &StaticEpoch, size: &Size) -> (ItineraryQuery, u32) {
+fn wishes(r: &mut Random, e: &StaticEpoch, size: &Size) -> (ItineraryQuery, u32) {
     let mut q = ItineraryQuery {
         raptor_max_rounds: few(r, size.long, [20, 12, u32::MAX], 7, 14), max_transfers: few(r, 5, [u32::MAX, u32::MAX - 1, 40], 4, 12), wheelchair: r.yes(30),
         default_transfer_s: if r.yes(90) { [0, 30, 120, 121][r.below(4) as usize] } else { duration(r, 1, 400) }, ..Default::default()
@@ -369,7 +377,7 @@ fn settings(r: &mut Random, e: &StaticEpoch, size: &Size) -> (ItineraryQuery, u3
 }
 
 // origins, some at one stop, and egress stops; now and then none
-fn ends(r: &mut Random, ns: u32) -> (Vec<AccessStop>, BTreeMap<u32, AccessStop>) {
+fn ends(r: &mut Random, ns: u32, slack: u32) -> (Vec<AccessStop>, BTreeMap<u32, AccessStop>) {
     let mut origins: Vec<AccessStop> = (0..1 + r.below(3)).map(|_| access(r.below(ns), duration(r, 10, 6), r.below(4) as f64)).collect();
     if r.yes(25) {
         let again = origins[0].stop_idx;
@@ -382,7 +390,7 @@ fn ends(r: &mut Random, ns: u32) -> (Vec<AccessStop>, BTreeMap<u32, AccessStop>)
     }
     // a long walk to an egress stop: a candidate of row 0, at times later than the best by more than the slack
     if r.yes(15) {
-        origins.push(access(*egress.keys().next().unwrap(), 3600 + 100 * r.below(12), 1.0));
+        origins.push(access(*egress.keys().next().unwrap(), slack + 100 * r.below(12), 1.0));
     }
     if r.yes(1) {
         origins.clear();
@@ -394,7 +402,7 @@ fn ends(r: &mut Random, ns: u32) -> (Vec<AccessStop>, BTreeMap<u32, AccessStop>)
 }
 
 // from the first shape's begin to the end of a later one, early
-fn far(r: &mut Random, shapes: &[(Vec<u32>, u32)]) -> (Vec<AccessStop>, BTreeMap<u32, AccessStop>, u32) {
+fn far(r: &mut Random, shapes: &[(Vec<u32>, u32)], slack: u32) -> (Vec<AccessStop>, BTreeMap<u32, AccessStop>, u32) {
     let mut egress = BTreeMap::new();
     for _ in 0..1 + r.below(2) {
         let shape = &shapes[(r.below(shapes.len() as u32).max(r.below(shapes.len() as u32))) as usize].0;
@@ -402,15 +410,15 @@ fn far(r: &mut Random, shapes: &[(Vec<u32>, u32)]) -> (Vec<AccessStop>, BTreeMap
     }
     let mut origins = vec![access(shapes[0].0[0], 10 * r.below(6), r.below(4) as f64)];
     if r.yes(20) {
-        origins.push(access(*egress.keys().next().unwrap(), 2500 + r.below(4000), 2.0));
+        origins.push(access(*egress.keys().next().unwrap(), slack.saturating_sub(1100) + r.below(4000), 2.0));
     }
     (origins, egress, 30 * r.below(3))
 }
 
-fn build_all(e: &mut StaticEpoch) {
+fn build_all(e: &mut StaticEpoch, settings: Settings) {
     build_departures(e);
     build_lines(e);
-    build_transfers(e);
+    under(settings, || build_transfers(e));
 }
 
 fn case(r: &mut Random, kind: u32, size: &'static Size) -> Case {
@@ -449,29 +457,30 @@ fn close(r: &mut Random, kind: u32) -> Case {
 
 // all trips but the first leave later by more than the margin's cap, and those with a delay row run as much early
 fn early(c: &mut Case) {
-    const BY: u32 = 22000;
-    c.e.stop_times.iter_mut().skip(2).for_each(|s| (s.arrival_s, s.departure_s) = (s.arrival_s + BY, s.departure_s + BY));
+    let by = past_cap_of(c);
+    c.e.stop_times.iter_mut().skip(2).for_each(|s| (s.arrival_s, s.departure_s) = (s.arrival_s + by, s.departure_s + by));
     for (row, (t, delay)) in c.delays.iter_mut().enumerate().filter(|(_, d)| d.0 > 0 && d.0 != u32::MAX) {
-        *delay -= BY as i32;
+        *delay -= by as i32;
         let adj = c.q.rt_adjust.get_mut(&format!("t{t}")).unwrap();
-        adj.trip_delay_s -= BY as i32;
-        adj.dep_delay.values_mut().chain(adj.arr_delay.values_mut()).for_each(|d| *d -= BY as i32);
+        adj.trip_delay_s -= by as i32;
+        adj.dep_delay.values_mut().chain(adj.arr_delay.values_mut()).for_each(|d| *d -= by as i32);
         for s in c.stop_rows.iter_mut().filter(|s| s[0] as usize == row) {
-            (s[3], s[4]) = (s[3].wrapping_sub(BY), s[4].wrapping_sub(BY));
+            (s[3], s[4]) = (s[3].wrapping_sub(by), s[4].wrapping_sub(by));
         }
     }
 }
 
 // walks, flags and a query on these trips
 fn asked_of(r: &mut Random, mut e: StaticEpoch, listed: Vec<Vec<(u32, u32)>>, shapes: Vec<(Vec<u32>, u32)>, kind: u32, size: &'static Size) -> Case {
+    let settings = r.settings();
     e.stop_departures = listed.clone();
-    build_all(&mut e);
+    build_all(&mut e, settings);
     walks(r, &mut e, size);
     let patterns = flags(r, &mut e, kind & 4 != 0);
     if kind & 8 != 0 {
-        by_hand(r, &mut e);
+        by_hand(r, &mut e, settings);
     }
-    let mut c = Case { listed, patterns, kind, size, shapes, ..unasked(e) };
+    let mut c = Case { settings, listed, patterns, kind, size, shapes, ..unasked(e) };
     ask_anew(r, &mut c);
     c
 }
@@ -479,18 +488,21 @@ fn asked_of(r: &mut Random, mut e: StaticEpoch, listed: Vec<Vec<(u32, u32)>>, sh
 // these tables with a query that says nothing
 fn unasked(e: StaticEpoch) -> Case {
     Case {
-        e, listed: vec![], patterns: vec![], q: ItineraryQuery::default(), modes: 0, delays: vec![], stop_rows: vec![], start: 0, origins: vec![],
-        egress: BTreeMap::new(), off: false, kind: 0, size: &SMALL, shapes: vec![], later: 0,
+        settings: OWN, e, listed: vec![], patterns: vec![], q: ItineraryQuery::default(), modes: 0, delays: vec![], stop_rows: vec![], start: 0,
+        origins: vec![], egress: BTreeMap::new(), off: false, kind: 0, size: &SMALL, shapes: vec![], later: 0,
     }
 }
 
-// another query, with other delays, on the same tables
+// another query, with other delays and at times other settings, on the same tables; the transfer time stays the one that they were built with
 fn ask_anew(r: &mut Random, c: &mut Case) {
-    (c.q, c.modes) = settings(r, &c.e, c.size);
-    (c.origins, c.egress) = ends(r, c.e.stops.len() as u32);
+    if r.yes(30) {
+        c.settings = r.settings().with(0, c.settings.transfer_time);
+    }
+    (c.q, c.modes) = wishes(r, &c.e, c.size);
+    (c.origins, c.egress) = ends(r, c.e.stops.len() as u32, c.settings.candidate_slack);
     c.start = 30 * r.below(16);
     if r.yes(c.size.far) {
-        (c.origins, c.egress, c.start) = far(r, &c.shapes);
+        (c.origins, c.egress, c.start) = far(r, &c.shapes, c.settings.candidate_slack);
     }
     c.off = r.yes(15);
     (c.delays, c.stop_rows) = (vec![], vec![]);
@@ -506,7 +518,7 @@ fn run(c: &Case, off: bool) -> Ran {
     SCANS.with(|s| s.borrow_mut().clear());
     QUEUED.with(|q| q.borrow_mut().clear());
     let egress = c.egress.iter().map(|(s, a)| (*s, a.clone())).collect();
-    let g = ask(&c.e, &c.q, c.start, &c.origins, &egress, off);
+    let g = under(c.settings, || ask(&c.e, &c.q, c.start, &c.origins, &egress, off));
     let (mut s, mut q) = (SCANS.with(|s| s.borrow().clone()), QUEUED.with(|q| q.borrow().clone()));
     s.reverse();
     q.reverse();

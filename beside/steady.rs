@@ -1,8 +1,10 @@
 // Steady days: delays and skipped stops on which demand 3 still holds; and days on which one condition of theirs is broken, where it need not.
 // A steady day is calm, and of the rides that tables and query permit no effective times fall, no departure is further from its schedule than the
-// cap, and no arrival depends on where one boarded. The transfers and what is listed may be any.
+// cap, and no arrival depends on where one boarded. The transfers and what is listed may be any. The cap is the case's own setting.
 
-const CAP: i32 = 21_600;
+fn cap(c: &Case) -> i32 {
+    c.settings.margin_cap as i32
+}
 
 // what breaks one condition alone on some days, and which: times do not fall, within the cap, one arrival
 const BREAKS: [(&str, usize); 4] = [("a departure given", 2), ("an arrival given", 0), ("a delay past the cap", 1), ("a departure before 0", 2)];
@@ -10,8 +12,8 @@ const BREAKS: [(&str, usize); 4] = [("a departure given", 2), ("an arrival given
 // what steady days must have met
 const STEADY: [&str; 18] = [
     "no transfers", "hand-made transfers", "an unevenly listed line", "a departure at a last stop", "a line with and without delay rows",
-    "an unknown trip past the cap", "the best total by a delayed trip", "a late trip", "an early trip", "a delay row of 0", "a delay of 21,600",
-    "a delay of -21,600", "a skipped stop", "a trip that leaves at 0", "a departure given", "an arrival given",
+    "an unknown trip past the cap", "the best total by a delayed trip", "a late trip", "an early trip", "a delay row of 0", "a delay of the cap",
+    "a delay of the cap, early", "a skipped stop", "a trip that leaves at 0", "a departure given", "an arrival given",
     "the best total by a trip with times given", "scheduled times that fall",
 ];
 
@@ -35,7 +37,9 @@ fn leave_later(r: &mut Random, c: &mut Case, day: Day) {
         return;
     }
     let first = c.e.stop_times.iter().map(|s| s.departure_s).min().unwrap();
-    c.later = if r.yes(50) { CAP as u32 - first.min(CAP as u32) } else { 22_000 };
+    let last = c.e.stop_times.iter().map(|s| s.arrival_s.max(s.departure_s)).max().unwrap();
+    let most = c.settings.margin_cap;
+    c.later = (if r.yes(50) { most - first.min(most) } else { most + 400 }).min(LIMIT - last);
     c.e.stop_times.iter_mut().for_each(|s| (s.arrival_s, s.departure_s) = (s.arrival_s + c.later, s.departure_s + c.later));
 }
 
@@ -56,6 +60,12 @@ fn delay(r: &mut Random, c: &mut Case, day: Day) {
         return;
     }
     let broken = if let Day::Broken(k) = day { Some(k) } else { None };
+    // a delay past the cap must be one that may be lent; what breaks another condition must find room below the cap
+    c.settings.margin_cap = match broken {
+        None => c.settings.margin_cap,
+        Some(2) => c.settings.margin_cap.min(200_000),
+        _ => c.settings.margin_cap.clamp(4000, 200_000),
+    };
     (c.delays, c.stop_rows) = (vec![], vec![]);
     delay_steadily(r, c, broken);
     match broken {
@@ -117,13 +127,13 @@ fn far_off(r: &mut Random, c: &mut Case, broken: Option<usize>) -> i32 {
     let at_cap = broken == Some(2);
     let early = r.yes(if c.later == 0 { 2 } else if at_cap { 100 } else { 40 });
     let late = at_cap || r.yes(20);
-    let by = CAP as u32 - 30 * r.below(11);
+    let by = c.settings.margin_cap.saturating_sub(30 * r.below(11));
     if early {
         c.start = c.start.saturating_sub(by);
-        -CAP
+        -cap(c)
     } else if late {
         c.start = (c.start + by).min(LIMIT);
-        CAP
+        cap(c)
     } else {
         0
     }
@@ -146,7 +156,7 @@ fn delay_steadily(r: &mut Random, c: &mut Case, broken: Option<usize>) {
         let near = (wide * step * r.below(300 / step + 1)) as i32;
         let wanted = if r.yes(8) { 0 } else if far == 0 || r.yes(10) { near - 150 * wide as i32 } else { far - far.signum() * near };
         let row = c.delays.len() as u32;
-        c.delays.push((t, wanted.max(-first_departure(c, t))));
+        c.delays.push((t, wanted.clamp(-cap(c), cap(c)).max(-first_departure(c, t))));
         for sequence in 0..6 {
             if r.yes(10) {
                 c.stop_rows.push([row, sequence, if r.yes(80) { 4 } else { 0 }, r.signed_inside(), r.signed_inside()]);
@@ -155,7 +165,7 @@ fn delay_steadily(r: &mut Random, c: &mut Case, broken: Option<usize>) {
     }
 }
 
-// times given at single stops of some trips, which are taken back where a condition would not hold
+// times given at single stops of some trips, which are taken back where a condition would not hold or a delay would be too large
 fn give_steadily(r: &mut Random, c: &mut Case) {
     let percent = [0, 15, 50][r.below(3) as usize];
     for row in 0..c.delays.len() {
@@ -164,7 +174,8 @@ fn give_steadily(r: &mut Random, c: &mut Case) {
         }
         let kept = c.stop_rows.clone();
         give_from(r, c, row);
-        if conditions_of(c, c.delays[row].0) != [true; 3] {
+        let lent = c.stop_rows.iter().all(|s| !large(s[3]) && !large(s[4]));
+        if !lent || conditions_of(c, c.delays[row].0) != [true; 3] {
             c.stop_rows = kept;
         }
     }
@@ -253,17 +264,18 @@ fn give(r: &mut Random, c: &mut Case, flag: u32) {
 // all delays just past the cap, at times by one second, save where a trip would leave before 0
 fn past_cap(r: &mut Random, c: &mut Case) {
     let most = if r.yes(30) { 1 } else { 400 };
-    let early = c.delays.iter().any(|d| d.1 < -CAP / 2);
+    let cap = cap(c);
+    let early = c.delays.iter().any(|d| d.1 < -cap / 2);
     for k in 0..c.delays.len() {
-        let size = CAP + 1 + r.below(most) as i32;
+        let size = cap + 1 + r.below(most) as i32;
         if !early {
             c.delays[k].1 = size;
         } else if first_departure(c, c.delays[k].0) >= size {
             c.delays[k].1 = -size;
         }
     }
-    if c.delays.iter().all(|d| d.1.abs() <= CAP) {
-        c.delays[0].1 = CAP + 1;
+    if c.delays.iter().all(|d| d.1.abs() <= cap) {
+        c.delays[0].1 = cap + 1;
     }
 }
 
@@ -272,7 +284,7 @@ fn before_0(r: &mut Random, c: &mut Case) {
     let most = if r.yes(30) { 1 } else { 400 };
     for k in 0..c.delays.len() {
         let first = first_departure(c, c.delays[k].0);
-        c.delays[k].1 = (-first - 1 - r.below(most) as i32).max(-CAP);
+        c.delays[k].1 = (-first - 1 - r.below(most) as i32).max(-cap(c));
     }
     let least = c.origins.iter().map(|o| o.duration_s).min().unwrap_or(0);
     c.origins.iter_mut().for_each(|o| o.duration_s -= least);
@@ -288,6 +300,11 @@ fn calm(c: &Case) -> bool {
     build_lines(&mut e);
     let built = |e: &StaticEpoch| (e.stop_departures.clone(), e.stop_has_freq.clone(), e.line_trips.clone(), e.line_of_trip.clone());
     built(&e) == built(&c.e) && e.trips.iter().all(|t| t.frequency_windows.is_empty()) && walks_complete(c)
+}
+
+// the transfers have the time of this case's own settings
+fn built_for(c: &Case) -> bool {
+    c.e.trip_transfers.iter().flatten().flatten().all(|x| x.min_transfer_s == c.settings.transfer_time)
 }
 
 // no scheduled times fall
@@ -332,7 +349,7 @@ fn rises(c: &Case, t: u32, boarded: &[u32]) -> bool {
 
 // no departure is further from its schedule than the cap
 fn within_cap(c: &Case, t: u32, boarded: &[u32]) -> bool {
-    boarded.iter().all(|o| departs(c, t, *o).abs_diff(stop_time_of(&c.e, t, *o).departure_s) <= 21_600)
+    boarded.iter().all(|o| departs(c, t, *o).abs_diff(stop_time_of(&c.e, t, *o).departure_s) <= c.settings.margin_cap)
 }
 
 // wherever it is boarded, the trip arrives at its effective times: where no time is given, the arrival is moved as far as the departure boarded was
@@ -360,7 +377,7 @@ fn trip_delays(c: &Case) -> bool {
     let given = c.stop_rows.iter().any(|s| s[2] & 3 != 0 && (c.delays[s[0] as usize].0 as usize) < c.e.trips.len());
     let put = |t: u32, o: u32, delay: i32| stop_time_of(&c.e, t, o).departure_s as i64 + delay as i64;
     let after_0 = |d: &&(u32, i32)| (0..c.e.trips[d.0 as usize].stop_time_len).all(|o| put(d.0, o, d.1) >= 0);
-    schedule_rises(&c.e) && !given && known.iter().all(|d| d.1.unsigned_abs() <= 21_600) && known.iter().all(after_0)
+    schedule_rises(&c.e) && !given && known.iter().all(|d| d.1.unsigned_abs() <= c.settings.margin_cap) && known.iter().all(after_0)
 }
 
 // flags not in use; and no delay row, all conditions, or all but the one broken; delays of whole trips break none
@@ -394,19 +411,22 @@ fn best_by(c: &Case, reply: &Reply, labels: &[u32], kind: u32, from: impl Fn(u32
 // of STEADY, which it has
 fn steady_met(c: &Case, reply: &Reply, labels: &[u32]) -> [bool; 18] {
     let transfers = || c.e.trip_transfers.iter().flatten().flatten();
+    // built ones all have one time
+    let time = transfers().next().map(|x| x.min_transfer_s);
     let last = c.e.stop_departures.iter().flatten().any(|d| d.1 + 1 == c.e.trips[d.0 as usize].stop_time_len);
     let has_row = |t: &u32| delay_row(c, *t).is_some();
     let mixed = c.e.line_trips.iter().any(|l| l.iter().any(has_row) && !l.iter().all(has_row));
-    let stranger = c.delays.iter().any(|d| d.0 == UNKNOWN && d.1.abs() > CAP);
-    let some = |test: fn(i32) -> bool| c.delays.iter().any(|d| d.0 != UNKNOWN && test(d.1));
+    let stranger = c.delays.iter().any(|d| d.0 == UNKNOWN && d.1.abs() > cap(c));
+    let some = |test: &dyn Fn(i32) -> bool| c.delays.iter().any(|d| d.0 != UNKNOWN && test(d.1));
     let event = |test: fn(&Case, u32, u32) -> bool| {
         c.delays.iter().filter(|d| d.0 != UNKNOWN).any(|d| (0..c.e.trips[d.0 as usize].stop_time_len).any(|o| test(c, d.0, o)))
     };
     let given = |t: u32, flags: u32| (0..c.e.trips[t as usize].stop_time_len).any(|o| stop_row(c, t, o).is_some_and(|s| s[2] & flags != 0));
     let delayed = best_by(c, reply, labels, 2, |t| delay_row(c, t).map_or(0, |k| c.delays[k].1) != 0);
     [
-        transfers().next().is_none(), transfers().any(|x| x.min_transfer_s != 120), uneven(c), last, mixed, stranger, delayed,
-        some(|d| d > 0), some(|d| d < 0), some(|d| d == 0), some(|d| d == CAP), some(|d| d == -CAP), event(|c, t, o| !served(c, t, o)),
+        transfers().next().is_none(), transfers().any(|x| Some(x.min_transfer_s) != time), uneven(c), last, mixed, stranger, delayed,
+        some(&|d| d > 0), some(&|d| d < 0), some(&|d| d == 0), some(&|d| d > 0 && d == cap(c)), some(&|d| d < 0 && d == -cap(c)),
+        event(|c, t, o| !served(c, t, o)),
         event(|c, t, o| departs(c, t, o) == 0), event(|c, t, o| stop_row(c, t, o).is_some_and(|s| s[2] & 1 != 0)),
         event(|c, t, o| stop_row(c, t, o).is_some_and(|s| s[2] & 2 != 0)), best_by(c, reply, labels, 2, |t| given(t, 3)),
         !schedule_rises(&c.e),

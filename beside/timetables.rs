@@ -4,6 +4,7 @@ use gtfs::pack::{build_departures, build_lines, build_transfers};
 // Everything that the building calls are lent, with the counts handed in beside it.
 #[derive(Clone, Default)]
 pub struct Timetable {
+    pub settings: Settings,
     // stops, trips, stop times, windows, walk edges
     pub counts: [u32; 5],
     pub tables: Vec<u32>,
@@ -52,6 +53,9 @@ impl Timetable {
     fn door(&self, small: bool, sized: bool, runs: impl Fn() -> bool, numbers: impl Fn() -> bool) -> u32 {
         if !(self.known().small() && small) {
             return 1;
+        }
+        if !self.settings.in_range() {
+            return 14;
         }
         if !(self.known().sized() && sized) {
             return 2;
@@ -109,6 +113,9 @@ impl Timetable {
         let run = |s: usize| (self.runs[2 * s] as u64, self.runs[2 * s + 1] as u64);
         if !(self.known().small() && self.line_count <= 4096 && d <= 65536) {
             return 1;
+        }
+        if !self.settings.in_range() {
+            return 14;
         }
         if !(self.known().sized()
             && self.lines_of.len() as u64 == self.counts[1] as u64
@@ -265,8 +272,9 @@ pub fn random_timetable(r: &mut Random) -> Timetable {
     let area = { let n = r.below(200) as usize * r.below(3) as usize; junk(r, n) };
     let transfer_runs = junk(r, 2 * events as usize);
     let long = |r: &mut Random, n: usize| -> Vec<u64> { (0..n).map(|_| r.next()).collect() };
+    let settings = r.settings();
     Timetable {
-        counts, tables, departures: d as u32, runs, rows, lines, entry_count, line_runs, entries, marks: junk(r, stops as usize), line_of: junk(r, t),
+        settings, counts, tables, departures: d as u32, runs, rows, lines, entry_count, line_runs, entries, marks: junk(r, stops as usize), line_of: junk(r, t),
         made_runs: junk(r, 2 * t), made_entries: junk(r, t), positions: junk(r, t), fifo: junk(r, lines as usize), work: long(r, d), other: long(r, d),
         line_work: long(r, t), line_other: long(r, t), line_count, lines_of, area, transfer_runs,
     }
@@ -311,6 +319,17 @@ pub fn limits() -> Vec<Timetable> {
     out
 }
 
+// At the ends of the settings' ranges and one past each: a good table, one with too many trips and one that is too long. With the code where it is plain.
+pub fn settings_limits() -> Vec<(Timetable, u32)> {
+    let with = |settings: Settings, code: u32| {
+        let [good, many] = [(9, 2, 2), (4097, 1, 1)].map(|(trips, each, lines)| Timetable { settings, area: vec![7; 4096], ..at_limit(trips, each, lines) });
+        let mut long = good.clone();
+        long.tables.push(0);
+        [(good, code), (many, 1), (long, if code == 0 { 2 } else { code })]
+    };
+    range_ends().into_iter().flat_map(|(s, code)| with(s, code)).collect()
+}
+
 // Transfers at their limit and one past it, in an area that holds them just so and in one that is a word short, with what the call must
 // answer. 32 lines at one stop: each event has a transfer to each line but for a line's first departure to itself, so 32 (trips - 1).
 pub fn transfer_limits() -> Vec<(Timetable, Answer)> {
@@ -335,7 +354,7 @@ fn at_limit(trips: u32, each: u32, line_count: u32) -> Timetable {
     let d = (trips * each) as usize;
     let rows: Vec<u32> = (0..trips).flat_map(|i| (0..each).flat_map(move |o| [i, o])).collect();
     Timetable {
-        counts: [1, trips, trips * each, 0, 0], tables, departures: d as u32, runs: vec![0, d as u32], rows, lines: 1, entry_count: trips,
+        settings: OWN, counts: [1, trips, trips * each, 0, 0], tables, departures: d as u32, runs: vec![0, d as u32], rows, lines: 1, entry_count: trips,
         line_runs: vec![0, trips], entries: (0..trips).collect(), marks: vec![7], line_of: vec![7; t], made_runs: vec![7; 2 * t], made_entries: vec![7; t],
         positions: vec![7; t], fifo: vec![7], work: vec![7; d], other: vec![7; d], line_work: vec![7; t], line_other: vec![7; t],
         line_count, lines_of: (0..trips).map(|i| i % line_count).collect(), area: vec![7; 4 * 300000],
@@ -349,7 +368,7 @@ pub fn sort_departures(y: &mut Timetable) -> u32 {
     let c = y.counts;
     unsafe {
         savoiky_sort_stop_departures(
-            c[0], c[1], c[2], c[3], c[4], y.departures, y.tables.as_ptr(), y.tables.len(), y.runs.as_ptr(), y.runs.len(), y.rows.as_mut_ptr(),
+            y.settings, c[0], c[1], c[2], c[3], c[4], y.departures, y.tables.as_ptr(), y.tables.len(), y.runs.as_ptr(), y.runs.len(), y.rows.as_mut_ptr(),
             y.rows.len(), y.marks.as_mut_ptr(), y.marks.len(), y.work.as_mut_ptr(), y.work.len(), y.other.as_mut_ptr(), y.other.len(),
         )
     }
@@ -360,7 +379,7 @@ pub fn group_lines(y: &mut Timetable) -> Answer {
     let c = y.counts;
     unsafe {
         savoiky_compute_line_groups(
-            c[0], c[1], c[2], c[3], c[4], y.tables.as_ptr(), y.tables.len(), y.line_of.as_mut_ptr(), y.line_of.len(), y.made_runs.as_mut_ptr(),
+            y.settings, c[0], c[1], c[2], c[3], c[4], y.tables.as_ptr(), y.tables.len(), y.line_of.as_mut_ptr(), y.line_of.len(), y.made_runs.as_mut_ptr(),
             y.made_runs.len(), y.made_entries.as_mut_ptr(), y.made_entries.len(), y.line_work.as_mut_ptr(), y.line_work.len(), y.line_other.as_mut_ptr(),
             y.line_other.len(),
         )
@@ -372,7 +391,7 @@ pub fn make_transfers(y: &mut Timetable) -> Answer {
     let c = y.counts;
     unsafe {
         savoiky_compute_trip_transfers(
-            c[0], c[1], c[2], c[3], c[4], y.line_count, y.departures, y.tables.as_ptr(), y.tables.len(), y.lines_of.as_ptr(), y.lines_of.len(),
+            y.settings, c[0], c[1], c[2], c[3], c[4], y.line_count, y.departures, y.tables.as_ptr(), y.tables.len(), y.lines_of.as_ptr(), y.lines_of.len(),
             y.runs.as_ptr(), y.runs.len(), y.rows.as_ptr(), y.rows.len(), y.area.as_mut_ptr(), y.area.len(), y.transfer_runs.as_mut_ptr(),
             y.transfer_runs.len(),
         )
@@ -448,7 +467,7 @@ pub fn layout_agrees(x: &Timetable) -> (bool, u32) {
     let c = y.counts;
     let got = unsafe {
         savoiky_line_layout(
-            c[0], c[1], c[2], c[3], c[4], y.lines, y.entry_count, y.tables.as_ptr(), y.tables.len(), y.line_runs.as_ptr(), y.line_runs.len(),
+            y.settings, c[0], c[1], c[2], c[3], c[4], y.lines, y.entry_count, y.tables.as_ptr(), y.tables.len(), y.line_runs.as_ptr(), y.line_runs.len(),
             y.entries.as_ptr(), y.entries.len(), y.positions.as_mut_ptr(), y.positions.len(), y.fifo.as_mut_ptr(), y.fifo.len(),
         )
     };
@@ -484,7 +503,7 @@ pub fn transfers_outcome(x: &Timetable) -> (Answer, Timetable) {
         let mut e = x.epoch();
         x.listed(&mut e);
         e.line_of_trip = x.lines_of.clone();
-        build_transfers(&mut e);
+        under(x.settings, || build_transfers(&mut e));
         let total: usize = e.trip_transfers.iter().flatten().map(|l| l.len()).sum();
         if total > 65536 || 4 * total > x.area.len() {
             code = 7;

@@ -1,5 +1,7 @@
 # The awk program of bindings/generate: to is c or rust; the files are those with the structs, and last the one with the calls (again).
 
+BEGIN { THEIRS = "The Rust's own four numbers, for a house that wants no others." }
+
 function fail(what) { print "bindings/generate: " what > "/dev/stderr"; failed = 1; exit 1 }
 
 # TYPES
@@ -81,7 +83,7 @@ function laid(name,    i, n, f, t, at, most) {
 # READING
 function forget() { comment = ""; exported = 0; shared = 0 }
 
-FNR == 1 { file++; last = (file == ARGC - 1); forget(); inside = "" }
+FNR == 1 { file++; last = (file == ARGC - 1); forget(); inside = ""; defaulting = 0 }
 
 # the body of a struct
 inside != "" {
@@ -100,6 +102,16 @@ inside != "" {
     fields[inside] = fields[inside] line ";"
     next
 }
+
+# the body of default_settings: the fields' numbers
+defaulting {
+    if ($0 ~ /^}/) { defaulting = 0; next }
+    line = $0
+    if (sub(/^ +/, "", line) && line ~ /^[a-z0-9_]+: [0-9]+,$/) { t = line; sub(/: .*/, "", t); sub(/.*: /, "", line); default_of[t] = line + 0 }
+    next
+}
+
+/^pub fn default_settings\(\) -> Settings$/ { defaulting = 1; forget(); next }
 
 # a signature that goes on
 exported == 2 { line = $0; sub(/^ +/, "", line); signature = signature " " line; whole(); next }
@@ -212,6 +224,26 @@ function c_struct(name,    i, n, f, t, field, note) {
     }
     print "} " c_name(name) ";"
     printf "SAVOIKY_SIZE(%s, %d);\n", c_name(name), laid(name)
+    if (name == "Settings") print "\n/* " THEIRS " */\nstatic const SavoikySettings SAVOIKY_DEFAULT_SETTINGS = {" defaults() "};"
+}
+
+# The numbers of default_settings, in the order of the fields: named for Rust.
+function defaults(    i, n, f, field, out) {
+    n = split(fields["Settings"], f, ";")
+    for (i = 1; i < n; i++) {
+        field = f[i]
+        sub(/: .*/, "", field)
+        if (!(field in default_of)) fail("default_settings gives no " field)
+        out = out (i > 1 ? ", " : "") (to == "c" ? "" : field ": ") default_of[field]
+    }
+    return out
+}
+
+# A text that begins with a struct's name, in capitals, has that struct after it, before the structs of the call that needs it first.
+function announced(s,    k) {
+    match(s, /^[A-Z]+/)
+    s = substr(s, 1, RLENGTH)
+    for (k = 1; k <= structs; k++) if (toupper(order[k]) == s) { c_struct(order[k]); written[order[k]] = 1 }
 }
 
 function write_c(    i, t, n, k) {
@@ -223,8 +255,8 @@ function write_c(    i, t, n, k) {
     print "#else\n#define SAVOIKY_SIZE(type, bytes) _Static_assert(sizeof(type) == bytes, \"size of \" #type)\n#endif"
     for (i = 1; i <= calls; i++) {
         n = split(text[i], t, "\n\n")
-        for (k = 1; k < n; k++) { print ""; c_comment(t[k]) }
-        for (k = 1; k <= structs; k++) if (wanted_by[k] == i) c_struct(order[k])
+        for (k = 1; k < n; k++) { print ""; c_comment(t[k]); announced(t[k]) }
+        for (k = 1; k <= structs; k++) if (wanted_by[k] == i && !(order[k] in written)) c_struct(order[k])
         print ""
         c_comment(about[named[i]])
         print wrapped("", (gives[i] == "" ? "void" : c_type(gives[i])) " " named[i] "(" (takes[i] == "" ? "void" : parameters(i)) ");")
@@ -244,29 +276,33 @@ function plain(name,    i, n, f, t) {
 }
 
 function rust_struct(name,    i, n, f) {
-    print "\n#[repr(C)]\n#[derive(Clone, Copy, PartialEq, Debug" (plain(name) ? ", Default" : "") ")]"
+    print "\n#[repr(C)]\n#[derive(Clone, Copy, PartialEq, Debug" (plain(name) && name != "Settings" ? ", Default" : "") ")]"
     print "pub struct " name " {"
     n = split(fields[name], f, ";")
     for (i = 1; i < n; i++) { sub(/@/, "; ", f[i]); print "    pub " f[i] "," }
     print "}"
     printf "const _: () = assert!(std::mem::size_of::<%s>() == %d && std::mem::align_of::<%s>() == %d);\n", name, laid(name), name, aligned[name]
+    if (name == "Settings") print "\n// " THEIRS "\npub const DEFAULT_SETTINGS: Settings = Settings { " defaults() " };"
 }
 
-# The questions out of the text that begins with CODES: lines "  N  question? (more)", which may go on in lines further in.
-function questions(    i, t, n, k, number_of) {
+# The questions out of the text that begins with CODES, in its order, which is that of asking: lines " NN  question? (more)" with the number in
+# columns 2 and 3, which may go on in lines further in.
+function questions(    i, t, n, k, count_of, going, numbers, question, told) {
     for (i = 1; i <= calls; i++) {
         n = split(text[i], t, "\n")
         for (k = 1; k <= n; k++) {
-            if (t[k] ~ /^  [0-9]  /) { number_of = substr(t[k], 3, 1) + 0; question[number_of] = substr(t[k], 6) }
-            else if (t[k] ~ /^     [^ ]/ && number_of != "") question[number_of] = question[number_of] substr(t[k], 5)
-            else number_of = ""
+            if (t[k] ~ /^ [ 0-9][0-9]  [^ ]/) { going = 1; numbers[++count_of] = substr(t[k], 1, 3) + 0; question[count_of] = substr(t[k], 6) }
+            else if (t[k] ~ /^     [^ ]/ && going) question[count_of] = question[count_of] substr(t[k], 5)
+            else going = 0
         }
     }
-    print "\n// What each code says: the question that was answered no.\npub const QUESTIONS: [&str; 9] = ["
-    for (k = 0; k <= 8; k++) {
-        if (!(k in question)) fail("no question " k)
+    if (count_of == 0) fail("no questions")
+    print "\n// What each code says: the question that was answered no. In the order of asking.\npub const QUESTIONS: [(u32, &str); " count_of "] = ["
+    for (k = 1; k <= count_of; k++) {
+        if (numbers[k] in told) fail("two questions " numbers[k])
+        told[numbers[k]] = 1
         sub(/\?.*/, "?", question[k])
-        print "    \"" question[k] "\","
+        print "    (" numbers[k] ", \"" question[k] "\"),"
     }
     print "];"
 }

@@ -1,9 +1,11 @@
 // main SEED COUNT KIND: writes COUNT random cases as theorems: the definitions on the case's tables and query give what the Rust gives.
 // KIND, a sum: 1 frequency windows, 2 delays, 4 arc flags, 8 hand-made lines, marks, departures and transfers.
-// Every case has a yes to every question at the door.
+// Every case has a yes to every question at the door; its settings are random, in their ranges.
 #![allow(dead_code, unused)]
 include!(concat!(env!("ORACLE"), "/oracle.rs"));
+include!(concat!(env!("BESIDE"), "/ffi.rs"));
 include!(concat!(env!("BESIDE"), "/random.rs"));
+include!(concat!(env!("BESIDE"), "/settings.rs"));
 include!(concat!(env!("BESIDE"), "/searches.rs"));
 include!("print.rs");
 

@@ -31,6 +31,10 @@ fn cell_set(p: &Cells) -> String {
 fn transfers(v: &[Vec<Vec<TripTransferEntry>>]) -> String {
     list(v, |t| list(t, |o| list(o, |x| format!("record {{ target = {}; offset = {}; time = {}; pattern = {} }}", x.target_trip, x.target_board_off, x.min_transfer_s, x.flag_pattern))))
 }
+fn settings(s: &Settings) -> String {
+    let n = s.numbers();
+    format!("record {{ «transfer_time» = {}; «line_scan» = {}; «candidate_slack» = {}; «margin_cap» = {} }}", n[0], n[1], n[2], n[3])
+}
 
 fn print_tables(n: u64, c: &Case) {
     let e = &c.e;
@@ -60,7 +64,7 @@ fn print_tables(n: u64, c: &Case) {
     println!("  egress = {}; modes = {}; wheelchair = {}; change = {}; wantedRounds = {}; transfers = {};", list(&c.egress, |(k, v)| format!("({k}, {})", v.duration_s)), c.modes, yes(c.q.wheelchair), c.q.default_transfer_s, c.q.raptor_max_rounds, c.q.max_transfers);
     println!("  delays = record {{ delays = {}; delay = λ i. getD {} i (record {{ trip = 0; delay = 0 }});", c.delays.len(), list(&c.delays, |d| format!("record {{ trip = {}; delay = {} }}", d.0, d.1 as u32)));
     println!("    stopRows = {}; stopRow = λ j. getD {} j (record {{ row = 0; sequence = 0; flags = 0; «departure_delay» = 0; «arrival_delay» = 0 }}) }};", c.stop_rows.len(), list(&c.stop_rows, |r| format!("record {{ row = {}; sequence = {}; flags = {}; «departure_delay» = {}; «arrival_delay» = {} }}", r[0], r[1], r[2], r[3], r[4])));
-    println!("  flagsOff = {}; settings = rustSettings }}\n", yes(c.off));
+    println!("  flagsOff = {}; settings = {} }}\n", yes(c.off), settings(&c.settings));
 }
 
 fn print_answer(n: u64, what: &str, tag: &str, c: &Case, g: &Given, scans: &[(u32, u32, u32)], queue: &[usize]) {
@@ -83,7 +87,7 @@ fn print_building(n: u64, c: &Case) {
     let (ns, nt, nl) = (c.e.stops.len(), c.e.trips.len(), c.e.line_trips.len());
     let mut plain = c.e.trip_transfers.clone();
     plain.iter_mut().flatten().flatten().for_each(|x| x.flag_pattern = 0);
-    println!("abbrev B{n} : Tables\nB{n} = built X{n} (λ s. getD {} s []) 120 []\n", departures(&c.listed));
+    println!("abbrev B{n} : Tables\nB{n} = built X{n} (λ s. getD {} s []) {} []\n", departures(&c.listed), c.settings.transfer_time);
     println!("b{n} : _≡_ {{A = List (List DepartureRow) × List ℕ × ℕ × List ℕ × List (List ℕ) × List (List (List Transfer))}}");
     println!("  (map (B{n} .departures) (upto {ns}), map (B{n} .mark) (upto {ns}), B{n} .lines, map (B{n} .lineOf) (upto {nt}), map (λ l. map (B{n} .line l .trip) (upto (B{n} .line l .count))) (upto {nl}), map (λ t. map (B{n} .transfers t) (upto (X{n} .trip t .count))) (upto {nt}))");
     println!("  ({}, {}, {nl}, {}, {}, {})", departures(&c.e.stop_departures), list(&c.e.stop_has_freq, |b| (*b as u32).to_string()), list(&c.e.line_of_trip, number), list(&c.e.line_trips, |l| list(l, number)), transfers(&plain));

@@ -28,6 +28,7 @@ extern "C" {
  *   0  none: success
  *   1  Are all counts within the limits? (4,096 stops, trips, lines, line entries, patterns, delay rows and stop rows; 65,536
  *      stop times, walk edges, departures, windows and transfers; 512 cells; 64 origins; 64 egress stops)
+ *  14  Is every setting in its range? Every call asks this, after 1 and before 2.
  *   2  Is every lent slice exactly as long as its counts say? (The transfer area and the queue may have any length; the two
  *      halves of the queue have the same.)
  *   3  Has every trip a stop time, and do all runs lie in their tables? (First + length at most the table's rows.)
@@ -37,9 +38,29 @@ extern "C" {
  *   6  Are walk edges, delay rows, stop rows, egress stops and, for a query, departures in order?
  *   7  Building transfers: are there at most 65,536, and does the area hold all of them?
  *   8  Query: does a half of the segment queue hold every round's segments?
- * After a refusal everything lent is as it came, and the other fields of the answer are 0; after 8 the labels, their distances,
- * the workspace and both halves of the queue are zero.
+ * After a refusal everything lent is as it came, a set that was handed in is handed back, and the other fields of the answer are 0;
+ * after 8 the labels, their distances, the workspace and both halves of the queue are zero.
  */
+
+/* SETTINGS OF THE HOUSE: four numbers that every call receives. Most calls only ask whether they are in their ranges (14); transfers are
+ * built with transfer_time, the margin is cut at margin_cap, a query reads the other three. Journeys on a plain day keep their guarantee
+ * under every setting where the transfers were built with the transfer_time that the query is asked with.
+ */
+
+/* The settings of the house, in seconds but for line_scan: the time of a built transfer (at most 3,600), how many trips of a line are
+ * tried for a transfer (1 to 4,096), how much later than the best total a candidate may arrive (at most 21,600), the cap of the delay
+ * margin (at most 1,048,575).
+ */
+typedef struct SavoikySettings {
+    uint32_t transfer_time;
+    uint32_t line_scan;
+    uint32_t candidate_slack;
+    uint32_t margin_cap;
+} SavoikySettings;
+SAVOIKY_SIZE(SavoikySettings, 16);
+
+/* The Rust's own four numbers, for a house that wants no others. */
+static const SavoikySettings SAVOIKY_DEFAULT_SETTINGS = {120, 64, 3600, 21600};
 
 /* CELL SETS, the arc flags' patterns: a value of 64 bytes and the count of reserved ones, handed in and handed back. */
 
@@ -51,7 +72,7 @@ typedef struct SavoikyCellBitSet {
 } SavoikyCellBitSet;
 SAVOIKY_SIZE(SavoikyCellBitSet, 68);
 
-/* The answer of a call that takes a number of cells: 0 and the set made, or the number of the first no. */
+/* The answer of a call that gives a set: 0 and the set made, or the number of the first no. */
 typedef struct SavoikyCellSetAnswer {
     uint32_t code;
     SavoikyCellBitSet set;
@@ -59,29 +80,15 @@ typedef struct SavoikyCellSetAnswer {
 SAVOIKY_SIZE(SavoikyCellSetAnswer, 72);
 
 /* An empty set for so many cells: whole groups of 64 are reserved. Question 1: at most 512 cells. */
-SavoikyCellSetAnswer savoiky_cell_bitset_new(uint32_t num_cells);
+SavoikyCellSetAnswer savoiky_cell_bitset_new(SavoikySettings settings, uint32_t num_cells);
 
 /* The set with at least the groups of so many cells reserved; it holds the same cells. Question 1: at most 512 cells; refused, the
  * set is as it came.
  */
-SavoikyCellSetAnswer savoiky_cell_bitset_ensure_sized(SavoikyCellBitSet set, uint32_t num_cells);
+SavoikyCellSetAnswer savoiky_cell_bitset_ensure_sized(SavoikySettings settings, SavoikyCellBitSet set, uint32_t num_cells);
 
-/* The set with this cell; a cell past the reserved groups is dropped. */
-SavoikyCellBitSet savoiky_cell_bitset_set_bit(SavoikyCellBitSet set, uint32_t cell);
-
-/* Is this cell in the set? */
-bool savoiky_cell_bitset_get_bit(SavoikyCellBitSet set, uint32_t cell);
-
-/* Have the sets a cell in common? */
-bool savoiky_cell_bitset_intersects(SavoikyCellBitSet set, SavoikyCellBitSet other);
-
-/* The set with the cells of the other, and room for them. */
-SavoikyCellBitSet savoiky_cell_bitset_union_with(SavoikyCellBitSet set, SavoikyCellBitSet other);
-
-/* Does the set hold no cell? */
-bool savoiky_cell_bitset_is_empty(SavoikyCellBitSet set);
-
-/* WALKS AND ROUNDS, FREQUENCY TRIPS, DELAYS, CLOCK READINGS: the leaves of a query, for a caller's own reckoning. */
+/* The set with this cell; a cell past the reserved groups is dropped. Question 14 alone; refused, the set is as it came. */
+SavoikyCellSetAnswer savoiky_cell_bitset_set_bit(SavoikySettings settings, SavoikyCellBitSet set, uint32_t cell);
 
 /* An outcome: code 0 with a value, or the number of the first no with value 0. */
 typedef struct SavoikyAnswer {
@@ -90,13 +97,27 @@ typedef struct SavoikyAnswer {
 } SavoikyAnswer;
 SAVOIKY_SIZE(SavoikyAnswer, 8);
 
+/* Is this cell in the set? The value: 1 for yes, else 0. Question 14 alone. */
+SavoikyAnswer savoiky_cell_bitset_get_bit(SavoikySettings settings, SavoikyCellBitSet set, uint32_t cell);
+
+/* Have the sets a cell in common? The value: 1 for yes, else 0. Question 14 alone. */
+SavoikyAnswer savoiky_cell_bitset_intersects(SavoikySettings settings, SavoikyCellBitSet set, SavoikyCellBitSet other);
+
+/* The set with the cells of the other, and room for them. Question 14 alone; refused, the set is as it came. */
+SavoikyCellSetAnswer savoiky_cell_bitset_union_with(SavoikySettings settings, SavoikyCellBitSet set, SavoikyCellBitSet other);
+
+/* Does the set hold no cell? The value: 1 for yes, else 0. Question 14 alone. */
+SavoikyAnswer savoiky_cell_bitset_is_empty(SavoikySettings settings, SavoikyCellBitSet set);
+
+/* WALKS AND ROUNDS, FREQUENCY TRIPS, DELAYS, CLOCK READINGS: the leaves of a query, for a caller's own reckoning. */
+
 /* How long a walk takes: for a wheelchair query (1) stairs and escalators (pathway modes 2 and 4) take 100 times as long.
  * Question 5: duration at most 1,048,575, pathway mode at most 7, wheelchair at most 1.
  */
-SavoikyAnswer savoiky_walk_duration(uint32_t duration, uint32_t pathway_mode, uint32_t wheelchair);
+SavoikyAnswer savoiky_walk_duration(SavoikySettings settings, uint32_t duration, uint32_t pathway_mode, uint32_t wheelchair);
 
-/* The rounds of a query: min(12, max(wanted, transfers + 2, 4)). Any numbers. */
-uint32_t savoiky_max_rounds(uint32_t wanted, uint32_t transfers);
+/* The rounds of a query: min(12, max(wanted, transfers + 2, 4)). Any numbers; question 14 alone. */
+SavoikyAnswer savoiky_max_rounds(SavoikySettings settings, uint32_t wanted, uint32_t transfers);
 
 /* What the entry answers: the code; then found 1 with the departure and the shift, or found 0 and zeros. */
 typedef struct SavoikyFreqAnswer {
@@ -112,29 +133,30 @@ SAVOIKY_SIZE(SavoikyFreqAnswer, 16);
  * start, start + headway and so on, before end. Found 0: none. Questions 1 (at most 65,536 windows), 2 (three words for each),
  * 5 (every number at most 1,048,575).
  */
-SavoikyFreqAnswer savoiky_freq_board(uint32_t count, const uint32_t *windows, size_t windows_len, uint32_t base, uint32_t dep,
-    uint32_t after);
+SavoikyFreqAnswer savoiky_freq_board(SavoikySettings settings, uint32_t count, const uint32_t *windows, size_t windows_len,
+    uint32_t base, uint32_t dep, uint32_t after);
 
 /* The departure under delays: flags 1 departure given at the stop, 2 arrival given, 4 skipped, added. By its own delay where
  * one is given, else by the trip's; at least 0. Question 5: times and sizes of delays at most 1,048,575, flags at most 7.
  */
-SavoikyAnswer savoiky_effective_departure(uint32_t departure, uint32_t trip_delay, uint32_t flags, uint32_t departure_delay);
+SavoikyAnswer savoiky_effective_departure(SavoikySettings settings, uint32_t departure, uint32_t trip_delay, uint32_t flags,
+    uint32_t departure_delay);
 
 /* The arrival under delays: where the stop has either time given, by its own delay, else the trip's, and no shift; where not,
  * by the shift alone; at least 0. Question 5, as above.
  */
-SavoikyAnswer savoiky_effective_arrival(uint32_t arrival, uint32_t time_shift_s, uint32_t trip_delay, uint32_t flags,
-    uint32_t arrival_delay);
+SavoikyAnswer savoiky_effective_arrival(SavoikySettings settings, uint32_t arrival, uint32_t time_shift_s, uint32_t trip_delay,
+    uint32_t flags, uint32_t arrival_delay);
 
 /* 1 where the flags say skipped, else 0. Question 5: flags at most 7. */
-SavoikyAnswer savoiky_skipped(uint32_t flags);
+SavoikyAnswer savoiky_skipped(SavoikySettings settings, uint32_t flags);
 
-/* The delay margin: the largest size among trip delays and given stop delays, at most 21,600. Delay rows of two words (trip,
+/* The delay margin: the largest size among trip delays and given stop delays, at most margin_cap. Delay rows of two words (trip,
  * delay), the trips strictly rising; 4,294,967,295 is an unknown trip, which may repeat at the end. Stop rows of five (delay row,
  * sequence, flags as above, departure delay, arrival delay), strictly rising by delay row, then sequence. Questions 1, 2, 4, 5, 6.
  */
-SavoikyAnswer savoiky_margin(uint32_t trips, uint32_t delay_row_count, uint32_t stop_row_count, const uint32_t *delay_rows,
-    size_t delay_rows_len, const uint32_t *stop_rows, size_t stop_rows_len);
+SavoikyAnswer savoiky_margin(SavoikySettings settings, uint32_t trips, uint32_t delay_row_count, uint32_t stop_row_count,
+    const uint32_t *delay_rows, size_t delay_rows_len, const uint32_t *stop_rows, size_t stop_rows_len);
 
 /* The answer of delay_at: code 0, and known 1 where the trip has a delay row; or the number of the first no, the rest 0. */
 typedef struct SavoikyDelayAt {
@@ -150,13 +172,14 @@ SAVOIKY_SIZE(SavoikyDelayAt, 24);
 /* What the delay tables say of the stop time of a trip with this sequence number: known 1 where the trip has a delay row. The
  * same questions, and 4 for a trip not below the count.
  */
-SavoikyDelayAt savoiky_delay_at(uint32_t trips, uint32_t delay_row_count, uint32_t stop_row_count, const uint32_t *delay_rows,
-    size_t delay_rows_len, const uint32_t *stop_rows, size_t stop_rows_len, uint32_t trip, uint32_t sequence);
+SavoikyDelayAt savoiky_delay_at(SavoikySettings settings, uint32_t trips, uint32_t delay_row_count, uint32_t stop_row_count,
+    const uint32_t *delay_rows, size_t delay_rows_len, const uint32_t *stop_rows, size_t stop_rows_len, uint32_t trip,
+    uint32_t sequence);
 
 /* The service second of a clock reading: 3600 hour + 60 minute + second. Question 5: hour at most 47, minute and second at
  * most 59.
  */
-SavoikyAnswer savoiky_service_second(uint32_t hour, uint32_t minute, uint32_t second);
+SavoikyAnswer savoiky_service_second(SavoikySettings settings, uint32_t hour, uint32_t minute, uint32_t second);
 
 /* LABELS: when and how a stop was reached in a round. A stop has 13 rows: row 0 is its access walk, round k writes row k + 1. The
  * label of stop s, row r is record 13 s + r: eight words from 8 (13 s + r) on in `labels` and one f64 at 13 s + r in
@@ -176,19 +199,19 @@ SavoikyAnswer savoiky_service_second(uint32_t hour, uint32_t minute, uint32_t se
  */
 
 /* Stores an Access label. Question 4: stop and stop_idx below the count of stops. */
-uint32_t savoiky_label_store_access(uint32_t stops, uint32_t stop, uint32_t row, uint32_t stop_idx, uint32_t arrival_s,
-    uint32_t walk_duration, double walk_distance, uint32_t *labels, size_t labels_len, double *label_distances,
-    size_t label_distances_len);
+uint32_t savoiky_label_store_access(SavoikySettings settings, uint32_t stops, uint32_t stop, uint32_t row, uint32_t stop_idx,
+    uint32_t arrival_s, uint32_t walk_duration, double walk_distance, uint32_t *labels, size_t labels_len,
+    double *label_distances, size_t label_distances_len);
 
 /* Stores a Transit label. Question 4: stop and board_stop below the count of stops. */
-uint32_t savoiky_label_store_transit(uint32_t stops, uint32_t stop, uint32_t row, uint32_t arrival_s, uint32_t trip_idx,
-    uint32_t board_stop, uint32_t board_off, uint32_t alight_off, uint32_t prev_round, uint32_t time_shift_s, uint32_t *labels,
-    size_t labels_len, double *label_distances, size_t label_distances_len);
+uint32_t savoiky_label_store_transit(SavoikySettings settings, uint32_t stops, uint32_t stop, uint32_t row, uint32_t arrival_s,
+    uint32_t trip_idx, uint32_t board_stop, uint32_t board_off, uint32_t alight_off, uint32_t prev_round, uint32_t time_shift_s,
+    uint32_t *labels, size_t labels_len, double *label_distances, size_t label_distances_len);
 
 /* Stores a Walk label. Question 4: stop, from_stop and to_stop below the count of stops. */
-uint32_t savoiky_label_store_walk(uint32_t stops, uint32_t stop, uint32_t row, uint32_t arrival_s, uint32_t from_stop,
-    uint32_t to_stop, uint32_t duration_s, double distance_m, uint32_t prev_round, uint32_t *labels, size_t labels_len,
-    double *label_distances, size_t label_distances_len);
+uint32_t savoiky_label_store_walk(SavoikySettings settings, uint32_t stops, uint32_t stop, uint32_t row, uint32_t arrival_s,
+    uint32_t from_stop, uint32_t to_stop, uint32_t duration_s, double distance_m, uint32_t prev_round, uint32_t *labels,
+    size_t labels_len, double *label_distances, size_t label_distances_len);
 
 /* A label as the tables hold it: the kind, its fields in their order, unused ones 0, and the distance. */
 typedef struct SavoikyLabelRow {
@@ -212,8 +235,8 @@ typedef struct SavoikyLabelAnswer {
 SAVOIKY_SIZE(SavoikyLabelAnswer, 48);
 
 /* Reads a label. Question 4: stop below the count of stops; the label's own numbers are given as they stand. */
-SavoikyLabelAnswer savoiky_label_load(uint32_t stops, uint32_t stop, uint32_t row, const uint32_t *labels, size_t labels_len,
-    const double *label_distances, size_t label_distances_len);
+SavoikyLabelAnswer savoiky_label_load(SavoikySettings settings, uint32_t stops, uint32_t stop, uint32_t row,
+    const uint32_t *labels, size_t labels_len, const double *label_distances, size_t label_distances_len);
 
 /* THE TIMETABLE, `tables`, is one slice of 6 times + 8 trips + 3 windows + 5 edges + stops words, in this order:
  *   stop times, six words: stop, arrival, departure, sequence (any number), pickup, drop-off (0 to 3; only 1 bars)
@@ -233,36 +256,39 @@ SavoikyLabelAnswer savoiky_label_load(uint32_t stops, uint32_t stop, uint32_t ro
  * where a trip with windows is listed). runs: of the stops; rows: the departures. work, other: `departures` u64 each, zero
  * afterwards. Questions 1 to 6; 6 is of the walk edges alone, the departures may come in any order.
  */
-uint32_t savoiky_sort_stop_departures(uint32_t stops, uint32_t trips, uint32_t times, uint32_t windows, uint32_t edges,
-    uint32_t departures, const uint32_t *tables, size_t tables_len, const uint32_t *runs, size_t runs_len, uint32_t *rows,
-    size_t rows_len, uint32_t *marks, size_t marks_len, uint64_t *work, size_t work_len, uint64_t *other, size_t other_len);
+uint32_t savoiky_sort_stop_departures(SavoikySettings settings, uint32_t stops, uint32_t trips, uint32_t times, uint32_t windows,
+    uint32_t edges, uint32_t departures, const uint32_t *tables, size_t tables_len, const uint32_t *runs, size_t runs_len,
+    uint32_t *rows, size_t rows_len, uint32_t *marks, size_t marks_len, uint64_t *work, size_t work_len, uint64_t *other,
+    size_t other_len);
 
 /* Groups the trips into lines: trips with the same stops in the same order, by first departure. The value says how many lines.
  * lines: each trip's line; runs: each line's run of entries, space for as many lines as trips (2 trips words; those past the lines
  * keep their content); entries: trip numbers, as many as trips. work, other: `trips` u64 each, zero afterwards. Questions 1 to 6.
  */
-SavoikyAnswer savoiky_compute_line_groups(uint32_t stops, uint32_t trips, uint32_t times, uint32_t windows, uint32_t edges,
-    const uint32_t *tables, size_t tables_len, uint32_t *lines, size_t lines_len, uint32_t *runs, size_t runs_len,
-    uint32_t *entries, size_t entries_len, uint64_t *work, size_t work_len, uint64_t *other, size_t other_len);
+SavoikyAnswer savoiky_compute_line_groups(SavoikySettings settings, uint32_t stops, uint32_t trips, uint32_t times,
+    uint32_t windows, uint32_t edges, const uint32_t *tables, size_t tables_len, uint32_t *lines, size_t lines_len,
+    uint32_t *runs, size_t runs_len, uint32_t *entries, size_t entries_len, uint64_t *work, size_t work_len, uint64_t *other,
+    size_t other_len);
 
 /* Each trip's position in its line (4,294,967,295: in none) and each line's FIFO flag (1: no trip overtakes another), of any
  * lines. runs: each line's run of entries (2 lines words); entries: `entry_count` trip numbers; positions: a word a trip; fifo: a
  * word a line. Questions 1 to 6. No query needs this call.
  */
-uint32_t savoiky_line_layout(uint32_t stops, uint32_t trips, uint32_t times, uint32_t windows, uint32_t edges, uint32_t lines,
-    uint32_t entry_count, const uint32_t *tables, size_t tables_len, const uint32_t *runs, size_t runs_len,
-    const uint32_t *entries, size_t entries_len, uint32_t *positions, size_t positions_len, uint32_t *fifo, size_t fifo_len);
+uint32_t savoiky_line_layout(SavoikySettings settings, uint32_t stops, uint32_t trips, uint32_t times, uint32_t windows,
+    uint32_t edges, uint32_t lines, uint32_t entry_count, const uint32_t *tables, size_t tables_len, const uint32_t *runs,
+    size_t runs_len, const uint32_t *entries, size_t entries_len, uint32_t *positions, size_t positions_len, uint32_t *fifo,
+    size_t fifo_len);
 
 /* Builds the transfers of every stop event (each stop time of each trip, trip by trip). The value says how many.
  * lines: each trip's line, of `line_count` lines; runs and rows: the listed departures, in any order. area: rows of four words
- * (target trip, offset, 120, pattern 0), space for any number of them; it keeps its content past the last one written.
+ * (target trip, offset, transfer_time, pattern 0), space for any number of them; it keeps its content past the last one written.
  * transfer_runs: a run for each event, so 2 words for each stop time of each trip. Questions 1 to 7. The call needs about 1 MiB
  * of stack.
  */
-SavoikyAnswer savoiky_compute_trip_transfers(uint32_t stops, uint32_t trips, uint32_t times, uint32_t windows, uint32_t edges,
-    uint32_t line_count, uint32_t departures, const uint32_t *tables, size_t tables_len, const uint32_t *lines, size_t lines_len,
-    const uint32_t *runs, size_t runs_len, const uint32_t *rows, size_t rows_len, uint32_t *area, size_t area_len,
-    uint32_t *transfer_runs, size_t transfer_runs_len);
+SavoikyAnswer savoiky_compute_trip_transfers(SavoikySettings settings, uint32_t stops, uint32_t trips, uint32_t times,
+    uint32_t windows, uint32_t edges, uint32_t line_count, uint32_t departures, const uint32_t *tables, size_t tables_len,
+    const uint32_t *lines, size_t lines_len, const uint32_t *runs, size_t runs_len, const uint32_t *rows, size_t rows_len,
+    uint32_t *area, size_t area_len, uint32_t *transfer_runs, size_t transfer_runs_len);
 
 /* The counts of a query: entries are line entries, delays the delay rows, egress the egress stops. */
 typedef struct SavoikyQuerySizes {
@@ -285,7 +311,7 @@ typedef struct SavoikyQuerySizes {
 SAVOIKY_SIZE(SavoikyQuerySizes, 60);
 
 /* How many words of workspace a query needs: 5 stops + 8 trips + 3 lines + 128. Question 1. */
-SavoikyAnswer savoiky_work_size(SavoikyQuerySizes sizes);
+SavoikyAnswer savoiky_work_size(SavoikySettings settings, SavoikyQuerySizes sizes);
 
 /* A QUERY. Lent to be read:
  *   tables: the timetable
@@ -305,7 +331,7 @@ SavoikyAnswer savoiky_work_size(SavoikyQuerySizes sizes);
  *   queue_a, queue_b: two halves of the segment queue, four words a segment, of one length; zero afterwards. As many rows as the
  *     trips have stop times together are always enough without frequency trips; with no arc flags in use none is needed
  *   candidates: 39 words, 13 rows (total, stop, row), of which the answer says how many; the rest are zero. Rows rise and totals
- *     fall: the last one's total is the best, an earlier one arrives later, by at most 3,600, in fewer rounds
+ *     fall: the last one's total is the best, an earlier one arrives later, by at most candidate_slack, in fewer rounds
  * The answer: the best total (when the guest arrives, egress walk included) and its stop. "No way" is success: code 0, total and
  * stop 4,294,967,295, no candidates. Questions 1 to 6, and 8.
  */
@@ -320,20 +346,20 @@ typedef struct SavoikyReply {
 SAVOIKY_SIZE(SavoikyReply, 16);
 
 /* As the Rust answers: run_tbr. */
-SavoikyReply savoiky_run_tbr(SavoikyQuerySizes sizes, const uint32_t *tables, size_t tables_len, const uint32_t *built,
-    size_t built_len, const uint32_t *transfers, size_t transfers_len, const uint8_t *patterns, size_t patterns_len,
-    const double *distances, size_t distances_len, const uint32_t *query, size_t query_len, uint32_t *labels, size_t labels_len,
-    double *label_distances, size_t label_distances_len, uint32_t *work, size_t work_len, uint32_t *queue_a, size_t queue_a_len,
-    uint32_t *queue_b, size_t queue_b_len, uint32_t *candidates, size_t candidates_len);
+SavoikyReply savoiky_run_tbr(SavoikySettings settings, SavoikyQuerySizes sizes, const uint32_t *tables, size_t tables_len,
+    const uint32_t *built, size_t built_len, const uint32_t *transfers, size_t transfers_len, const uint8_t *patterns,
+    size_t patterns_len, const double *distances, size_t distances_len, const uint32_t *query, size_t query_len, uint32_t *labels,
+    size_t labels_len, double *label_distances, size_t label_distances_len, uint32_t *work, size_t work_len, uint32_t *queue_a,
+    size_t queue_a_len, uint32_t *queue_b, size_t queue_b_len, uint32_t *candidates, size_t candidates_len);
 
 /* What a board asks: run_tbr with arc flags put off where they would skip nothing. On a plain day no journey beats its answer; on a steady day,
  * which has delays (docs/PROMISE.md), none does by effective times.
  */
-SavoikyReply savoiky_query(SavoikyQuerySizes sizes, const uint32_t *tables, size_t tables_len, const uint32_t *built,
-    size_t built_len, const uint32_t *transfers, size_t transfers_len, const uint8_t *patterns, size_t patterns_len,
-    const double *distances, size_t distances_len, const uint32_t *query, size_t query_len, uint32_t *labels, size_t labels_len,
-    double *label_distances, size_t label_distances_len, uint32_t *work, size_t work_len, uint32_t *queue_a, size_t queue_a_len,
-    uint32_t *queue_b, size_t queue_b_len, uint32_t *candidates, size_t candidates_len);
+SavoikyReply savoiky_query(SavoikySettings settings, SavoikyQuerySizes sizes, const uint32_t *tables, size_t tables_len,
+    const uint32_t *built, size_t built_len, const uint32_t *transfers, size_t transfers_len, const uint8_t *patterns,
+    size_t patterns_len, const double *distances, size_t distances_len, const uint32_t *query, size_t query_len, uint32_t *labels,
+    size_t labels_len, double *label_distances, size_t label_distances_len, uint32_t *work, size_t work_len, uint32_t *queue_a,
+    size_t queue_a_len, uint32_t *queue_b, size_t queue_b_len, uint32_t *candidates, size_t candidates_len);
 
 #ifdef __cplusplus
 }

@@ -2,6 +2,7 @@
 //!
 //! Each function is safe for any arguments: the calls have no precondition but that a pointer and a length are those of a
 //! slice, and answer every input, what they do not admit by a number.
+use crate::settings::Settings;
 use crate::sys::{self, Answer, CellBitSet, CellSetAnswer, DelayAt, FreqAnswer, LabelAnswer, QuerySizes, Reply};
 
 /// The counts of a timetable: stops, trips, stop times, windows, walk edges.
@@ -14,56 +15,63 @@ pub struct Counts {
     pub edges: u32,
 }
 
-pub fn cell_bitset_new(num_cells: u32) -> CellSetAnswer {
-    unsafe { sys::savoiky_cell_bitset_new(num_cells) }
+pub fn cell_bitset_new(settings: Settings, num_cells: u32) -> CellSetAnswer {
+    unsafe { sys::savoiky_cell_bitset_new(settings.words(), num_cells) }
 }
 
-pub fn cell_bitset_ensure_sized(set: CellBitSet, num_cells: u32) -> CellSetAnswer {
-    unsafe { sys::savoiky_cell_bitset_ensure_sized(set, num_cells) }
+pub fn cell_bitset_ensure_sized(settings: Settings, set: CellBitSet, num_cells: u32) -> CellSetAnswer {
+    unsafe { sys::savoiky_cell_bitset_ensure_sized(settings.words(), set, num_cells) }
 }
 
-pub fn cell_bitset_set_bit(set: CellBitSet, cell: u32) -> CellBitSet {
-    unsafe { sys::savoiky_cell_bitset_set_bit(set, cell) }
+pub fn cell_bitset_set_bit(settings: Settings, set: CellBitSet, cell: u32) -> CellSetAnswer {
+    unsafe { sys::savoiky_cell_bitset_set_bit(settings.words(), set, cell) }
 }
 
-pub fn cell_bitset_get_bit(set: CellBitSet, cell: u32) -> bool {
-    unsafe { sys::savoiky_cell_bitset_get_bit(set, cell) }
+pub fn cell_bitset_get_bit(settings: Settings, set: CellBitSet, cell: u32) -> Answer {
+    unsafe { sys::savoiky_cell_bitset_get_bit(settings.words(), set, cell) }
 }
 
-pub fn cell_bitset_intersects(set: CellBitSet, other: CellBitSet) -> bool {
-    unsafe { sys::savoiky_cell_bitset_intersects(set, other) }
+pub fn cell_bitset_intersects(settings: Settings, set: CellBitSet, other: CellBitSet) -> Answer {
+    unsafe { sys::savoiky_cell_bitset_intersects(settings.words(), set, other) }
 }
 
-pub fn cell_bitset_union_with(set: CellBitSet, other: CellBitSet) -> CellBitSet {
-    unsafe { sys::savoiky_cell_bitset_union_with(set, other) }
+pub fn cell_bitset_union_with(settings: Settings, set: CellBitSet, other: CellBitSet) -> CellSetAnswer {
+    unsafe { sys::savoiky_cell_bitset_union_with(settings.words(), set, other) }
 }
 
-pub fn cell_bitset_is_empty(set: CellBitSet) -> bool {
-    unsafe { sys::savoiky_cell_bitset_is_empty(set) }
+pub fn cell_bitset_is_empty(settings: Settings, set: CellBitSet) -> Answer {
+    unsafe { sys::savoiky_cell_bitset_is_empty(settings.words(), set) }
 }
 
-pub fn walk_duration(duration: u32, pathway_mode: u32, wheelchair: u32) -> Answer {
-    unsafe { sys::savoiky_walk_duration(duration, pathway_mode, wheelchair) }
+pub fn walk_duration(settings: Settings, duration: u32, pathway_mode: u32, wheelchair: u32) -> Answer {
+    unsafe { sys::savoiky_walk_duration(settings.words(), duration, pathway_mode, wheelchair) }
 }
 
-pub fn max_rounds(wanted: u32, transfers: u32) -> u32 {
-    unsafe { sys::savoiky_max_rounds(wanted, transfers) }
+pub fn max_rounds(settings: Settings, wanted: u32, transfers: u32) -> Answer {
+    unsafe { sys::savoiky_max_rounds(settings.words(), wanted, transfers) }
 }
 
-pub fn freq_board(count: u32, windows: &[u32], base: u32, dep: u32, after: u32) -> FreqAnswer {
-    unsafe { sys::savoiky_freq_board(count, windows.as_ptr(), windows.len(), base, dep, after) }
+pub fn freq_board(settings: Settings, count: u32, windows: &[u32], base: u32, dep: u32, after: u32) -> FreqAnswer {
+    unsafe { sys::savoiky_freq_board(settings.words(), count, windows.as_ptr(), windows.len(), base, dep, after) }
 }
 
-pub fn effective_departure(departure: u32, trip_delay: u32, flags: u32, departure_delay: u32) -> Answer {
-    unsafe { sys::savoiky_effective_departure(departure, trip_delay, flags, departure_delay) }
+pub fn effective_departure(settings: Settings, departure: u32, trip_delay: u32, flags: u32, departure_delay: u32) -> Answer {
+    unsafe { sys::savoiky_effective_departure(settings.words(), departure, trip_delay, flags, departure_delay) }
 }
 
-pub fn effective_arrival(arrival: u32, time_shift_s: u32, trip_delay: u32, flags: u32, arrival_delay: u32) -> Answer {
-    unsafe { sys::savoiky_effective_arrival(arrival, time_shift_s, trip_delay, flags, arrival_delay) }
+pub fn effective_arrival(
+    settings: Settings,
+    arrival: u32,
+    time_shift_s: u32,
+    trip_delay: u32,
+    flags: u32,
+    arrival_delay: u32,
+) -> Answer {
+    unsafe { sys::savoiky_effective_arrival(settings.words(), arrival, time_shift_s, trip_delay, flags, arrival_delay) }
 }
 
-pub fn skipped(flags: u32) -> Answer {
-    unsafe { sys::savoiky_skipped(flags) }
+pub fn skipped(settings: Settings, flags: u32) -> Answer {
+    unsafe { sys::savoiky_skipped(settings.words(), flags) }
 }
 
 /// The delay tables: how many trips there are, delay rows, stop rows; the rows' words.
@@ -75,9 +83,10 @@ pub struct Delayed<'a> {
     pub stop_rows: &'a [u32],
 }
 
-pub fn margin(d: &Delayed) -> Answer {
+pub fn margin(settings: Settings, d: &Delayed) -> Answer {
     unsafe {
         sys::savoiky_margin(
+            settings.words(),
             d.trips,
             d.delay_rows,
             d.stop_row_count,
@@ -89,9 +98,10 @@ pub fn margin(d: &Delayed) -> Answer {
     }
 }
 
-pub fn delay_at(d: &Delayed, trip: u32, sequence: u32) -> DelayAt {
+pub fn delay_at(settings: Settings, d: &Delayed, trip: u32, sequence: u32) -> DelayAt {
     unsafe {
         sys::savoiky_delay_at(
+            settings.words(),
             d.trips,
             d.delay_rows,
             d.stop_row_count,
@@ -105,8 +115,8 @@ pub fn delay_at(d: &Delayed, trip: u32, sequence: u32) -> DelayAt {
     }
 }
 
-pub fn service_second(hour: u32, minute: u32, second: u32) -> Answer {
-    unsafe { sys::savoiky_service_second(hour, minute, second) }
+pub fn service_second(settings: Settings, hour: u32, minute: u32, second: u32) -> Answer {
+    unsafe { sys::savoiky_service_second(settings.words(), hour, minute, second) }
 }
 
 /// Where a label is stored: how many stops there are, its stop and row, the label tables.
@@ -119,10 +129,16 @@ pub struct Place<'a> {
 }
 
 /// `stop_idx`, `arrival_s`, `walk_duration`.
-pub fn label_store_access(p: Place, [stop_idx, arrival_s, walk_duration]: [u32; 3], walk_distance: f64) -> u32 {
+pub fn label_store_access(
+    settings: Settings,
+    p: Place,
+    [stop_idx, arrival_s, walk_duration]: [u32; 3],
+    walk_distance: f64,
+) -> u32 {
     let (labels, distances) = (p.labels, p.distances);
     unsafe {
         sys::savoiky_label_store_access(
+            settings.words(),
             p.stops,
             p.stop,
             p.row,
@@ -140,12 +156,14 @@ pub fn label_store_access(p: Place, [stop_idx, arrival_s, walk_duration]: [u32; 
 
 /// `arrival_s`, `trip_idx`, `board_stop`, `board_off`, `alight_off`, `prev_round`, `time_shift_s`.
 pub fn label_store_transit(
+    settings: Settings,
     p: Place,
     [arrival_s, trip_idx, board_stop, board_off, alight_off, prev_round, shift]: [u32; 7],
 ) -> u32 {
     let (labels, distances) = (p.labels, p.distances);
     unsafe {
         sys::savoiky_label_store_transit(
+            settings.words(),
             p.stops,
             p.stop,
             p.row,
@@ -165,10 +183,16 @@ pub fn label_store_transit(
 }
 
 /// `arrival_s`, `from_stop`, `to_stop`, `duration_s`, `prev_round`.
-pub fn label_store_walk(p: Place, [arrival_s, from_stop, to_stop, duration_s, prev_round]: [u32; 5], distance_m: f64) -> u32 {
+pub fn label_store_walk(
+    settings: Settings,
+    p: Place,
+    [arrival_s, from_stop, to_stop, duration_s, prev_round]: [u32; 5],
+    distance_m: f64,
+) -> u32 {
     let (labels, distances) = (p.labels, p.distances);
     unsafe {
         sys::savoiky_label_store_walk(
+            settings.words(),
             p.stops,
             p.stop,
             p.row,
@@ -186,8 +210,19 @@ pub fn label_store_walk(p: Place, [arrival_s, from_stop, to_stop, duration_s, pr
     }
 }
 
-pub fn label_load(stops: u32, stop: u32, row: u32, labels: &[u32], distances: &[f64]) -> LabelAnswer {
-    unsafe { sys::savoiky_label_load(stops, stop, row, labels.as_ptr(), labels.len(), distances.as_ptr(), distances.len()) }
+pub fn label_load(settings: Settings, stops: u32, stop: u32, row: u32, labels: &[u32], distances: &[f64]) -> LabelAnswer {
+    unsafe {
+        sys::savoiky_label_load(
+            settings.words(),
+            stops,
+            stop,
+            row,
+            labels.as_ptr(),
+            labels.len(),
+            distances.as_ptr(),
+            distances.len(),
+        )
+    }
 }
 
 /// What departure sorting writes.
@@ -198,9 +233,10 @@ pub struct SortAreas<'a> {
     pub other: &'a mut [u64],
 }
 
-pub fn sort_stop_departures(c: Counts, departures: u32, tables: &[u32], runs: &[u32], a: SortAreas) -> u32 {
+pub fn sort_stop_departures(settings: Settings, c: Counts, departures: u32, tables: &[u32], runs: &[u32], a: SortAreas) -> u32 {
     unsafe {
         sys::savoiky_sort_stop_departures(
+            settings.words(),
             c.stops,
             c.trips,
             c.times,
@@ -232,9 +268,10 @@ pub struct LineAreas<'a> {
     pub other: &'a mut [u64],
 }
 
-pub fn compute_line_groups(c: Counts, tables: &[u32], a: LineAreas) -> Answer {
+pub fn compute_line_groups(settings: Settings, c: Counts, tables: &[u32], a: LineAreas) -> Answer {
     unsafe {
         sys::savoiky_compute_line_groups(
+            settings.words(),
             c.stops,
             c.trips,
             c.times,
@@ -264,9 +301,10 @@ pub struct LineTable<'a> {
     pub entries: &'a [u32],
 }
 
-pub fn line_layout(c: Counts, tables: &[u32], l: &LineTable, positions: &mut [u32], fifo: &mut [u32]) -> u32 {
+pub fn line_layout(settings: Settings, c: Counts, tables: &[u32], l: &LineTable, positions: &mut [u32], fifo: &mut [u32]) -> u32 {
     unsafe {
         sys::savoiky_line_layout(
+            settings.words(),
             c.stops,
             c.trips,
             c.times,
@@ -298,9 +336,17 @@ pub struct Linked<'a> {
     pub rows: &'a [u32],
 }
 
-pub fn compute_trip_transfers(c: Counts, tables: &[u32], l: &Linked, area: &mut [u32], transfer_runs: &mut [u32]) -> Answer {
+pub fn compute_trip_transfers(
+    settings: Settings,
+    c: Counts,
+    tables: &[u32],
+    l: &Linked,
+    area: &mut [u32],
+    transfer_runs: &mut [u32],
+) -> Answer {
     unsafe {
         sys::savoiky_compute_trip_transfers(
+            settings.words(),
             c.stops,
             c.trips,
             c.times,
@@ -324,8 +370,8 @@ pub fn compute_trip_transfers(c: Counts, tables: &[u32], l: &Linked, area: &mut 
     }
 }
 
-pub fn work_size(sizes: QuerySizes) -> Answer {
-    unsafe { sys::savoiky_work_size(sizes) }
+pub fn work_size(settings: Settings, sizes: QuerySizes) -> Answer {
+    unsafe { sys::savoiky_work_size(settings.words(), sizes) }
 }
 
 /// Which call answers a query.
@@ -356,13 +402,14 @@ pub struct Areas<'a> {
     pub candidates: &'a mut [u32],
 }
 
-pub fn ask(call: Call, r: &Read, a: Areas) -> Reply {
+pub fn ask(settings: Settings, call: Call, r: &Read, a: Areas) -> Reply {
     let answer = match call {
         Call::RunTbr => sys::savoiky_run_tbr,
         Call::Query => sys::savoiky_query,
     };
     unsafe {
         answer(
+            settings.words(),
             r.sizes,
             r.tables.as_ptr(),
             r.tables.len(),

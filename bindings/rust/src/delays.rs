@@ -1,6 +1,7 @@
 //! Delays: of trips, and of single stop times.
 use crate::calls::{self, Delayed};
-use crate::refusal::{checked, value, Refusal};
+use crate::refusal::{checked, holds, value, Refusal};
+use crate::settings::Settings;
 use crate::tables::count;
 
 /// The number of a trip that the timetable does not know.
@@ -33,11 +34,12 @@ pub struct StopDelay {
 /// The delays of a query.
 ///
 /// ```
-/// use savoiky::{Delays, TripDelay};
+/// use savoiky::{Delays, Settings, TripDelay};
+/// let settings = Settings::DEFAULT;
 /// let late = Delays { rows: vec![TripDelay { trip: Some(2), delay_s: 300 }], stop_rows: vec![] };
-/// assert_eq!(late.margin(3)?, 300);
-/// assert_eq!(late.delay_at(3, 2, 1)?.unwrap().trip_delay_s, 300);
-/// assert_eq!(late.delay_at(3, 1, 1)?, None);
+/// assert_eq!(late.margin(settings, 3)?, 300);
+/// assert_eq!(late.delay_at(settings, 3, 2, 1)?.unwrap().trip_delay_s, 300);
+/// assert_eq!(late.delay_at(settings, 3, 1, 1)?, None);
 /// # Ok::<(), savoiky::Refusal>(())
 /// ```
 #[derive(Clone, PartialEq, Eq, Debug, Default)]
@@ -88,14 +90,14 @@ impl Delays {
         ask(&Delayed { trips, delay_rows, stop_row_count, rows: &rows, stop_rows: &stop_rows })
     }
 
-    /// The largest size of a delay here, at most 21,600; with so many trips. Refused by 1, 4, 5, 6.
-    pub fn margin(&self, trips: u32) -> Result<u32, Refusal> {
-        value(self.asked(trips, calls::margin))
+    /// The largest size of a delay here, at most the settings' `margin_cap`; with so many trips. Refused by 1, 14, 4, 5, 6.
+    pub fn margin(&self, settings: Settings, trips: u32) -> Result<u32, Refusal> {
+        value(self.asked(trips, |d| calls::margin(settings, d)))
     }
 
-    /// What these delays say of a trip's stop time; nothing where the trip has no row. Refused by 1, 4, 5, 6.
-    pub fn delay_at(&self, trips: u32, trip: u32, stop_sequence: u32) -> Result<Option<DelayAt>, Refusal> {
-        let a = self.asked(trips, |d| calls::delay_at(d, trip, stop_sequence));
+    /// What these delays say of a trip's stop time; nothing where the trip has no row. Refused by 1, 14, 4, 5, 6.
+    pub fn delay_at(&self, settings: Settings, trips: u32, trip: u32, stop_sequence: u32) -> Result<Option<DelayAt>, Refusal> {
+        let a = self.asked(trips, |d| calls::delay_at(settings, d, trip, stop_sequence));
         checked(a.code)?;
         let given = |flag: u32, delay: u32| (a.flags & flag != 0).then_some(delay as i32);
         Ok((a.known == 1).then_some(DelayAt {
@@ -112,20 +114,20 @@ impl DelayAt {
         flags(self.departure_delay_s, self.arrival_delay_s, self.skipped)
     }
 
-    /// The departure under this delay. Refused by 5.
-    pub fn effective_departure(&self, departure_s: u32) -> Result<u32, Refusal> {
+    /// The departure under this delay. Refused by 14 and 5.
+    pub fn effective_departure(&self, settings: Settings, departure_s: u32) -> Result<u32, Refusal> {
         let own = bits(self.departure_delay_s);
-        value(calls::effective_departure(departure_s, self.trip_delay_s as u32, self.flags(), own))
+        value(calls::effective_departure(settings, departure_s, self.trip_delay_s as u32, self.flags(), own))
     }
 
-    /// The arrival under this delay; the shift of a frequency trip's run counts where the stop has no time given. Refused by 5.
-    pub fn effective_arrival(&self, arrival_s: u32, time_shift_s: i32) -> Result<u32, Refusal> {
+    /// The arrival under this delay; the shift of a frequency trip's run counts where the stop has no time given. Refused by 14 and 5.
+    pub fn effective_arrival(&self, settings: Settings, arrival_s: u32, time_shift_s: i32) -> Result<u32, Refusal> {
         let own = bits(self.arrival_delay_s);
-        value(calls::effective_arrival(arrival_s, time_shift_s as u32, self.trip_delay_s as u32, self.flags(), own))
+        value(calls::effective_arrival(settings, arrival_s, time_shift_s as u32, self.trip_delay_s as u32, self.flags(), own))
     }
 
-    /// Does the trip pass through?
-    pub fn is_skipped(&self) -> Result<bool, Refusal> {
-        value(calls::skipped(self.flags())).map(|v| v == 1)
+    /// Does the trip pass through? Refused by 14.
+    pub fn is_skipped(&self, settings: Settings) -> Result<bool, Refusal> {
+        holds(calls::skipped(settings, self.flags()))
     }
 }

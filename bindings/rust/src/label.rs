@@ -1,6 +1,7 @@
 //! Labels: when and how a stop was reached in a round.
 use crate::calls::{self, Place};
 use crate::refusal::{checked, Refusal};
+use crate::settings::Settings;
 use crate::sys::LabelRow;
 use crate::tables::count;
 
@@ -103,13 +104,14 @@ impl Label {
 /// The labels of some stops, 13 rows each.
 ///
 /// ```
-/// use savoiky::{Label, Labels};
-/// let mut labels = Labels::new(2)?;
+/// use savoiky::{Label, Labels, Settings};
+/// let settings = Settings::DEFAULT;
+/// let mut labels = Labels::new(settings, 2)?;
 /// let label = Label::Access { stop_idx: 1, arrival_s: 100, walk_duration: 10, walk_distance: 12.5 };
-/// labels.store(1, 0, label)?;
-/// assert_eq!(labels.load(1, 0)?, label);
-/// assert_eq!(labels.load(1, 1)?, Label::Empty);
-/// assert_eq!(labels.load(2, 0).unwrap_err().number(), 4);
+/// labels.store(settings, 1, 0, label)?;
+/// assert_eq!(labels.load(settings, 1, 0)?, label);
+/// assert_eq!(labels.load(settings, 1, 1)?, Label::Empty);
+/// assert_eq!(labels.load(settings, 2, 0).unwrap_err().number(), 4);
 /// # Ok::<(), savoiky::Refusal>(())
 /// ```
 #[derive(Clone, PartialEq, Debug, Default)]
@@ -120,11 +122,12 @@ pub struct Labels {
 }
 
 impl Labels {
-    /// Empty labels of so many stops. Refused by 1: more than 4,096.
-    pub fn new(stops: usize) -> Result<Labels, Refusal> {
+    /// Empty labels of so many stops. Refused by 1 (more than 4,096) and 14.
+    pub fn new(settings: Settings, stops: usize) -> Result<Labels, Refusal> {
         let mut labels = Labels { stops, ..Labels::default() };
-        match labels.load(0, 0) {
-            Err(refusal) if refusal.number() == 1 => Err(refusal),
+        // nothing is lent yet: a later question's no says nothing
+        match labels.load(settings, 0, 0) {
+            Err(refusal) if matches!(refusal.number(), 1 | 14) => Err(refusal),
             _ => {
                 labels.resize(stops);
                 Ok(labels)
@@ -149,33 +152,37 @@ impl Labels {
         self.stops
     }
 
-    /// The label of a stop in a row. Refused by 4 (the stop) and 5 (a row above 12).
-    pub fn load(&self, stop: u32, row: u32) -> Result<Label, Refusal> {
-        let answer = calls::label_load(count(self.stops), stop, row, &self.words, &self.distances);
+    /// The label of a stop in a row. Refused by 14, 4 (the stop) and 5 (a row above 12).
+    pub fn load(&self, settings: Settings, stop: u32, row: u32) -> Result<Label, Refusal> {
+        let answer = calls::label_load(settings, count(self.stops), stop, row, &self.words, &self.distances);
         checked(answer.code).map(|()| Label::of(answer.row))
     }
 
     /// Puts a label in a stop's row. Refused as `load` is, and by 4 where a stop number in the label is not below the count of stops.
-    pub fn store(&mut self, stop: u32, row: u32, label: Label) -> Result<(), Refusal> {
+    pub fn store(&mut self, settings: Settings, stop: u32, row: u32, label: Label) -> Result<(), Refusal> {
         let place = Place { stops: count(self.stops), stop, row, labels: &mut self.words, distances: &mut self.distances };
         checked(match label {
-            Label::Empty => return self.empty(stop, row),
+            Label::Empty => return self.empty(settings, stop, row),
             Label::Access { stop_idx, arrival_s, walk_duration, walk_distance } => {
-                calls::label_store_access(place, [stop_idx, arrival_s, walk_duration], walk_distance)
+                calls::label_store_access(settings, place, [stop_idx, arrival_s, walk_duration], walk_distance)
             }
             Label::Transit { arrival_s, trip_idx, board_stop, board_off, alight_off, prev_round, time_shift_s } => {
                 let shift = time_shift_s as u32;
-                calls::label_store_transit(place, [arrival_s, trip_idx, board_stop, board_off, alight_off, prev_round, shift])
+                calls::label_store_transit(
+                    settings,
+                    place,
+                    [arrival_s, trip_idx, board_stop, board_off, alight_off, prev_round, shift],
+                )
             }
             Label::Walk { arrival_s, from_stop, to_stop, duration_s, distance_m, prev_round } => {
-                calls::label_store_walk(place, [arrival_s, from_stop, to_stop, duration_s, prev_round], distance_m)
+                calls::label_store_walk(settings, place, [arrival_s, from_stop, to_stop, duration_s, prev_round], distance_m)
             }
         })
     }
 
     /// No call stores an empty label: the door's answer is that of reading one.
-    fn empty(&mut self, stop: u32, row: u32) -> Result<(), Refusal> {
-        self.load(stop, row)?;
+    fn empty(&mut self, settings: Settings, stop: u32, row: u32) -> Result<(), Refusal> {
+        self.load(settings, stop, row)?;
         let record = (ROWS * stop + row) as usize;
         self.words[WORDS * record..WORDS * (record + 1)].fill(0);
         self.distances[record] = 0.0;

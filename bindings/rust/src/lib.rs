@@ -1,10 +1,11 @@
 //! Savoiky: a proved trip-based transit router for hotel lobby boards.
 //!
 //! A timetable is built once and asked as often as wanted. What the calls do not admit comes back as a [`Refusal`], the number of
-//! a question; nothing here panics for bad input, and the calls behind it are proved to answer every input.
+//! a question; nothing here panics for bad input, and the calls behind it are proved to answer every input. Every call receives the
+//! [`Settings`] of the house; [`Settings::DEFAULT`] where nothing else is wanted.
 //!
 //! ```
-//! use savoiky::{Answer, Egress, Origin, Query, Stop, StopTime, Timetable, Workspace};
+//! use savoiky::{Answer, Egress, Origin, Query, Settings, Stop, StopTime, Timetable, Workspace};
 //!
 //! # fn main() -> Result<(), savoiky::Refusal> {
 //! // Timetable K: three stops, three trips
@@ -13,7 +14,8 @@
 //! k.add_trip(&[StopTime::new(0, 160, 160), StopTime::new(1, 260, 270), StopTime::new(2, 460, 460)]);
 //! k.add_trip(&[StopTime::new(1, 320, 320), StopTime::new(2, 380, 380)]);
 //! k.list_departures();
-//! let tables = k.build()?;
+//! let settings = Settings::DEFAULT;
+//! let tables = k.build(settings)?;
 //!
 //! let query = Query {
 //!     start_s: 90,
@@ -23,13 +25,13 @@
 //!     ..Query::default()
 //! };
 //! let mut workspace = Workspace::new(); // keep it: a board allocates once
-//! match tables.query(&query, &mut workspace)? {
+//! match tables.query(settings, &query, &mut workspace)? {
 //!     Answer::NoWay => println!("no way"),
 //!     Answer::Arrives { total, stop, candidates } => {
 //!         println!("arrives at {total} from stop {stop}");
 //!         assert_eq!((total, stop), (385, 2));
 //!         for c in candidates {
-//!             println!("{} in row {}: {:?}", c.total, c.row, workspace.labels().load(c.stop, c.row)?);
+//!             println!("{} in row {}: {:?}", c.total, c.row, workspace.labels().load(settings, c.stop, c.row)?);
 //!         }
 //!     }
 //! }
@@ -51,6 +53,7 @@ mod label;
 mod leaves;
 mod query;
 mod refusal;
+mod settings;
 #[rustfmt::skip]
 mod sys;
 mod tables;
@@ -62,6 +65,7 @@ pub use label::{Label, Labels, ROWS};
 pub use leaves::{earliest_freq_board, max_rounds, service_second, walk_duration, FreqBoard};
 pub use query::{Answer, Candidate, Egress, Origin, Query, Workspace};
 pub use refusal::Refusal;
+pub use settings::Settings;
 pub use tables::{
     Departure, Departures, FrequencyWindow, PathwayMode, Permission, RouteMode, Run, Stop, StopTime, Timetable, Trip, WalkEdge,
     Wheelchair,

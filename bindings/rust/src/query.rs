@@ -4,6 +4,7 @@ use crate::calls::{self, Areas, Call, Read};
 use crate::delays::Delays;
 use crate::label::{Labels, ROWS};
 use crate::refusal::{checked, Refusal};
+use crate::settings::Settings;
 use crate::sys::{QuerySizes, Reply};
 use crate::tables::{count, RouteMode};
 
@@ -33,9 +34,9 @@ pub struct Egress {
 /// A guest's question.
 ///
 /// ```
-/// use savoiky::{Egress, Origin, Query};
+/// use savoiky::{Egress, Origin, Query, Settings};
 /// let query = Query {
-///     start_s: savoiky::service_second(8, 30, 0)?,
+///     start_s: savoiky::service_second(Settings::DEFAULT, 8, 30, 0)?,
 ///     change_s: 120,
 ///     origins: vec![Origin { stop_idx: 0, duration_s: 60, distance_m: 75.0 }],
 ///     egress: vec![Egress { stop_idx: 2, duration_s: 30 }],
@@ -114,7 +115,8 @@ pub enum Answer {
         total: u32,
         /// The egress stop of the best.
         stop: u32,
-        /// By rising row and falling total; the last one's total is the best.
+        /// By rising row and falling total; the last one's total is the best, the others' are later by at most the settings'
+        /// `candidate_slack`.
         candidates: Vec<Candidate>,
     },
 }
@@ -133,12 +135,13 @@ impl Answer {
 /// The memory that queries are lent to write, kept from one to the next; and the labels of the last one.
 ///
 /// ```
-/// use savoiky::{Answer, Label, Query, Timetable, Workspace};
-/// let tables = Timetable::default().build()?;
+/// use savoiky::{Answer, Query, Settings, Timetable, Workspace};
+/// let settings = Settings::DEFAULT;
+/// let tables = Timetable::default().build(settings)?;
 /// let mut workspace = Workspace::new();
 /// for start_s in [100, 200] {
 ///     let query = Query { start_s, ..Query::default() };
-///     assert_eq!(tables.query(&query, &mut workspace)?, Answer::NoWay);
+///     assert_eq!(tables.query(settings, &query, &mut workspace)?, Answer::NoWay);
 /// }
 /// assert_eq!(workspace.labels().stops(), 0);
 /// # Ok::<(), savoiky::Refusal>(())
@@ -174,10 +177,10 @@ impl Workspace {
     }
 
     /// Makes every area as long as this query's counts say.
-    fn fit(&mut self, sizes: QuerySizes, segments: usize) {
-        let size = calls::work_size(sizes);
+    fn fit(&mut self, settings: Settings, sizes: QuerySizes, segments: usize) {
+        let size = calls::work_size(settings, sizes);
         if size.code != 0 {
-            // question 1 is answered no, whatever is lent
+            // question 1 or 14 is answered no, whatever is lent
             return;
         }
         self.labels.resize(sizes.stops as usize);
@@ -201,19 +204,20 @@ impl Workspace {
 
 impl Tables {
     /// Answers a guest's question. On a plain day no journey beats it; on a steady day, which has delays (docs/PROMISE.md), none does by
-    /// effective times. Refused by 1 to 6 and 8.
-    pub fn query(&self, query: &Query, workspace: &mut Workspace) -> Result<Answer, Refusal> {
-        self.ask(Call::Query, query, workspace)
+    /// effective times. Both need tables that were built with the settings' `transfer_time` (see [`Settings`]). Refused by 1 to 6,
+    /// 8 and 14.
+    pub fn query(&self, settings: Settings, query: &Query, workspace: &mut Workspace) -> Result<Answer, Refusal> {
+        self.ask(settings, Call::Query, query, workspace)
     }
 
-    /// Answers as the Rust does: also where arc flags are on and skip nothing. Refused by 1 to 6 and 8.
-    pub fn run_tbr(&self, query: &Query, workspace: &mut Workspace) -> Result<Answer, Refusal> {
-        self.ask(Call::RunTbr, query, workspace)
+    /// Answers as the Rust does: also where arc flags are on and skip nothing. Refused by 1 to 6, 8 and 14.
+    pub fn run_tbr(&self, settings: Settings, query: &Query, workspace: &mut Workspace) -> Result<Answer, Refusal> {
+        self.ask(settings, Call::RunTbr, query, workspace)
     }
 
-    fn ask(&self, call: Call, q: &Query, w: &mut Workspace) -> Result<Answer, Refusal> {
+    fn ask(&self, settings: Settings, call: Call, q: &Query, w: &mut Workspace) -> Result<Answer, Refusal> {
         let sizes = q.sizes(self);
-        w.fit(sizes, w.segments.unwrap_or(self.segments(q)));
+        w.fit(settings, sizes, w.segments.unwrap_or(self.segments(q)));
         let (mut query, mut distances) = (std::mem::take(&mut w.query), std::mem::take(&mut w.distances));
         q.put_words(&mut query);
         distances.clear();
@@ -228,7 +232,7 @@ impl Tables {
             distances: &distances,
             query: &query,
         };
-        let reply = calls::ask(call, &read, w.areas());
+        let reply = calls::ask(settings, call, &read, w.areas());
         (w.query, w.distances) = (query, distances);
         checked(reply.code).inspect_err(|_| w.labels.clear())?;
         Ok(Answer::of(reply, &w.candidates))
@@ -240,5 +244,22 @@ impl Tables {
             return 0;
         }
         self.built().transfers.runs.len()
+    }
+}
+
+#[cfg(test)]
+mod tests {
+    use super::*;
+    use crate::sys::Answer;
+
+    /// The size of the workspace is asked inside a query, whose own refusal is what shows.
+    #[test]
+    fn size_of_the_workspace() {
+        let bad = Settings { candidate_slack: 21_601, ..Settings::DEFAULT };
+        let (few, many) =
+            (QuerySizes { stops: 3, ..QuerySizes::default() }, QuerySizes { stops: 4_097, ..QuerySizes::default() });
+        assert_eq!(calls::work_size(Settings::DEFAULT, few), Answer { code: 0, value: 143 });
+        assert_eq!(calls::work_size(bad, few), Answer { code: 14, value: 0 });
+        assert_eq!(calls::work_size(bad, many), Answer { code: 1, value: 0 });
     }
 }

@@ -1,11 +1,11 @@
 //! What a call answers where it does not admit its input.
-use crate::sys::QUESTIONS;
+use crate::sys::{Answer, QUESTIONS};
 use std::fmt;
 
 /// A refusal: the number of the first question at the door that was answered no.
 ///
 /// ```
-/// let refusal = savoiky::service_second(48, 0, 0).unwrap_err();
+/// let refusal = savoiky::service_second(savoiky::Settings::DEFAULT, 48, 0, 0).unwrap_err();
 /// assert_eq!(refusal.number(), 5);
 /// assert_eq!(refusal.to_string(), "refused by question 5: Is every time and code in its range?");
 /// ```
@@ -13,14 +13,14 @@ use std::fmt;
 pub struct Refusal(u32);
 
 impl Refusal {
-    /// The question's number, 1 to 8.
+    /// The question's number: 1 to 8, or 14, which every call asks, after 1 and before 2.
     pub fn number(&self) -> u32 {
         self.0
     }
 
     /// The question's text.
     pub fn question(&self) -> &'static str {
-        QUESTIONS.get(self.0 as usize).copied().unwrap_or("unknown")
+        QUESTIONS.iter().find(|(number, _)| *number == self.0).map_or("unknown", |(_, question)| question)
     }
 }
 
@@ -41,6 +41,11 @@ pub(crate) fn checked(code: u32) -> Result<(), Refusal> {
 }
 
 /// The value of an answer.
-pub(crate) fn value(a: crate::sys::Answer) -> Result<u32, Refusal> {
+pub(crate) fn value(a: Answer) -> Result<u32, Refusal> {
     checked(a.code).map(|()| a.value)
+}
+
+/// The value of an answer that says yes or no.
+pub(crate) fn holds(a: Answer) -> Result<bool, Refusal> {
+    value(a).map(|v| v == 1)
 }

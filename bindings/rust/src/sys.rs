@@ -1,18 +1,32 @@
 // The exported calls, as crates/exports declares them; bindings/c/savoiky.h says what each takes and gives.
 // Written by bindings/generate: change crates/exports/src/lib.rt, not this file.
 
-// What each code says: the question that was answered no.
-pub const QUESTIONS: [&str; 9] = [
-    "none: success",
-    "Are all counts within the limits?",
-    "Is every lent slice exactly as long as its counts say?",
-    "Has every trip a stop time, and do all runs lie in their tables?",
-    "Is every stop, trip, line and delay-row number below its count, and each departure's offset below its trip's count, with that stop time at its stop?",
-    "Is every time and code in its range?",
-    "Are walk edges, delay rows, stop rows, egress stops and, for a query, departures in order?",
-    "Building transfers: are there at most 65,536, and does the area hold all of them?",
-    "Query: does a half of the segment queue hold every round's segments?",
+// What each code says: the question that was answered no. In the order of asking.
+pub const QUESTIONS: [(u32, &str); 10] = [
+    (0, "none: success"),
+    (1, "Are all counts within the limits?"),
+    (14, "Is every setting in its range?"),
+    (2, "Is every lent slice exactly as long as its counts say?"),
+    (3, "Has every trip a stop time, and do all runs lie in their tables?"),
+    (4, "Is every stop, trip, line and delay-row number below its count, and each departure's offset below its trip's count, with that stop time at its stop?"),
+    (5, "Is every time and code in its range?"),
+    (6, "Are walk edges, delay rows, stop rows, egress stops and, for a query, departures in order?"),
+    (7, "Building transfers: are there at most 65,536, and does the area hold all of them?"),
+    (8, "Query: does a half of the segment queue hold every round's segments?"),
 ];
+
+#[repr(C)]
+#[derive(Clone, Copy, PartialEq, Debug)]
+pub struct Settings {
+    pub transfer_time: u32,
+    pub line_scan: u32,
+    pub candidate_slack: u32,
+    pub margin_cap: u32,
+}
+const _: () = assert!(std::mem::size_of::<Settings>() == 16 && std::mem::align_of::<Settings>() == 4);
+
+// The Rust's own four numbers, for a house that wants no others.
+pub const DEFAULT_SETTINGS: Settings = Settings { transfer_time: 120, line_scan: 64, candidate_slack: 3600, margin_cap: 21600 };
 
 #[repr(C)]
 #[derive(Clone, Copy, PartialEq, Debug)]
@@ -115,57 +129,61 @@ pub struct Reply {
 const _: () = assert!(std::mem::size_of::<Reply>() == 16 && std::mem::align_of::<Reply>() == 4);
 
 extern "C" {
-    pub fn savoiky_cell_bitset_new(num_cells: u32) -> CellSetAnswer;
-    pub fn savoiky_cell_bitset_ensure_sized(set: CellBitSet, num_cells: u32) -> CellSetAnswer;
-    pub fn savoiky_cell_bitset_set_bit(set: CellBitSet, cell: u32) -> CellBitSet;
-    pub fn savoiky_cell_bitset_get_bit(set: CellBitSet, cell: u32) -> bool;
-    pub fn savoiky_cell_bitset_intersects(set: CellBitSet, other: CellBitSet) -> bool;
-    pub fn savoiky_cell_bitset_union_with(set: CellBitSet, other: CellBitSet) -> CellBitSet;
-    pub fn savoiky_cell_bitset_is_empty(set: CellBitSet) -> bool;
-    pub fn savoiky_walk_duration(duration: u32, pathway_mode: u32, wheelchair: u32) -> Answer;
-    pub fn savoiky_max_rounds(wanted: u32, transfers: u32) -> u32;
-    pub fn savoiky_freq_board(count: u32, windows: *const u32, windows_len: usize, base: u32, dep: u32,
+    pub fn savoiky_cell_bitset_new(settings: Settings, num_cells: u32) -> CellSetAnswer;
+    pub fn savoiky_cell_bitset_ensure_sized(settings: Settings, set: CellBitSet, num_cells: u32) -> CellSetAnswer;
+    pub fn savoiky_cell_bitset_set_bit(settings: Settings, set: CellBitSet, cell: u32) -> CellSetAnswer;
+    pub fn savoiky_cell_bitset_get_bit(settings: Settings, set: CellBitSet, cell: u32) -> Answer;
+    pub fn savoiky_cell_bitset_intersects(settings: Settings, set: CellBitSet, other: CellBitSet) -> Answer;
+    pub fn savoiky_cell_bitset_union_with(settings: Settings, set: CellBitSet, other: CellBitSet) -> CellSetAnswer;
+    pub fn savoiky_cell_bitset_is_empty(settings: Settings, set: CellBitSet) -> Answer;
+    pub fn savoiky_walk_duration(settings: Settings, duration: u32, pathway_mode: u32, wheelchair: u32) -> Answer;
+    pub fn savoiky_max_rounds(settings: Settings, wanted: u32, transfers: u32) -> Answer;
+    pub fn savoiky_freq_board(settings: Settings, count: u32, windows: *const u32, windows_len: usize, base: u32, dep: u32,
         after: u32) -> FreqAnswer;
-    pub fn savoiky_effective_departure(departure: u32, trip_delay: u32, flags: u32, departure_delay: u32) -> Answer;
-    pub fn savoiky_effective_arrival(arrival: u32, time_shift_s: u32, trip_delay: u32, flags: u32, arrival_delay: u32) -> Answer;
-    pub fn savoiky_skipped(flags: u32) -> Answer;
-    pub fn savoiky_margin(trips: u32, delay_row_count: u32, stop_row_count: u32, delay_rows: *const u32, delay_rows_len: usize,
-        stop_rows: *const u32, stop_rows_len: usize) -> Answer;
-    pub fn savoiky_delay_at(trips: u32, delay_row_count: u32, stop_row_count: u32, delay_rows: *const u32, delay_rows_len: usize,
-        stop_rows: *const u32, stop_rows_len: usize, trip: u32, sequence: u32) -> DelayAt;
-    pub fn savoiky_service_second(hour: u32, minute: u32, second: u32) -> Answer;
-    pub fn savoiky_label_store_access(stops: u32, stop: u32, row: u32, stop_idx: u32, arrival_s: u32, walk_duration: u32,
-        walk_distance: f64, labels: *mut u32, labels_len: usize, label_distances: *mut f64, label_distances_len: usize) -> u32;
-    pub fn savoiky_label_store_transit(stops: u32, stop: u32, row: u32, arrival_s: u32, trip_idx: u32, board_stop: u32,
-        board_off: u32, alight_off: u32, prev_round: u32, time_shift_s: u32, labels: *mut u32, labels_len: usize,
-        label_distances: *mut f64, label_distances_len: usize) -> u32;
-    pub fn savoiky_label_store_walk(stops: u32, stop: u32, row: u32, arrival_s: u32, from_stop: u32, to_stop: u32,
-        duration_s: u32, distance_m: f64, prev_round: u32, labels: *mut u32, labels_len: usize, label_distances: *mut f64,
+    pub fn savoiky_effective_departure(settings: Settings, departure: u32, trip_delay: u32, flags: u32,
+        departure_delay: u32) -> Answer;
+    pub fn savoiky_effective_arrival(settings: Settings, arrival: u32, time_shift_s: u32, trip_delay: u32, flags: u32,
+        arrival_delay: u32) -> Answer;
+    pub fn savoiky_skipped(settings: Settings, flags: u32) -> Answer;
+    pub fn savoiky_margin(settings: Settings, trips: u32, delay_row_count: u32, stop_row_count: u32, delay_rows: *const u32,
+        delay_rows_len: usize, stop_rows: *const u32, stop_rows_len: usize) -> Answer;
+    pub fn savoiky_delay_at(settings: Settings, trips: u32, delay_row_count: u32, stop_row_count: u32, delay_rows: *const u32,
+        delay_rows_len: usize, stop_rows: *const u32, stop_rows_len: usize, trip: u32, sequence: u32) -> DelayAt;
+    pub fn savoiky_service_second(settings: Settings, hour: u32, minute: u32, second: u32) -> Answer;
+    pub fn savoiky_label_store_access(settings: Settings, stops: u32, stop: u32, row: u32, stop_idx: u32, arrival_s: u32,
+        walk_duration: u32, walk_distance: f64, labels: *mut u32, labels_len: usize, label_distances: *mut f64,
         label_distances_len: usize) -> u32;
-    pub fn savoiky_label_load(stops: u32, stop: u32, row: u32, labels: *const u32, labels_len: usize, label_distances: *const f64,
-        label_distances_len: usize) -> LabelAnswer;
-    pub fn savoiky_sort_stop_departures(stops: u32, trips: u32, times: u32, windows: u32, edges: u32, departures: u32,
-        tables: *const u32, tables_len: usize, runs: *const u32, runs_len: usize, rows: *mut u32, rows_len: usize,
-        marks: *mut u32, marks_len: usize, work: *mut u64, work_len: usize, other: *mut u64, other_len: usize) -> u32;
-    pub fn savoiky_compute_line_groups(stops: u32, trips: u32, times: u32, windows: u32, edges: u32, tables: *const u32,
-        tables_len: usize, lines: *mut u32, lines_len: usize, runs: *mut u32, runs_len: usize, entries: *mut u32,
-        entries_len: usize, work: *mut u64, work_len: usize, other: *mut u64, other_len: usize) -> Answer;
-    pub fn savoiky_line_layout(stops: u32, trips: u32, times: u32, windows: u32, edges: u32, lines: u32, entry_count: u32,
-        tables: *const u32, tables_len: usize, runs: *const u32, runs_len: usize, entries: *const u32, entries_len: usize,
-        positions: *mut u32, positions_len: usize, fifo: *mut u32, fifo_len: usize) -> u32;
-    pub fn savoiky_compute_trip_transfers(stops: u32, trips: u32, times: u32, windows: u32, edges: u32, line_count: u32,
-        departures: u32, tables: *const u32, tables_len: usize, lines: *const u32, lines_len: usize, runs: *const u32,
-        runs_len: usize, rows: *const u32, rows_len: usize, area: *mut u32, area_len: usize, transfer_runs: *mut u32,
-        transfer_runs_len: usize) -> Answer;
-    pub fn savoiky_work_size(sizes: QuerySizes) -> Answer;
-    pub fn savoiky_run_tbr(sizes: QuerySizes, tables: *const u32, tables_len: usize, built: *const u32, built_len: usize,
-        transfers: *const u32, transfers_len: usize, patterns: *const u8, patterns_len: usize, distances: *const f64,
-        distances_len: usize, query: *const u32, query_len: usize, labels: *mut u32, labels_len: usize, label_distances: *mut f64,
-        label_distances_len: usize, work: *mut u32, work_len: usize, queue_a: *mut u32, queue_a_len: usize, queue_b: *mut u32,
-        queue_b_len: usize, candidates: *mut u32, candidates_len: usize) -> Reply;
-    pub fn savoiky_query(sizes: QuerySizes, tables: *const u32, tables_len: usize, built: *const u32, built_len: usize,
-        transfers: *const u32, transfers_len: usize, patterns: *const u8, patterns_len: usize, distances: *const f64,
-        distances_len: usize, query: *const u32, query_len: usize, labels: *mut u32, labels_len: usize, label_distances: *mut f64,
-        label_distances_len: usize, work: *mut u32, work_len: usize, queue_a: *mut u32, queue_a_len: usize, queue_b: *mut u32,
-        queue_b_len: usize, candidates: *mut u32, candidates_len: usize) -> Reply;
+    pub fn savoiky_label_store_transit(settings: Settings, stops: u32, stop: u32, row: u32, arrival_s: u32, trip_idx: u32,
+        board_stop: u32, board_off: u32, alight_off: u32, prev_round: u32, time_shift_s: u32, labels: *mut u32, labels_len: usize,
+        label_distances: *mut f64, label_distances_len: usize) -> u32;
+    pub fn savoiky_label_store_walk(settings: Settings, stops: u32, stop: u32, row: u32, arrival_s: u32, from_stop: u32,
+        to_stop: u32, duration_s: u32, distance_m: f64, prev_round: u32, labels: *mut u32, labels_len: usize,
+        label_distances: *mut f64, label_distances_len: usize) -> u32;
+    pub fn savoiky_label_load(settings: Settings, stops: u32, stop: u32, row: u32, labels: *const u32, labels_len: usize,
+        label_distances: *const f64, label_distances_len: usize) -> LabelAnswer;
+    pub fn savoiky_sort_stop_departures(settings: Settings, stops: u32, trips: u32, times: u32, windows: u32, edges: u32,
+        departures: u32, tables: *const u32, tables_len: usize, runs: *const u32, runs_len: usize, rows: *mut u32,
+        rows_len: usize, marks: *mut u32, marks_len: usize, work: *mut u64, work_len: usize, other: *mut u64,
+        other_len: usize) -> u32;
+    pub fn savoiky_compute_line_groups(settings: Settings, stops: u32, trips: u32, times: u32, windows: u32, edges: u32,
+        tables: *const u32, tables_len: usize, lines: *mut u32, lines_len: usize, runs: *mut u32, runs_len: usize,
+        entries: *mut u32, entries_len: usize, work: *mut u64, work_len: usize, other: *mut u64, other_len: usize) -> Answer;
+    pub fn savoiky_line_layout(settings: Settings, stops: u32, trips: u32, times: u32, windows: u32, edges: u32, lines: u32,
+        entry_count: u32, tables: *const u32, tables_len: usize, runs: *const u32, runs_len: usize, entries: *const u32,
+        entries_len: usize, positions: *mut u32, positions_len: usize, fifo: *mut u32, fifo_len: usize) -> u32;
+    pub fn savoiky_compute_trip_transfers(settings: Settings, stops: u32, trips: u32, times: u32, windows: u32, edges: u32,
+        line_count: u32, departures: u32, tables: *const u32, tables_len: usize, lines: *const u32, lines_len: usize,
+        runs: *const u32, runs_len: usize, rows: *const u32, rows_len: usize, area: *mut u32, area_len: usize,
+        transfer_runs: *mut u32, transfer_runs_len: usize) -> Answer;
+    pub fn savoiky_work_size(settings: Settings, sizes: QuerySizes) -> Answer;
+    pub fn savoiky_run_tbr(settings: Settings, sizes: QuerySizes, tables: *const u32, tables_len: usize, built: *const u32,
+        built_len: usize, transfers: *const u32, transfers_len: usize, patterns: *const u8, patterns_len: usize,
+        distances: *const f64, distances_len: usize, query: *const u32, query_len: usize, labels: *mut u32, labels_len: usize,
+        label_distances: *mut f64, label_distances_len: usize, work: *mut u32, work_len: usize, queue_a: *mut u32,
+        queue_a_len: usize, queue_b: *mut u32, queue_b_len: usize, candidates: *mut u32, candidates_len: usize) -> Reply;
+    pub fn savoiky_query(settings: Settings, sizes: QuerySizes, tables: *const u32, tables_len: usize, built: *const u32,
+        built_len: usize, transfers: *const u32, transfers_len: usize, patterns: *const u8, patterns_len: usize,
+        distances: *const f64, distances_len: usize, query: *const u32, query_len: usize, labels: *mut u32, labels_len: usize,
+        label_distances: *mut f64, label_distances_len: usize, work: *mut u32, work_len: usize, queue_a: *mut u32,
+        queue_a_len: usize, queue_b: *mut u32, queue_b_len: usize, candidates: *mut u32, candidates_len: usize) -> Reply;
 }

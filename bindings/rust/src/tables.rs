@@ -253,11 +253,11 @@ impl Departures {
 /// The trips may be laid out by hand, or added one by one:
 ///
 /// ```
-/// use savoiky::{Stop, StopTime, Timetable};
+/// use savoiky::{Settings, Stop, StopTime, Timetable};
 /// let mut t = Timetable { stops: vec![Stop::default(); 2], ..Timetable::default() };
 /// t.add_trip(&[StopTime::new(0, 100, 100), StopTime::new(1, 200, 200)]).excluded = false;
 /// t.list_departures();
-/// let tables = t.build()?;
+/// let tables = t.build(Settings::DEFAULT)?;
 /// assert_eq!(tables.built().lines.of_trip, [0]);
 /// # Ok::<(), savoiky::Refusal>(())
 /// ```

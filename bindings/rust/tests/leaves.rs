@@ -1,47 +1,50 @@
 //! The leaves: cell sets, labels, clock readings.
-use savoiky::{service_second, CellBitSet, Label, Labels};
+use savoiky::{service_second, CellBitSet, Label, Labels, Refusal, Settings};
+
+const S: Settings = Settings::DEFAULT;
 
 #[test]
-fn cell_sets() {
-    let set = CellBitSet::new(65).unwrap();
-    assert!(set.is_empty());
-    let set = set.set_bit(127).set_bit(128);
-    assert!(set.get_bit(127) && !set.get_bit(128) && !set.get_bit(u32::MAX));
-    let other = CellBitSet::new(8).unwrap().set_bit(3);
-    assert!(!set.intersects(&other));
-    let both = other.union_with(&set);
-    assert!(both.get_bit(3) && both.get_bit(127) && both.intersects(&set));
-    let wide = other.ensure_sized(512).unwrap().set_bit(511);
-    assert!(wide.get_bit(3) && wide.get_bit(511));
+fn cell_sets() -> Result<(), Refusal> {
+    let set = CellBitSet::new(S, 65)?;
+    assert!(set.is_empty(S)?);
+    let set = set.set_bit(S, 127)?.set_bit(S, 128)?;
+    assert!(set.get_bit(S, 127)? && !set.get_bit(S, 128)? && !set.get_bit(S, u32::MAX)? && !set.is_empty(S)?);
+    let other = CellBitSet::new(S, 8)?.set_bit(S, 3)?;
+    assert!(!set.intersects(S, &other)?);
+    let both = other.union_with(S, &set)?;
+    assert!(both.get_bit(S, 3)? && both.get_bit(S, 127)? && both.intersects(S, &set)?);
+    let wide = other.ensure_sized(S, 512)?.set_bit(S, 511)?;
+    assert!(wide.get_bit(S, 3)? && wide.get_bit(S, 511)?);
+    Ok(())
 }
 
 #[test]
 fn labels() {
-    let mut labels = Labels::new(2).unwrap();
+    let mut labels = Labels::new(S, 2).unwrap();
     let stored = [
         Label::Access { stop_idx: 1, arrival_s: 2, walk_duration: 3, walk_distance: 4.5 },
         Label::Transit { arrival_s: 1, trip_idx: 2, board_stop: 1, board_off: 4, alight_off: 5, prev_round: 6, time_shift_s: -7 },
         Label::Walk { arrival_s: u32::MAX, from_stop: 0, to_stop: 1, duration_s: 4, distance_m: f64::INFINITY, prev_round: 5 },
     ];
     for (row, label) in stored.into_iter().enumerate() {
-        labels.store(1, row as u32, label).unwrap();
+        labels.store(S, 1, row as u32, label).unwrap();
     }
     for (row, label) in stored.into_iter().enumerate() {
-        assert_eq!(labels.load(1, row as u32), Ok(label));
-        assert_eq!(labels.load(0, row as u32), Ok(Label::Empty));
+        assert_eq!(labels.load(S, 1, row as u32), Ok(label));
+        assert_eq!(labels.load(S, 0, row as u32), Ok(Label::Empty));
     }
-    labels.store(1, 2, Label::Empty).unwrap();
-    assert_eq!(labels.load(1, 2), Ok(Label::Empty));
+    labels.store(S, 1, 2, Label::Empty).unwrap();
+    assert_eq!(labels.load(S, 1, 2), Ok(Label::Empty));
     assert_eq!(labels, {
-        let mut same = Labels::new(2).unwrap();
-        same.store(1, 0, stored[0]).unwrap();
-        same.store(1, 1, stored[1]).unwrap();
+        let mut same = Labels::new(S, 2).unwrap();
+        same.store(S, 1, 0, stored[0]).unwrap();
+        same.store(S, 1, 1, stored[1]).unwrap();
         same
     });
 }
 
 #[test]
 fn clock() {
-    assert_eq!(service_second(25, 10, 0), Ok(90_600));
-    assert_eq!(service_second(47, 59, 59), Ok(172_799));
+    assert_eq!(service_second(S, 25, 10, 0), Ok(90_600));
+    assert_eq!(service_second(S, 47, 59, 59), Ok(172_799));
 }

@@ -249,7 +249,7 @@ module _ (T : Tables) (Q : Query) (a : Arrivals) where
     from k r bound = candidatesFrom T Q a (best .0) k r bound
 
     abbrev taken : ℕ → ℕ → Bool
-    taken r bound = ltb (rowBest r .0) bound && leb (rowBest r .0) (best .0 + Q .settings .candidateSlack)
+    taken r bound = ltb (rowBest r .0) bound && leb (rowBest r .0) (best .0 + Q .settings .«candidate_slack»)
 
     -- after the best total nothing is taken
     pub nothing-after : (k r bound : ℕ) → k + r ≤ 13 → bound ≤ best .0 → from k r bound ≡ []
@@ -294,7 +294,7 @@ module _ (T : Tables) (Q : Query) (a : Arrivals) where
             (subst (λ (z : ℕ). Last (best .0) ((z, rowBest r .1, r) ∷ [])) (sym (here c)) (last (rowBest r .1) r))
         go false t (inl c) on = on bound h (later c)
         go false t (inr c) on =
-            let near = le-leb (rowBest r .0) (best .0 + Q .settings .candidateSlack) (omega arith) in
+            let near = le-leb (rowBest r .0) (best .0 + Q .settings .«candidate_slack») (omega arith) in
             absurd (no-both (both _ _ (lt-ltb (rowBest r .0) bound (omega arith)) near) t)
 
     -- totals fall and rows rise
@@ -318,7 +318,7 @@ module _ (T : Tables) (Q : Query) (a : Arrivals) where
       where
         one : taken r bound ≡ true → Candidate Q (a .labels) (best .0) (rowBest r .0) (rowBest r .1) r
         one e =
-            let near = leb (rowBest r .0) (best .0 + Q .settings .candidateSlack) in
+            let near = leb (rowBest r .0) (best .0 + Q .settings .«candidate_slack») in
             let b = ltb-true (rowBest r .0) bound (and-left (ltb (rowBest r .0) bound) near e) in
             ⊎-elim
             (λ z. let x : rowBest r .0 ≡ never = ap (λ (z : ℕ × ℕ). z .0) z in absurd (omega arith))
@@ -329,7 +329,7 @@ module _ (T : Tables) (Q : Query) (a : Arrivals) where
               label = w .reaches;
               sum = w .sum;
               best = row-late r (omega arith);
-              near = leb-true (rowBest r .0) (best .0 + Q .settings .candidateSlack) (and-right (ltb (rowBest r .0) bound) near e);
+              near = leb-true (rowBest r .0) (best .0 + Q .settings .«candidate_slack») (and-right (ltb (rowBest r .0) bound) near e);
             })
             (row-least r .is)
 

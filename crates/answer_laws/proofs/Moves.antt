@@ -179,11 +179,11 @@ module _ (T : Tables) (Q : Query) where
       isFifo = fifo T (lineAt T (e .target))
 
       go : (b : Bool) → Found (e .offset) (elim b [
-        | true ↦ resolveIn T Q isFifo (e .offset) after best (l .trip) (min (l .count - p) (Q .settings .lineScan)) p
-        | false ↦ resolveIn T Q isFifo (e .offset) after best (λ p. e .target) (min 1 (Q .settings .lineScan)) 0
+        | true ↦ resolveIn T Q isFifo (e .offset) after best (l .trip) (min (l .count - p) (Q .settings .«line_scan»)) p
+        | false ↦ resolveIn T Q isFifo (e .offset) after best (λ p. e .target) (min 1 (Q .settings .«line_scan»)) 0
       ])
-      go true = resolveIn-found isFifo (e .offset) after best (l .trip) (min (l .count - p) (Q .settings .lineScan)) p
-      go false = resolveIn-found isFifo (e .offset) after best (λ p. e .target) (min 1 (Q .settings .lineScan)) 0
+      go true = resolveIn-found isFifo (e .offset) after best (l .trip) (min (l .count - p) (Q .settings .«line_scan»)) p
+      go false = resolveIn-found isFifo (e .offset) after best (λ p. e .target) (min 1 (Q .settings .«line_scan»)) 0
 
 module _ (T : Tables) (Q : Query) {R J : ℕ → Type 0} where
   -- moves after moves

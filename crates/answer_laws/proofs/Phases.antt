@@ -174,11 +174,11 @@ module _ (T : Tables) (Q : Query) where
       f = fifo T (lineAt T (e .target))
 
       go : (x : Bool) → Found (e .offset) after (elim x [
-        | true ↦ resolveIn T Q f (e .offset) after best (l .trip) (min (l .count - p) (Q .settings .lineScan)) p
-        | false ↦ resolveIn T Q f (e .offset) after best (λ p. e .target) (min 1 (Q .settings .lineScan)) 0
+        | true ↦ resolveIn T Q f (e .offset) after best (l .trip) (min (l .count - p) (Q .settings .«line_scan»)) p
+        | false ↦ resolveIn T Q f (e .offset) after best (λ p. e .target) (min 1 (Q .settings .«line_scan»)) 0
       ])
-      go true = resolve-in f (e .offset) after best (l .trip) (min (l .count - p) (Q .settings .lineScan)) p
-      go false = resolve-in f (e .offset) after best (λ p. e .target) (min 1 (Q .settings .lineScan)) 0
+      go true = resolve-in f (e .offset) after best (l .trip) (min (l .count - p) (Q .settings .«line_scan»)) p
+      go false = resolve-in f (e .offset) after best (λ p. e .target) (min 1 (Q .settings .«line_scan»)) 0
 
   module _ (stamp : ℕ) (a : Arrivals) where
     abbrev On : Arrivals → Type 0

@@ -163,7 +163,7 @@ pub record Candidate (Q : Query) (labels : List Label) (top total stop row : ℕ
   pub label : reachedBy (labelIn labels stop row) ≡ suc arrives
   pub sum : total ≡ arrives + walk
   pub best : top ≤ total
-  pub near : total ≤ top + Q .settings .candidateSlack
+  pub near : total ≤ top + Q .settings .«candidate_slack»
 
 -- WHAT EVERY ADMITTED ANSWER KEEPS
 pub record Lawful (T : Tables) (Q : Query) (A : SearchAnswer) : Type 0 where

@@ -153,14 +153,14 @@ module _ (T : Tables) (Q : Query) (a : Arrivals) (top n : ℕ) where
   abbrev pub rowsAhead : ℕ → ℕ → List (ℕ × ℕ × ℕ)
   rowsAhead r last = candidatesFrom T Q a top (n - r) r last
 
-  rows-turn : (k r last : ℕ) (b : ℕ × ℕ) (x : Bool) → rowTarget T Q a r (Q .egress) (never, never) ≡ b → (ltb (b .0) last && leb (b .0) (top + Q .settings .candidateSlack)) ≡ x
+  rows-turn : (k r last : ℕ) (b : ℕ × ℕ) (x : Bool) → rowTarget T Q a r (Q .egress) (never, never) ≡ b → (ltb (b .0) last && leb (b .0) (top + Q .settings .«candidate_slack»)) ≡ x
       → candidatesFrom T Q a top (suc k) r last ≡ elim x [ true ↦ (b .0, b .1, r) ∷ candidatesFrom T Q a top k (suc r) (b .0) | false ↦ candidatesFrom T Q a top k (suc r) last ]
   unfolding candidatesFrom
   rows-turn k r last b x eb ex =
-      ap (λ (y : ℕ × ℕ). elim (ltb (y .0) last && leb (y .0) (top + Q .settings .candidateSlack)) as (λ z. List (ℕ × ℕ × ℕ)) [ true ↦ (y .0, y .1, r) ∷ candidatesFrom T Q a top k (suc r) (y .0) | false ↦ candidatesFrom T Q a top k (suc r) last ]) eb
+      ap (λ (y : ℕ × ℕ). elim (ltb (y .0) last && leb (y .0) (top + Q .settings .«candidate_slack»)) as (λ z. List (ℕ × ℕ × ℕ)) [ true ↦ (y .0, y .1, r) ∷ candidatesFrom T Q a top k (suc r) (y .0) | false ↦ candidatesFrom T Q a top k (suc r) last ]) eb
       ∙ ap (λ (y : Bool). elim y as (λ z. List (ℕ × ℕ × ℕ)) [ true ↦ (b .0, b .1, r) ∷ candidatesFrom T Q a top k (suc r) (b .0) | false ↦ candidatesFrom T Q a top k (suc r) last ]) ex
 
-  module _ (r last slack : ℕ) (b : Target) (egress : List ℕ) (x : Bool) (h : r < n) (ee : Q .egress ≡ egressRows egress) (es : Q .settings .candidateSlack ≡ slack)
+  module _ (r last slack : ℕ) (b : Target) (egress : List ℕ) (x : Bool) (h : r < n) (ee : Q .egress ≡ egressRows egress) (es : Q .settings .«candidate_slack» ≡ slack)
       (eb : targetOf b ≡ rowTarget T Q a r (egressRows egress) (never, never)) (ex : x ≡ (ltb (b .total) last && leb (b .total) (top + slack))) where
     whole : rowsAhead r last ≡ elim x [ true ↦ (b .total, b .stop, r) ∷ rowsAhead (r + 1) (b .total) | false ↦ rowsAhead (r + 1) last ]
     whole =

@@ -206,7 +206,7 @@ pub fn candidates(
         ∗ ⌜ length (now candidates) ≡ 39 ⌝ }
     ensures { λ r. ⌜ ZeroFrom (now (candidates .exit)) r ⌝
         ∗ ⌜ ((T : Tables) (Q : Query) (a : Arrivals) → Labelled a stops (now (labels .entry)) (now («label_distances» .entry)) → Q .egress
-        ≡ egressRows (now (egress .entry)) → Q .settings .candidateSlack ≡ slack → candidatesIn (now (candidates .exit)) r
+        ≡ egressRows (now (egress .entry)) → Q .settings .«candidate_slack» ≡ slack → candidatesIn (now (candidates .exit)) r
         ≡ candidatesFrom T Q a top (suc rounds) 0 never) ⌝
         ∗ ⌜ r ≤ 13 ⌝ }
 {

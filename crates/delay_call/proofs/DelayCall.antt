@@ -10,12 +10,14 @@ use borrow.Author.Tests.{leb-true, eqb-true}
 use Rattle.loops.specs.Iter.{Hit}
 use Rattle.loops.proofs.Iter.{and-left, and-right}
 use Rattle.door.proofs.Laws.{ask-yes, ask-later}
-use Rattle.door.specs.Door.{ask, answer, refusal, success, timeLimit}
+use Rattle.door.specs.Door.{ask}
+use Rattle.door.specs.Settings.{settingsOk}
+use Rattle.door.specs.declared.Settings.{Settings}
 use Rattle.delay_call.specs.declared.DelayAt.{DelayAt}
-use Rattle.delay_rows.specs.Delays.{delayRow, stopDelay, margin}
+use Rattle.delay_rows.specs.Delays.{delayRow, stopDelay}
 use Rattle.delay_rows.specs.Flat.{delayRowCount, stopRowCount, delayTables}
 use Rattle.stop_delay.specs.Times.{noDelay}
-use Rattle.delay_call.specs.DelayCall.{delayCounts, delayLengths, delaysDoor, told, knownOf, delayAnswer, marginOutcome, delayAtOutcome}
+use Rattle.delay_call.specs.DelayCall.{delayCounts, delayLengths, delaysDoor, told, knownOf, delayAnswer, delayAtOutcome}
 use Rattle.delay_rows.specs.Door.{delayNumbers, delayRanges, delayOrder}
 use Rattle.delay_lookup.specs.Sane.{Delays}
 use Rattle.delay_lookup.proofs.Door.{delays-yes}
@@ -47,48 +49,39 @@ few trips n m q =
     }
 
 -- every answer is yes
-pub admitted : (trips n m : ℕ) (rows stops : List ℕ) (numbered ranged : Bool) (v : ℕ) → v ≡ delaysDoor trips n m rows stops numbered ranged → v ≡ 0
+pub admitted : (S : Settings) (trips n m : ℕ) (rows stops : List ℕ) (numbered : Bool) (v : ℕ) → v ≡ delaysDoor S trips n m rows stops numbered → v ≡ 0
     → Delays trips (delayTables rows stops)
 unfolding delaysDoor
-admitted trips n m rows stops numbered ranged v e z =
+admitted S trips n m rows stops numbered v e z =
     let h = sym e ∙ z in
     let D = delayTables rows stops in
     let l6 = ask 6 (delayOrder D) 0 in
-    let l5 = ask 5 (delayRanges D && ranged) l6 in
+    let l5 = ask 5 (delayRanges D) l6 in
     let l4 = ask 4 (delayNumbers trips D && numbered) l5 in
     let l2 = ask 2 (delayLengths n m rows stops) l4 in
-    let h1 = ask-later 0 (delayCounts trips n m) l2 h in
+    let l14 = ask 14 (settingsOk S) l2 in
+    let h14 = ask-later 0 (delayCounts trips n m) l14 h in
+    let h1 = ask-later 13 (settingsOk S) l2 h14 in
     let h2 = ask-later 1 (delayLengths n m rows stops) l4 h1 in
     let h4 = ask-later 3 (delayNumbers trips D && numbered) l5 h2 in
-    let h5 = ask-later 4 (delayRanges D && ranged) l6 h4 in
-    let c = few trips n m (ask-yes 0 (delayCounts trips n m) l2 h) in
+    let h5 = ask-later 4 (delayRanges D) l6 h4 in
+    let c = few trips n m (ask-yes 0 (delayCounts trips n m) l14 h) in
     let q2 = ask-yes 1 (delayLengths n m rows stops) l4 h1 in
     delays-yes trips D (c .one) (omega (arith, delay-count n m rows stops q2, c .two)) (omega (arith, stop-count n m rows stops q2, c .three))
     (and-left (delayNumbers trips D) numbered (ask-yes 3 (delayNumbers trips D && numbered) l5 h2))
-    (and-left (delayRanges D) ranged (ask-yes 4 (delayRanges D && ranged) l6 h4))
+    (ask-yes 4 (delayRanges D) l6 h4)
     (ask-yes 5 (delayOrder D) 0 h5)
 
 -- What the calls answer, under the number v that the door gave
-module _ (trips n m : ℕ) (rows stops : List ℕ) (cap v : ℕ) (e : v ≡ delaysDoor trips n m rows stops true (leb cap timeLimit)) where
-  pub margin-given : v ≡ 0 → success (margin (delayTables rows stops) cap) ≡ marginOutcome trips n m rows stops cap
-  margin-given z = ap (λ (k : ℕ). answer k (margin (delayTables rows stops) cap)) (sym z ∙ e)
-
-  pub margin-refused : (v ≡ 0 → ⊥) → refusal v ≡ marginOutcome trips n m rows stops cap
-  margin-refused h = at v h ∙ ap (λ (k : ℕ). answer k (margin (delayTables rows stops) cap)) e
-    where
-      at : (k : ℕ) → (k ≡ 0 → ⊥) → refusal k ≡ answer k (margin (delayTables rows stops) cap)
-      at zero h = absurd (h refl)
-      at (suc k) h = refl
-
-module _ (trips n m : ℕ) (rows stops : List ℕ) (trip sequence v : ℕ) (e : v ≡ delaysDoor trips n m rows stops (ltb trip trips) true) where
+module _ (S : Settings) (trips n m : ℕ) (rows stops : List ℕ) (trip sequence v : ℕ) (e : v ≡ delaysDoor S trips n m rows stops (ltb trip trips)) where
   outcomeAt : ℕ → DelayAt
   outcomeAt k = delayAnswer k (knownOf (delayRow (delayTables rows stops) trip)) (stopDelay (delayTables rows stops) (delayRow (delayTables rows stops) trip) sequence)
 
-  pub delay-given : (h : Hit) → v ≡ 0 → delayRow (delayTables rows stops) trip ≡ h → told 0 (knownOf h) (stopDelay (delayTables rows stops) h sequence) ≡ delayAtOutcome trips n m rows stops trip sequence
+  pub delay-given : (h : Hit) → v ≡ 0 → delayRow (delayTables rows stops) trip ≡ h → told 0 (knownOf h) (stopDelay (delayTables rows stops) h sequence) ≡ delayAtOutcome S trips n m rows stops trip sequence
   unfolding outcomeAt
   delay-given h z f = ap (λ (k : Hit). told 0 (knownOf k) (stopDelay (delayTables rows stops) k sequence)) (sym f) ∙ ap outcomeAt (sym z ∙ e)
 
-  pub delay-refused : (v ≡ 0 → ⊥) → told v 0 noDelay ≡ delayAtOutcome trips n m rows stops trip sequence
+  pub delay-refused : (v ≡ 0 → ⊥) → told v 0 noDelay ≡ delayAtOutcome S trips n m rows stops trip sequence
   unfolding outcomeAt
   delay-refused h = at v h ∙ ap outcomeAt e
     where

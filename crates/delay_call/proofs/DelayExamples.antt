@@ -5,7 +5,10 @@ use mathlib.Core.Bool.{Bool, true, _&&_}
 use mathlib.Core.List.{List, [], _∷_}
 use lib.Dec.{eqb}
 use Rattle.loops.specs.Iter.{iter, first, every}
-use Rattle.delay_call.specs.DelayCall.{delaysDoor}
+use Rattle.door.specs.Settings.{defaultSettings, settingsOk}
+use Rattle.door.proofs.House.{noTripTried}
+use Rattle.delay_rows.specs.Delays.{margin, largest}
+use Rattle.delay_call.specs.DelayCall.{delaysDoor, marginOutcome}
 
 -- counts and tables, and the number of the first no
 pub record Entry : Type 0 where
@@ -17,7 +20,7 @@ pub record Entry : Type 0 where
   pub number : ℕ
 
 answered : Entry → Bool
-answered d = eqb (delaysDoor (d .trips) (d .count) (d .stopCount) (d .rows) (d .stops) true true) (d .number)
+answered d = eqb (delaysDoor defaultSettings (d .trips) (d .count) (d .stopCount) (d .rows) (d .stops) true) (d .number)
 
 pub allAnswered : List Entry → Bool
 allAnswered [] = true
@@ -46,5 +49,10 @@ entries =
     ∷ []
 
 pub entries-worked : allAnswered entries ≡ true
-unfolding allAnswered answered entries delaysDoor iter first every
+unfolding settingsOk allAnswered answered entries delaysDoor iter first every
 entries-worked = refl
+
+-- 14 is asked after 1 and before 2
+pub settings-asked : eqb (delaysDoor noTripTried 4 1 0 [] [] true) 14 && eqb (delaysDoor noTripTried 4097 1 0 [] [] true) 1 ≡ true
+unfolding settingsOk delaysDoor
+settings-asked = refl

@@ -8,6 +8,7 @@ ghost use mathlib.Core.Path.{_≡_};
 ghost use Rattle.delay_call.specs.DelayCall.{delayCounts, delayLengths, delaysDoor, marginOutcome, told, delayAtOutcome};
 ghost use Rattle.delay_rows.specs.Delays.{margin};
 use delay_rows::Found;
+use door::Settings;
 use stop_delay::StopDelay;
 
 // The answer of delay_at: code 0, and known 1 where the trip has a delay row; or the number of the first no, the rest 0.
@@ -43,22 +44,25 @@ fn delay_lengths(
     door::both(delays, stops)
 }
 
-// The door of the delay tables: the number of the first no, or 0. `numbered` and `ranged` are the caller's own part of
-// questions 4 and 5.
+// The door of the delay tables: the number of the first no, or 0. `numbered` is the caller's own part of question 4.
 fn delays_door(
+    settings: Settings,
     trips: u32,
     delay_row_count: u32,
     stop_row_count: u32,
     delay_rows: &[u32],
     stop_rows: &[u32],
     numbered: bool,
-    ranged: bool,
 ) -> u32
-    ensures { λ r. ⌜ r ≡ delaysDoor trips «delay_row_count» «stop_row_count»
-        (now («delay_rows» .entry)) (now («stop_rows» .entry)) numbered ranged ⌝ }
+    ensures { λ r. ⌜ r ≡ delaysDoor settings trips «delay_row_count» «stop_row_count»
+        (now («delay_rows» .entry)) (now («stop_rows» .entry)) numbered ⌝ }
 {
-    if !delay_counts(trips, delay_row_count, stop_row_count) {
-        return 1;
+    let v = door::limits(
+        delay_counts(trips, delay_row_count, stop_row_count),
+        settings,
+    );
+    if v != 0 {
+        return v;
     }
     if !delay_lengths(delay_row_count, stop_row_count, delay_rows, stop_rows) {
         return 2;
@@ -69,10 +73,7 @@ fn delays_door(
     ) {
         return 4;
     }
-    if !door::both(
-        delay_rows::rows_asked(5, trips, delay_rows, stop_rows),
-        ranged,
-    ) {
+    if !delay_rows::rows_asked(5, trips, delay_rows, stop_rows) {
         return 5;
     }
     if !delay_rows::rows_asked(6, trips, delay_rows, stop_rows) {
@@ -81,32 +82,31 @@ fn delays_door(
     0
 }
 
-// Questions 1, 2, 4, 5 (with the cap) and 6, then the margin.
-fn margin(
+// Questions 1, 14, 2, 4, 5 and 6, then the margin.
+pub fn margin(
+    settings: Settings,
     trips: u32,
     delay_row_count: u32,
     stop_row_count: u32,
     delay_rows: &[u32],
     stop_rows: &[u32],
-    cap: u32,
 ) -> door::Answer
-    ensures { λ r. ⌜ r ≡ marginOutcome trips «delay_row_count» «stop_row_count»
-        (now («delay_rows» .entry)) (now («stop_rows» .entry)) cap ⌝ }
+    ensures { λ r. ⌜ r ≡ marginOutcome settings trips «delay_row_count» «stop_row_count»
+        (now («delay_rows» .entry)) (now («stop_rows» .entry)) ⌝ }
 {
-    let ranged = cap <= door::TIME_LIMIT;
     let no = delays_door(
+        settings,
         trips,
         delay_row_count,
         stop_row_count,
         delay_rows,
         stop_rows,
         true,
-        ranged,
     );
     if no != 0 {
         return door::refused(no);
     }
-    door::given(delay_lookup::rt_margin(delay_rows, stop_rows, cap))
+    door::given(delay_lookup::rt_margin(delay_rows, stop_rows, settings.margin_cap))
 }
 
 // An answer of delay_at.
@@ -123,8 +123,9 @@ fn told(code: u32, known: u32, d: StopDelay) -> DelayAt
     }
 }
 
-// Questions 1, 2, 4 (with the trip), 5 and 6, then what the tables say of the trip's stop time with this sequence.
+// Questions 1, 14, 2, 4 (with the trip), 5 and 6, then what the tables say of the trip's stop time with this sequence.
 pub fn delay_at(
+    settings: Settings,
     trips: u32,
     delay_row_count: u32,
     stop_row_count: u32,
@@ -133,18 +134,18 @@ pub fn delay_at(
     trip: u32,
     sequence: u32,
 ) -> DelayAt
-    ensures { λ r. ⌜ r ≡ delayAtOutcome trips «delay_row_count» «stop_row_count»
+    ensures { λ r. ⌜ r ≡ delayAtOutcome settings trips «delay_row_count» «stop_row_count»
         (now («delay_rows» .entry)) (now («stop_rows» .entry)) trip sequence ⌝ }
 {
     let numbered = trip < trips;
     let no = delays_door(
+        settings,
         trips,
         delay_row_count,
         stop_row_count,
         delay_rows,
         stop_rows,
         numbered,
-        true,
     );
     if no != 0 {
         return told(no, 0, stop_delay::no_delay());
@@ -162,28 +163,4 @@ pub fn delay_at(
             return told(0, 0, stop_delay::no_delay());
         }
     }
-}
-
-// The delay margin of a query is at most this many seconds.
-const MARGIN_CAP: u32 = 21600;
-
-// The margin with that cap.
-pub fn capped_margin(
-    trips: u32,
-    delay_row_count: u32,
-    stop_row_count: u32,
-    delay_rows: &[u32],
-    stop_rows: &[u32],
-) -> door::Answer
-    ensures { λ r. ⌜ r ≡ marginOutcome trips «delay_row_count» «stop_row_count»
-        (now («delay_rows» .entry)) (now («stop_rows» .entry)) 21600 ⌝ }
-{
-    margin(
-        trips,
-        delay_row_count,
-        stop_row_count,
-        delay_rows,
-        stop_rows,
-        MARGIN_CAP,
-    )
 }

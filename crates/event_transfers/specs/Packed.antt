@@ -12,6 +12,7 @@ use Rattle.loops.specs.Count.{tab}
 use Rattle.loops.specs.Order.{KeysRise}
 use Rattle.sorts.specs.Sort.{hi, within}
 use Rattle.sorts.specs.Orders.{keep}
+use Rattle.door.specs.Settings.{transferTimeLimit}
 use Rattle.tables.specs.declared.Counts.{Counts}
 use Rattle.tables.specs.Tables.{timeOf, firstOf, countOf}
 use Rattle.tables.specs.Timetable.{timetable}
@@ -154,13 +155,13 @@ pub record EventAt (t : List ℕ) (c : Counts) (ti off e n time : ℕ) : Type 0 
   pub offset : off < countOf t c ti
   pub event : e < 268435456
   pub few : n ≤ 65537
-  pub short : time ≤ 3600
+  pub short : time ≤ transferTimeLimit
 
 pub record TripAt (c : Counts) (ti e n time : ℕ) : Type 0 where
   pub trip : ti < c .trips
   pub event : e ≤ ti * 65536
   pub few : n ≤ 65537
-  pub short : time ≤ 3600
+  pub short : time ≤ transferTimeLimit
 
 -- r is no less than n with the `whole` transfers to come, but for the `left` that are not yet looked at; past 65,536 it says no more
 pub record Most (n whole r left : ℕ) : Type 0 where
@@ -171,4 +172,4 @@ pub record Most (n whole r left : ℕ) : Type 0 where
 pub record MostAt (i count n time : ℕ) : Type 0 where
   pub below : i < count
   pub few : n ≤ 131072
-  pub short : time ≤ 3600
+  pub short : time ≤ transferTimeLimit

@@ -9,6 +9,7 @@ ghost use Prim.Native.Nat.{_+_, _-_, _/_, _≤_, _<_, ℕ, min};
 ghost use lib.ListN.{length, getD, drop};
 ghost use lib.Dec.{ltb, leb, eqb};
 ghost use Rattle.loops.specs.Count.{one};
+ghost use Rattle.door.specs.Settings.{transferTimeLimit};
 ghost use Rattle.loops.specs.Order.{Halved};
 ghost use Rattle.sorts.specs.Sort.{hi};
 ghost use Rattle.event_transfers.specs.Packed.{Keys, Stretch, LineEnds, LineEnd, Group, laid, lay, layRow, putRow, toGroup, targets};
@@ -108,7 +109,7 @@ fn line_end(run: &[u64], ends: &[u64], k: usize) -> usize
 
 // A transfer is written at row n, where the area has that row.
 fn put_row(area: &mut [u32], time: usize, n: usize, x: u64)
-    requires { ⌜ time ≤ 3600 ⌝ ∗ ⌜ n ≤ 65536 ⌝ }
+    requires { ⌜ time ≤ transferTimeLimit ⌝ ∗ ⌜ n ≤ 65536 ⌝ }
     ensures { λ _. ⌜ now (area .exit) ≡ putRow time (now (area .entry)) n x ⌝ }
 {
     let at = n * 4;
@@ -123,7 +124,7 @@ fn put_row(area: &mut [u32], time: usize, n: usize, x: u64)
 
 // One transfer more. Past 65,536 none is counted or written.
 fn lay_row(area: &mut [u32], time: usize, n: usize, x: u64) -> usize
-    requires { ⌜ time ≤ 3600 ⌝ }
+    requires { ⌜ time ≤ transferTimeLimit ⌝ }
     ensures { λ r. ⌜ laid r (now (area .exit)) ≡ layRow time x (laid n (now (area .entry))) ⌝ }
 {
     if 65536 < n {
@@ -135,7 +136,7 @@ fn lay_row(area: &mut [u32], time: usize, n: usize, x: u64) -> usize
 
 // The transfer to one line: its first departure not before w, unless that is the same trip.
 fn to_line(group: &[u64], area: &mut [u32], time: usize, ti: usize, w: usize, n: usize) -> usize
-    requires { ⌜ Group (now group) ⌝ ∗ ⌜ time ≤ 3600 ⌝ ∗ ⌜ w < 4294967296 ⌝ }
+    requires { ⌜ Group (now group) ⌝ ∗ ⌜ time ≤ transferTimeLimit ⌝ ∗ ⌜ w < 4294967296 ⌝ }
     ensures { λ r. ⌜ laid r (now (area .exit)) ≡ lay time (toGroup (now (group .entry)) ti w) (laid n (now (area .entry))) ⌝ }
 {
     let line = group[0] / 4503599627370496;
@@ -185,7 +186,7 @@ fn to_lines(
     w: usize,
     n: usize,
 ) -> usize
-    requires { ⌜ Keys (now run) ⌝ ∗ ⌜ LineEnds (now run) (now ends) ⌝ ∗ ⌜ time ≤ 3600 ⌝ ∗ ⌜ w < 4294967296 ⌝ }
+    requires { ⌜ Keys (now run) ⌝ ∗ ⌜ LineEnds (now run) (now ends) ⌝ ∗ ⌜ time ≤ transferTimeLimit ⌝ ∗ ⌜ w < 4294967296 ⌝ }
     ensures { λ r. ⌜ laid r (now (area .exit)) ≡ lay time (targets (now (run .entry)) ti w) (laid n (now (area .entry))) ⌝ }
 {
     let mut m = n;
@@ -224,7 +225,7 @@ fn alight(
         ∗ ⌜ RunsListed c (now runs) d ⌝
         ∗ ⌜ SortedRuns c (now runs) (now work) (now ends) d ⌝
         ∗ ⌜ at < c .times ⌝
-        ∗ ⌜ time ≤ 3600 ⌝ }
+        ∗ ⌜ time ≤ transferTimeLimit ⌝ }
     ensures { λ r. ⌜ laid r (now (area .exit))
         ≡ lay time (alightKeys (prepared (now (tables .entry)) c (now (runs .entry)) (now (work .entry)) time) ti at)
         (laid n (now (area .entry))) ⌝ }
@@ -347,7 +348,7 @@ pub fn all_events(
     time: usize,
 ) -> usize
     requires { ⌜ Sane (now tables) c ⌝ ∗ ⌜ RunsListed c (now runs) d ⌝ ∗ ⌜ SortedRuns c (now runs) (now work) (now ends) d ⌝
-        ∗ ⌜ time ≤ 3600 ⌝ }
+        ∗ ⌜ time ≤ transferTimeLimit ⌝ }
     ensures { λ r. ⌜ areaWalk r (now (area .exit)) (now («transfer_runs» .exit))
         ≡ layEvents time 0 (allKeys (prepared (now (tables .entry)) c (now (runs .entry)) (now (work .entry)) time))
         (areaWalk 0 (now (area .entry)) (now («transfer_runs» .entry))) ⌝
@@ -451,7 +452,7 @@ pub fn most_all(
     time: usize,
 ) -> usize
     requires { ⌜ Sane (now tables) c ⌝ ∗ ⌜ RunsListed c (now runs) d ⌝ ∗ ⌜ SortedRuns c (now runs) (now work) (now ends) d ⌝
-        ∗ ⌜ time ≤ 3600 ⌝ }
+        ∗ ⌜ time ≤ transferTimeLimit ⌝ }
     ensures { λ r. ⌜ Most 0 (length (flatten (allKeys (prepared (now (tables .entry)) c (now (runs .entry)) (now (work .entry)) time)))) r 0 ⌝ }
 {
     let trips = c.trips;
@@ -475,7 +476,7 @@ pub fn total(
     time: usize,
 ) -> usize
     requires { ⌜ Sane (now tables) c ⌝ ∗ ⌜ RunsListed c (now runs) d ⌝ ∗ ⌜ SortedRuns c (now runs) (now work) (now ends) d ⌝
-        ∗ ⌜ time ≤ 3600 ⌝ }
+        ∗ ⌜ time ≤ transferTimeLimit ⌝ }
     ensures { λ r. ⌜ r
         ≡ min (length (flatten (allKeys (prepared (now (tables .entry)) c (now (runs .entry)) (now (work .entry)) time)))) 65537 ⌝ }
 {

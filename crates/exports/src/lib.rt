@@ -7,10 +7,8 @@
 // Proves: each call's whole outcome is the leaf's definition of it.
 // Assumes nothing.
 ghost use mathlib.Core.Path.{_≡_};
-ghost use Rattle.leaf_calls.specs.CellSetCall.{created, resized};
-ghost use Rattle.cell_bitset.specs.CellSet.{withCell, held, meets, union, holdsNone};
-ghost use Rattle.leaf_calls.specs.WalkCall.{walkDuration};
-ghost use Rattle.walk_time.specs.Walk.{roundCount};
+ghost use Rattle.leaf_calls.specs.CellSetCall.{created, resized, withCellAnswer, heldAnswer, meetsAnswer, unionAnswer, emptyAnswer};
+ghost use Rattle.leaf_calls.specs.WalkCall.{walkDuration, roundsAnswer};
 ghost use Rattle.frequency_call.specs.FrequencyCall.{freqOutcome};
 ghost use Rattle.leaf_calls.specs.StopDelayCall.{departureOutcome, arrivalOutcome, skippedOutcome};
 ghost use Rattle.delay_call.specs.DelayCall.{marginOutcome, delayAtOutcome};
@@ -30,6 +28,7 @@ ghost use Rattle.exports.specs.Shown.{shown, shownOf, shownTransfers, sh
 use cell_bitset::CellBitSet;
 use delay_call::DelayAt;
 use door::Answer;
+use door::Settings;
 use frequency_call::FreqAnswer;
 use label_call::LabelAnswer;
 use leaf_calls::CellSetAnswer;
@@ -37,9 +36,6 @@ use lines_call::Grouped;
 use query_reply::Reply;
 use sizes::QuerySizes;
 use transfers_call::Built;
-
-// The transfer time of built transfers, in seconds.
-const TRANSFER_TIME: usize = 120;
 
 // RULES OF EVERY CALL. A slice is lent as a pointer to its first element and the number of its elements. The pointer is not
 // null and is aligned for its elements, also where the number is 0 (then nothing is read or written through it). A slice
@@ -54,6 +50,7 @@ const TRANSFER_TIME: usize = 120;
 //   0  none: success
 //   1  Are all counts within the limits? (4,096 stops, trips, lines, line entries, patterns, delay rows and stop rows; 65,536
 //      stop times, walk edges, departures, windows and transfers; 512 cells; 64 origins; 64 egress stops)
+//  14  Is every setting in its range? Every call asks this, after 1 and before 2.
 //   2  Is every lent slice exactly as long as its counts say? (The transfer area and the queue may have any length; the two
 //      halves of the queue have the same.)
 //   3  Has every trip a stop time, and do all runs lie in their tables? (First + length at most the table's rows.)
@@ -63,66 +60,90 @@ const TRANSFER_TIME: usize = 120;
 //   6  Are walk edges, delay rows, stop rows, egress stops and, for a query, departures in order?
 //   7  Building transfers: are there at most 65,536, and does the area hold all of them?
 //   8  Query: does a half of the segment queue hold every round's segments?
-// After a refusal everything lent is as it came, and the other fields of the answer are 0; after 8 the labels, their distances,
-// the workspace and both halves of the queue are zero.
+// After a refusal everything lent is as it came, a set that was handed in is handed back, and the other fields of the answer are 0;
+// after 8 the labels, their distances, the workspace and both halves of the queue are zero.
+
+// SETTINGS OF THE HOUSE: four numbers that every call receives. Most calls only ask whether they are in their ranges (14); transfers are
+// built with transfer_time, the margin is cut at margin_cap, a query reads the other three. Journeys on a plain day keep their guarantee
+// under every setting where the transfers were built with the transfer_time that the query is asked with.
 
 // CELL SETS, the arc flags' patterns: a value of 64 bytes and the count of reserved ones, handed in and handed back.
 
 // An empty set for so many cells: whole groups of 64 are reserved. Question 1: at most 512 cells.
 #[no_mangle]
-pub extern "C" fn savoiky_cell_bitset_new(num_cells: u32) -> CellSetAnswer
-    ensures { λ r. ⌜ r ≡ created «num_cells» ⌝ }
+pub extern "C" fn savoiky_cell_bitset_new(settings: Settings, num_cells: u32) -> CellSetAnswer
+    ensures { λ r. ⌜ r ≡ created settings «num_cells» ⌝ }
 {
-    leaf_calls::create(num_cells)
+    leaf_calls::create(settings, num_cells)
 }
 
 // The set with at least the groups of so many cells reserved; it holds the same cells. Question 1: at most 512 cells; refused, the
 // set is as it came.
 #[no_mangle]
-pub extern "C" fn savoiky_cell_bitset_ensure_sized(set: CellBitSet, num_cells: u32) -> CellSetAnswer
-    ensures { λ r. ⌜ r ≡ resized set «num_cells» ⌝ }
+pub extern "C" fn savoiky_cell_bitset_ensure_sized(
+    settings: Settings,
+    set: CellBitSet,
+    num_cells: u32,
+) -> CellSetAnswer
+    ensures { λ r. ⌜ r ≡ resized settings set «num_cells» ⌝ }
 {
-    leaf_calls::resize(set, num_cells)
+    leaf_calls::resize(settings, set, num_cells)
 }
 
-// The set with this cell; a cell past the reserved groups is dropped.
+// The set with this cell; a cell past the reserved groups is dropped. Question 14 alone; refused, the set is as it came.
 #[no_mangle]
-pub extern "C" fn savoiky_cell_bitset_set_bit(set: CellBitSet, cell: u32) -> CellBitSet
-    ensures { λ r. ⌜ r ≡ withCell set cell ⌝ }
+pub extern "C" fn savoiky_cell_bitset_set_bit(
+    settings: Settings,
+    set: CellBitSet,
+    cell: u32,
+) -> CellSetAnswer
+    ensures { λ r. ⌜ r ≡ withCellAnswer settings set cell ⌝ }
 {
-    set.set_bit(cell)
+    leaf_calls::set_bit(settings, set, cell)
 }
 
-// Is this cell in the set?
+// Is this cell in the set? The value: 1 for yes, else 0. Question 14 alone.
 #[no_mangle]
-pub extern "C" fn savoiky_cell_bitset_get_bit(set: CellBitSet, cell: u32) -> bool
-    ensures { λ r. ⌜ r ≡ held set cell ⌝ }
+pub extern "C" fn savoiky_cell_bitset_get_bit(
+    settings: Settings,
+    set: CellBitSet,
+    cell: u32,
+) -> Answer
+    ensures { λ r. ⌜ r ≡ heldAnswer settings set cell ⌝ }
 {
-    set.get_bit(cell)
+    leaf_calls::get_bit(settings, set, cell)
 }
 
-// Have the sets a cell in common?
+// Have the sets a cell in common? The value: 1 for yes, else 0. Question 14 alone.
 #[no_mangle]
-pub extern "C" fn savoiky_cell_bitset_intersects(set: CellBitSet, other: CellBitSet) -> bool
-    ensures { λ r. ⌜ r ≡ meets set other ⌝ }
+pub extern "C" fn savoiky_cell_bitset_intersects(
+    settings: Settings,
+    set: CellBitSet,
+    other: CellBitSet,
+) -> Answer
+    ensures { λ r. ⌜ r ≡ meetsAnswer settings set other ⌝ }
 {
-    set.intersects(other)
+    leaf_calls::intersects(settings, set, other)
 }
 
-// The set with the cells of the other, and room for them.
+// The set with the cells of the other, and room for them. Question 14 alone; refused, the set is as it came.
 #[no_mangle]
-pub extern "C" fn savoiky_cell_bitset_union_with(set: CellBitSet, other: CellBitSet) -> CellBitSet
-    ensures { λ r. ⌜ r ≡ union set other ⌝ }
+pub extern "C" fn savoiky_cell_bitset_union_with(
+    settings: Settings,
+    set: CellBitSet,
+    other: CellBitSet,
+) -> CellSetAnswer
+    ensures { λ r. ⌜ r ≡ unionAnswer settings set other ⌝ }
 {
-    set.union_with(other)
+    leaf_calls::union_with(settings, set, other)
 }
 
-// Does the set hold no cell?
+// Does the set hold no cell? The value: 1 for yes, else 0. Question 14 alone.
 #[no_mangle]
-pub extern "C" fn savoiky_cell_bitset_is_empty(set: CellBitSet) -> bool
-    ensures { λ r. ⌜ r ≡ holdsNone set ⌝ }
+pub extern "C" fn savoiky_cell_bitset_is_empty(settings: Settings, set: CellBitSet) -> Answer
+    ensures { λ r. ⌜ r ≡ emptyAnswer settings set ⌝ }
 {
-    set.is_empty()
+    leaf_calls::is_empty(settings, set)
 }
 
 // WALKS AND ROUNDS, FREQUENCY TRIPS, DELAYS, CLOCK READINGS: the leaves of a query, for a caller's own reckoning.
@@ -130,18 +151,23 @@ pub extern "C" fn savoiky_cell_bitset_is_empty(set: CellBitSet) -> bool
 // How long a walk takes: for a wheelchair query (1) stairs and escalators (pathway modes 2 and 4) take 100 times as long.
 // Question 5: duration at most 1,048,575, pathway mode at most 7, wheelchair at most 1.
 #[no_mangle]
-pub extern "C" fn savoiky_walk_duration(duration: u32, pathway_mode: u32, wheelchair: u32) -> Answer
-    ensures { λ r. ⌜ r ≡ walkDuration duration «pathway_mode» wheelchair ⌝ }
+pub extern "C" fn savoiky_walk_duration(
+    settings: Settings,
+    duration: u32,
+    pathway_mode: u32,
+    wheelchair: u32,
+) -> Answer
+    ensures { λ r. ⌜ r ≡ walkDuration settings duration «pathway_mode» wheelchair ⌝ }
 {
-    leaf_calls::walk_duration(duration, pathway_mode, wheelchair)
+    leaf_calls::walk_duration(settings, duration, pathway_mode, wheelchair)
 }
 
-// The rounds of a query: min(12, max(wanted, transfers + 2, 4)). Any numbers.
+// The rounds of a query: min(12, max(wanted, transfers + 2, 4)). Any numbers; question 14 alone.
 #[no_mangle]
-pub extern "C" fn savoiky_max_rounds(wanted: u32, transfers: u32) -> u32
-    ensures { λ r. ⌜ r ≡ roundCount wanted transfers ⌝ }
+pub extern "C" fn savoiky_max_rounds(settings: Settings, wanted: u32, transfers: u32) -> Answer
+    ensures { λ r. ⌜ r ≡ roundsAnswer settings wanted transfers ⌝ }
 {
-    walk_time::tbr_max_rounds(wanted, transfers)
+    leaf_calls::max_rounds(settings, wanted, transfers)
 }
 
 // The earliest run of a frequency trip that leaves here no sooner than `after`: `count` windows of three words each (start,
@@ -150,69 +176,81 @@ pub extern "C" fn savoiky_max_rounds(wanted: u32, transfers: u32) -> u32
 // 5 (every number at most 1,048,575).
 #[no_mangle]
 pub extern "C" fn savoiky_freq_board(
+    settings: Settings,
     count: u32,
     windows: &[u32],
     base: u32,
     dep: u32,
     after: u32,
 ) -> FreqAnswer
-    ensures { λ r. ⌜ r ≡ freqOutcome count (now (windows .entry)) base dep after ⌝ }
+    ensures { λ r. ⌜ r ≡ freqOutcome settings count (now (windows .entry)) base dep after ⌝ }
 {
-    frequency_call::freq_board(count, windows, base, dep, after)
+    frequency_call::freq_board(settings, count, windows, base, dep, after)
 }
 
 // The departure under delays: flags 1 departure given at the stop, 2 arrival given, 4 skipped, added. By its own delay where
 // one is given, else by the trip's; at least 0. Question 5: times and sizes of delays at most 1,048,575, flags at most 7.
 #[no_mangle]
 pub extern "C" fn savoiky_effective_departure(
+    settings: Settings,
     departure: u32,
     trip_delay: u32,
     flags: u32,
     departure_delay: u32,
 ) -> Answer
-    ensures { λ r. ⌜ r ≡ departureOutcome departure «trip_delay» flags «departure_delay» ⌝ }
+    ensures { λ r. ⌜ r ≡ departureOutcome settings departure «trip_delay» flags «departure_delay» ⌝ }
 {
-    leaf_calls::effective_departure(departure, trip_delay, flags, departure_delay)
+    leaf_calls::effective_departure(settings, departure, trip_delay, flags, departure_delay)
 }
 
 // The arrival under delays: where the stop has either time given, by its own delay, else the trip's, and no shift; where not,
 // by the shift alone; at least 0. Question 5, as above.
 #[no_mangle]
 pub extern "C" fn savoiky_effective_arrival(
+    settings: Settings,
     arrival: u32,
     time_shift_s: u32,
     trip_delay: u32,
     flags: u32,
     arrival_delay: u32,
 ) -> Answer
-    ensures { λ r. ⌜ r ≡ arrivalOutcome arrival «time_shift_s» «trip_delay» flags «arrival_delay» ⌝ }
+    ensures { λ r. ⌜ r ≡ arrivalOutcome settings arrival «time_shift_s» «trip_delay» flags «arrival_delay» ⌝ }
 {
-    leaf_calls::effective_arrival(arrival, time_shift_s, trip_delay, flags, arrival_delay)
+    leaf_calls::effective_arrival(
+        settings,
+        arrival,
+        time_shift_s,
+        trip_delay,
+        flags,
+        arrival_delay,
+    )
 }
 
 // 1 where the flags say skipped, else 0. Question 5: flags at most 7.
 #[no_mangle]
-pub extern "C" fn savoiky_skipped(flags: u32) -> Answer
-    ensures { λ r. ⌜ r ≡ skippedOutcome flags ⌝ }
+pub extern "C" fn savoiky_skipped(settings: Settings, flags: u32) -> Answer
+    ensures { λ r. ⌜ r ≡ skippedOutcome settings flags ⌝ }
 {
-    leaf_calls::skipped(flags)
+    leaf_calls::skipped(settings, flags)
 }
 
-// The delay margin: the largest size among trip delays and given stop delays, at most 21,600. Delay rows of two words (trip,
+// The delay margin: the largest size among trip delays and given stop delays, at most margin_cap. Delay rows of two words (trip,
 // delay), the trips strictly rising; 4,294,967,295 is an unknown trip, which may repeat at the end. Stop rows of five (delay row,
 // sequence, flags as above, departure delay, arrival delay), strictly rising by delay row, then sequence. Questions 1, 2, 4, 5, 6.
 #[no_mangle]
 pub extern "C" fn savoiky_margin(
+    settings: Settings,
     trips: u32,
     delay_row_count: u32,
     stop_row_count: u32,
     delay_rows: &[u32],
     stop_rows: &[u32],
 ) -> Answer
-    ensures { λ r. ⌜ r ≡ marginOutcome trips «delay_row_count» «stop_row_count»
-        (now («delay_rows» .entry)) (now («stop_rows» .entry)) 21600 ⌝ }
+    ensures { λ r. ⌜ r ≡ marginOutcome settings trips «delay_row_count» «stop_row_count»
+        (now («delay_rows» .entry)) (now («stop_rows» .entry)) ⌝ }
 {
-    delay_call::capped_margin(
+    delay_call::margin(
+        settings,
         trips,
         delay_row_count,
         stop_row_count,
@@ -225,6 +263,7 @@ pub extern "C" fn savoiky_margin(
 // same questions, and 4 for a trip not below the count.
 #[no_mangle]
 pub extern "C" fn savoiky_delay_at(
+    settings: Settings,
     trips: u32,
     delay_row_count: u32,
     stop_row_count: u32,
@@ -233,10 +272,11 @@ pub extern "C" fn savoiky_delay_at(
     trip: u32,
     sequence: u32,
 ) -> DelayAt
-    ensures { λ r. ⌜ r ≡ delayAtOutcome trips «delay_row_count» «stop_row_count»
+    ensures { λ r. ⌜ r ≡ delayAtOutcome settings trips «delay_row_count» «stop_row_count»
         (now («delay_rows» .entry)) (now («stop_rows» .entry)) trip sequence ⌝ }
 {
     delay_call::delay_at(
+        settings,
         trips,
         delay_row_count,
         stop_row_count,
@@ -250,10 +290,15 @@ pub extern "C" fn savoiky_delay_at(
 // The service second of a clock reading: 3600 hour + 60 minute + second. Question 5: hour at most 47, minute and second at
 // most 59.
 #[no_mangle]
-pub extern "C" fn savoiky_service_second(hour: u32, minute: u32, second: u32) -> Answer
-    ensures { λ r. ⌜ r ≡ serviceSecond hour minute second ⌝ }
+pub extern "C" fn savoiky_service_second(
+    settings: Settings,
+    hour: u32,
+    minute: u32,
+    second: u32,
+) -> Answer
+    ensures { λ r. ⌜ r ≡ serviceSecond settings hour minute second ⌝ }
 {
-    leaf_calls::service_second(hour, minute, second)
+    leaf_calls::service_second(settings, hour, minute, second)
 }
 
 // LABELS: when and how a stop was reached in a round. A stop has 13 rows: row 0 is its access walk, round k writes row k + 1. The
@@ -275,6 +320,7 @@ pub extern "C" fn savoiky_service_second(hour: u32, minute: u32, second: u32) ->
 // Stores an Access label. Question 4: stop and stop_idx below the count of stops.
 #[no_mangle]
 pub extern "C" fn savoiky_label_store_access(
+    settings: Settings,
     stops: u32,
     stop: u32,
     row: u32,
@@ -286,10 +332,11 @@ pub extern "C" fn savoiky_label_store_access(
     label_distances: &mut [f64],
 ) -> u32
     ensures { λ r. ⌜ labelOutcome r (now (labels .exit)) (now («label_distances» .exit))
-        ≡ storeOutcome (Access «stop_idx» «arrival_s» «walk_duration» «walk_distance») stops stop row (now (labels .entry))
+        ≡ storeOutcome settings (Access «stop_idx» «arrival_s» «walk_duration» «walk_distance») stops stop row (now (labels .entry))
         (now («label_distances» .entry)) ⌝ }
 {
     label_call::store_access(
+        settings,
         stops,
         stop,
         row,
@@ -305,6 +352,7 @@ pub extern "C" fn savoiky_label_store_access(
 // Stores a Transit label. Question 4: stop and board_stop below the count of stops.
 #[no_mangle]
 pub extern "C" fn savoiky_label_store_transit(
+    settings: Settings,
     stops: u32,
     stop: u32,
     row: u32,
@@ -319,10 +367,11 @@ pub extern "C" fn savoiky_label_store_transit(
     label_distances: &mut [f64],
 ) -> u32
     ensures { λ r. ⌜ labelOutcome r (now (labels .exit)) (now («label_distances» .exit))
-        ≡ storeOutcome (Transit «arrival_s» «trip_idx» «board_stop» «board_off» «alight_off» «prev_round» «time_shift_s»)
+        ≡ storeOutcome settings (Transit «arrival_s» «trip_idx» «board_stop» «board_off» «alight_off» «prev_round» «time_shift_s»)
         stops stop row (now (labels .entry)) (now («label_distances» .entry)) ⌝ }
 {
     label_call::store_transit(
+        settings,
         stops,
         stop,
         row,
@@ -341,6 +390,7 @@ pub extern "C" fn savoiky_label_store_transit(
 // Stores a Walk label. Question 4: stop, from_stop and to_stop below the count of stops.
 #[no_mangle]
 pub extern "C" fn savoiky_label_store_walk(
+    settings: Settings,
     stops: u32,
     stop: u32,
     row: u32,
@@ -354,10 +404,11 @@ pub extern "C" fn savoiky_label_store_walk(
     label_distances: &mut [f64],
 ) -> u32
     ensures { λ r. ⌜ labelOutcome r (now (labels .exit)) (now («label_distances» .exit))
-        ≡ storeOutcome (Walk «arrival_s» «from_stop» «to_stop» «duration_s» «distance_m» «prev_round»)
+        ≡ storeOutcome settings (Walk «arrival_s» «from_stop» «to_stop» «duration_s» «distance_m» «prev_round»)
         stops stop row (now (labels .entry)) (now («label_distances» .entry)) ⌝ }
 {
     label_call::store_walk(
+        settings,
         stops,
         stop,
         row,
@@ -375,15 +426,16 @@ pub extern "C" fn savoiky_label_store_walk(
 // Reads a label. Question 4: stop below the count of stops; the label's own numbers are given as they stand.
 #[no_mangle]
 pub extern "C" fn savoiky_label_load(
+    settings: Settings,
     stops: u32,
     stop: u32,
     row: u32,
     labels: &[u32],
     label_distances: &[f64],
 ) -> LabelAnswer
-    ensures { λ r. ⌜ r ≡ loadAnswer stops stop row (now (labels .entry)) (now («label_distances» .entry)) ⌝ }
+    ensures { λ r. ⌜ r ≡ loadAnswer settings stops stop row (now (labels .entry)) (now («label_distances» .entry)) ⌝ }
 {
-    label_call::load(stops, stop, row, labels, label_distances)
+    label_call::load(settings, stops, stop, row, labels, label_distances)
 }
 
 // THE TIMETABLE, `tables`, is one slice of 6 times + 8 trips + 3 windows + 5 edges + stops words, in this order:
@@ -404,6 +456,7 @@ pub extern "C" fn savoiky_label_load(
 // afterwards. Questions 1 to 6; 6 is of the walk edges alone, the departures may come in any order.
 #[no_mangle]
 pub extern "C" fn savoiky_sort_stop_departures(
+    settings: Settings,
     stops: u32,
     trips: u32,
     times: u32,
@@ -418,11 +471,12 @@ pub extern "C" fn savoiky_sort_stop_departures(
     other: &mut [u64],
 ) -> u32
     ensures { λ r. ⌜ sortOutcomeOf r (sortAreas (now (rows .exit)) (now (marks .exit)) (now (work .exit)) (now (other .exit)))
-        ≡ sortOutcome (now (tables .entry)) (countsOf stops trips times windows edges) departures (now (runs .entry))
+        ≡ sortOutcome settings (now (tables .entry)) (countsOf stops trips times windows edges) departures (now (runs .entry))
         (sortAreas (now (rows .entry)) (now (marks .entry)) (now (work .entry)) (now (other .entry))) ⌝ }
 {
     let c = sizes::counts(stops, trips, times, windows, edges);
     departures_call::sort_stop_departures(
+        settings,
         tables,
         c,
         departures as usize,
@@ -448,6 +502,7 @@ fn lines_answer(g: Grouped) -> Answer
 // keep their content); entries: trip numbers, as many as trips. work, other: `trips` u64 each, zero afterwards. Questions 1 to 6.
 #[no_mangle]
 pub extern "C" fn savoiky_compute_line_groups(
+    settings: Settings,
     stops: u32,
     trips: u32,
     times: u32,
@@ -461,11 +516,20 @@ pub extern "C" fn savoiky_compute_line_groups(
     other: &mut [u64],
 ) -> Answer
     ensures { λ r. ⌜ shown r (lineAreas (now (lines .exit)) (now (runs .exit)) (now (entries .exit)) (now (work .exit)) (now (other .exit)))
-        ≡ shownOf (linesOutcome (now (tables .entry)) (countsOf stops trips times windows edges)
+        ≡ shownOf (linesOutcome settings (now (tables .entry)) (countsOf stops trips times windows edges)
         (lineAreas (now (lines .entry)) (now (runs .entry)) (now (entries .entry)) (now (work .entry)) (now (other .entry)))) ⌝ }
 {
     let c = sizes::counts(stops, trips, times, windows, edges);
-    lines_answer(lines_call::compute_line_groups(tables, c, lines, runs, entries, work, other))
+    lines_answer(lines_call::compute_line_groups(
+        settings,
+        tables,
+        c,
+        lines,
+        runs,
+        entries,
+        work,
+        other,
+    ))
 }
 
 // Each trip's position in its line (4,294,967,295: in none) and each line's FIFO flag (1: no trip overtakes another), of any
@@ -473,6 +537,7 @@ pub extern "C" fn savoiky_compute_line_groups(
 // word a line. Questions 1 to 6. No query needs this call.
 #[no_mangle]
 pub extern "C" fn savoiky_line_layout(
+    settings: Settings,
     stops: u32,
     trips: u32,
     times: u32,
@@ -487,11 +552,12 @@ pub extern "C" fn savoiky_line_layout(
     fifo: &mut [u32],
 ) -> u32
     ensures { λ r. ⌜ layoutOutcomeOf r (layoutAreas (now (positions .exit)) (now (fifo .exit)))
-        ≡ layoutOutcome (now (tables .entry)) (countsOf stops trips times windows edges) lines «entry_count» (now (runs .entry))
+        ≡ layoutOutcome settings (now (tables .entry)) (countsOf stops trips times windows edges) lines «entry_count» (now (runs .entry))
         (now (entries .entry)) (layoutAreas (now (positions .entry)) (now (fifo .entry))) ⌝ }
 {
     let c = sizes::counts(stops, trips, times, windows, edges);
     layout_call::line_layout(
+        settings,
         tables,
         c,
         lines as usize,
@@ -514,11 +580,12 @@ fn transfers_answer(b: Built) -> Answer
 
 // Builds the transfers of every stop event (each stop time of each trip, trip by trip). The value says how many.
 // lines: each trip's line, of `line_count` lines; runs and rows: the listed departures, in any order. area: rows of four words
-// (target trip, offset, 120, pattern 0), space for any number of them; it keeps its content past the last one written.
+// (target trip, offset, transfer_time, pattern 0), space for any number of them; it keeps its content past the last one written.
 // transfer_runs: a run for each event, so 2 words for each stop time of each trip. Questions 1 to 7. The call needs about 1 MiB
 // of stack.
 #[no_mangle]
 pub extern "C" fn savoiky_compute_trip_transfers(
+    settings: Settings,
     stops: u32,
     trips: u32,
     times: u32,
@@ -534,12 +601,13 @@ pub extern "C" fn savoiky_compute_trip_transfers(
     transfer_runs: &mut [u32],
 ) -> Answer
     ensures { λ r. ⌜ shownTransfers r (transferAreas (now (area .exit)) (now («transfer_runs» .exit)))
-        ≡ shownTransfersOf (transfersOutcome (transferLent (now (tables .entry)) (countsOf stops trips times windows edges) «line_count»
-        (now (lines .entry)) departures (now (runs .entry)) (now (rows .entry)) 120)
+        ≡ shownTransfersOf (transfersOutcome (transferLent settings (now (tables .entry)) (countsOf stops trips times windows edges) «line_count»
+        (now (lines .entry)) departures (now (runs .entry)) (now (rows .entry)))
         (transferAreas (now (area .entry)) (now («transfer_runs» .entry)))) ⌝ }
 {
     let c = sizes::counts(stops, trips, times, windows, edges);
     transfers_answer(transfers_call::compute_trip_transfers(
+        settings,
         tables,
         c,
         line_count as usize,
@@ -547,7 +615,6 @@ pub extern "C" fn savoiky_compute_trip_transfers(
         departures as usize,
         runs,
         rows,
-        TRANSFER_TIME,
         area,
         transfer_runs,
     ))
@@ -555,10 +622,10 @@ pub extern "C" fn savoiky_compute_trip_transfers(
 
 // How many words of workspace a query needs: 5 stops + 8 trips + 3 lines + 128. Question 1.
 #[no_mangle]
-pub extern "C" fn savoiky_work_size(sizes: QuerySizes) -> Answer
-    ensures { λ r. ⌜ r ≡ workspaceAnswer (queryCountsOf sizes) ⌝ }
+pub extern "C" fn savoiky_work_size(settings: Settings, sizes: QuerySizes) -> Answer
+    ensures { λ r. ⌜ r ≡ workspaceAnswer (queryCountsOf settings sizes) ⌝ }
 {
-    query_call::workspace(sizes::query_counts(sizes))
+    query_call::workspace(sizes::query_counts(settings, sizes))
 }
 
 // A QUERY. Lent to be read:
@@ -579,13 +646,14 @@ pub extern "C" fn savoiky_work_size(sizes: QuerySizes) -> Answer
 //   queue_a, queue_b: two halves of the segment queue, four words a segment, of one length; zero afterwards. As many rows as the
 //     trips have stop times together are always enough without frequency trips; with no arc flags in use none is needed
 //   candidates: 39 words, 13 rows (total, stop, row), of which the answer says how many; the rest are zero. Rows rise and totals
-//     fall: the last one's total is the best, an earlier one arrives later, by at most 3,600, in fewer rounds
+//     fall: the last one's total is the best, an earlier one arrives later, by at most candidate_slack, in fewer rounds
 // The answer: the best total (when the guest arrives, egress walk included) and its stop. "No way" is success: code 0, total and
 // stop 4,294,967,295, no candidates. Questions 1 to 6, and 8.
 
 // As the Rust answers: run_tbr.
 #[no_mangle]
 pub extern "C" fn savoiky_run_tbr(
+    settings: Settings,
     sizes: QuerySizes,
     tables: &[u32],
     built: &[u32],
@@ -605,13 +673,13 @@ pub extern "C" fn savoiky_run_tbr(
       areas = queryAreas (now (labels .exit)) (now («label_distances» .exit)) (now (work .exit))
           (now («queue_a» .exit)) (now («queue_b» .exit)) (now (candidates .exit));
     }
-        ≡ runTbrOutcome (lent (queryCountsOf sizes) (now (tables .entry)) (now (built .entry)) (now (transfers .entry))
+        ≡ runTbrOutcome (lent (queryCountsOf settings sizes) (now (tables .entry)) (now (built .entry)) (now (transfers .entry))
         (now (patterns .entry)) (now (distances .entry)) (now (query .entry)))
         (queryAreas (now (labels .entry)) (now («label_distances» .entry)) (now (work .entry)) (now («queue_a» .entry)) (now («queue_b» .entry))
         (now (candidates .entry))) ⌝ }
 {
     query_call::run_tbr(
-        sizes::query_counts(sizes),
+        sizes::query_counts(settings, sizes),
         tables,
         built,
         transfers,
@@ -631,6 +699,7 @@ pub extern "C" fn savoiky_run_tbr(
 // which has delays (docs/PROMISE.md), none does by effective times.
 #[no_mangle]
 pub extern "C" fn savoiky_query(
+    settings: Settings,
     sizes: QuerySizes,
     tables: &[u32],
     built: &[u32],
@@ -650,13 +719,13 @@ pub extern "C" fn savoiky_query(
       areas = queryAreas (now (labels .exit)) (now («label_distances» .exit)) (now (work .exit))
           (now («queue_a» .exit)) (now («queue_b» .exit)) (now (candidates .exit));
     }
-        ≡ queryOutcome (lent (queryCountsOf sizes) (now (tables .entry)) (now (built .entry)) (now (transfers .entry))
+        ≡ queryOutcome (lent (queryCountsOf settings sizes) (now (tables .entry)) (now (built .entry)) (now (transfers .entry))
         (now (patterns .entry)) (now (distances .entry)) (now (query .entry)))
         (queryAreas (now (labels .entry)) (now («label_distances» .entry)) (now (work .entry)) (now («queue_a» .entry)) (now («queue_b» .entry))
         (now (candidates .entry))) ⌝ }
 {
     query_call::query(
-        sizes::query_counts(sizes),
+        sizes::query_counts(settings, sizes),
         tables,
         built,
         transfers,

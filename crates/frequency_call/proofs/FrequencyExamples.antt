@@ -5,6 +5,8 @@ use mathlib.Core.Bool.{Bool, true, _&&_}
 use mathlib.Core.List.{List, [], _∷_}
 use lib.Dec.{eqb}
 use Rattle.loops.specs.Iter.{iter, every, first}
+use Rattle.door.specs.Settings.{defaultSettings, settingsOk}
+use Rattle.door.proofs.House.{four, noTripTried}
 use Rattle.frequency_call.specs.declared.FreqAnswer.{FreqAnswer}
 use Rattle.frequency.specs.declared.FreqBoard.{FreqBoard}
 use Rattle.frequency.specs.declared.FreqBoard.the-variants.{Nothing, Board}
@@ -38,7 +40,7 @@ sameAnswer a t = eqb (a .code) (t .code) && eqb (a .found) (t .found) && eqb (a 
 pub right : Asked × Told → Bool
 right c =
     let q = c .0 in
-    sameAnswer (freqOutcome (q .count) (q .windows) (q .base) (q .dep) (q .after)) (c .1)
+    sameAnswer (freqOutcome defaultSettings (q .count) (q .windows) (q .base) (q .dep) (q .after)) (c .1)
     && sameRun (earliestFreqBoard (windowCount (q .windows)) (windowIn (q .windows)) (q .base) (q .dep) (q .after)) (c .1 .window) (c .1 .run)
 
 pub all : List (Asked × Told) → Bool
@@ -96,5 +98,10 @@ cases =
 
 -- every case is right
 pub worked : all cases ≡ true
-unfolding all right cases sameAnswer sameRun given board nothing earliestFreqBoard firstRun iter every first
+unfolding settingsOk all right cases sameAnswer sameRun given board nothing earliestFreqBoard firstRun iter every first
 worked = refl
+
+-- 14 is asked after 1 and before 2
+pub settings-asked : eqb (freqOutcome noTripTried 1 [] 0 0 0 .code) 14 && eqb (freqOutcome noTripTried 65537 [] 0 0 0 .code) 1 ≡ true
+unfolding settingsOk
+settings-asked = refl

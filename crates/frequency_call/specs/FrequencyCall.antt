@@ -1,4 +1,4 @@
--- The call of frequency boarding: its questions (1, 2 and 5 of document 01) and what it answers. The boarding itself: `frequency` specs/Gtfs.
+-- The call of frequency boarding: its questions (1, 14, 2 and 5) and what it answers. The boarding itself: `frequency` specs/Gtfs.
 -- Definitions only.
 use Prim.Native.Nat.{ℕ, zero, suc, _*_}
 use mathlib.Core.Bool.{Bool, _&&_}
@@ -7,6 +7,8 @@ use lib.Dec.{eqb, leb}
 use lib.ListN.{length}
 use Rattle.loops.specs.Iter.{everyIn}
 use Rattle.door.specs.Door.{ask, timeLimit}
+use Rattle.door.specs.Settings.{settingsOk}
+use Rattle.door.specs.declared.Settings.{Settings}
 use Rattle.frequency.specs.declared.FreqBoard.{FreqBoard}
 use Rattle.frequency.specs.declared.FreqBoard.the-variants.{Nothing, Board}
 use Rattle.frequency_call.specs.declared.FreqAnswer.{FreqAnswer}
@@ -35,10 +37,11 @@ freqInRange ws base dep after = areTimes base dep after && windowsInRange ws
 abbrev pub windowLimit : ℕ
 windowLimit = 65536
 
--- 1: is the count of windows within the limit? 2: are there three words for each? 5: is every time in its range?
-abbrev pub freqCode : (count : ℕ) (ws : List ℕ) (base dep after : ℕ) → ℕ
-freqCode count ws base dep after =
-    ask 1 (leb count windowLimit) (ask 2 (eqb (length ws) (3 * count)) (ask 5 (freqInRange ws base dep after) 0))
+-- 1: is the count of windows within the limit? 14: is every setting in its range? 2: are there three words for each window? 5: is every time
+-- in its range?
+abbrev pub freqCode : (S : Settings) (count : ℕ) (ws : List ℕ) (base dep after : ℕ) → ℕ
+freqCode S count ws base dep after =
+    ask 1 (leb count windowLimit) (ask 14 (settingsOk S) (ask 2 (eqb (length ws) (3 * count)) (ask 5 (freqInRange ws base dep after) 0)))
 
 -- no boarding is handed out: n is the number of the question that refused, or 0 where no run can be boarded
 abbrev pub noBoard : ℕ → FreqAnswer
@@ -54,5 +57,6 @@ abbrev pub freqAnswer : ℕ → FreqBoard → FreqAnswer
 freqAnswer zero b = boardAnswer b
 freqAnswer (suc n) b = noBoard (suc n)
 
-abbrev pub freqOutcome : (count : ℕ) (ws : List ℕ) (base dep after : ℕ) → FreqAnswer
-freqOutcome count ws base dep after = freqAnswer (freqCode count ws base dep after) (earliestFreqBoard (windowCount ws) (windowIn ws) base dep after)
+abbrev pub freqOutcome : (S : Settings) (count : ℕ) (ws : List ℕ) (base dep after : ℕ) → FreqAnswer
+freqOutcome S count ws base dep after =
+    freqAnswer (freqCode S count ws base dep after) (earliestFreqBoard (windowCount ws) (windowIn ws) base dep after)

@@ -7,6 +7,7 @@ ghost use mathlib.Core.Path.{_≡_};
 ghost use Prim.Native.Nat.{_<_};
 ghost use Rattle.frequency.specs.Gtfs.{windowCount, windowIn};
 ghost use Rattle.frequency_call.specs.FrequencyCall.{areTimes, windowInRange, windowsInRange, freqInRange, freqOutcome, noBoard};
+use door::Settings;
 use frequency::FreqBoard;
 
 // The most windows.
@@ -78,12 +79,20 @@ fn freq_in_range(windows: &[u32], base: u32, dep: u32, after: u32) -> bool
     windows_in_range(windows)
 }
 
-// Frequency boarding with its questions: 1 counts, 2 lengths, 5 times.
-pub fn freq_board(count: u32, windows: &[u32], base: u32, dep: u32, after: u32) -> FreqAnswer
-    ensures { λ r. ⌜ r ≡ freqOutcome count (now (windows .entry)) base dep after ⌝ }
+// Frequency boarding with its questions: 1 counts, 14 settings, 2 lengths, 5 times.
+pub fn freq_board(
+    settings: Settings,
+    count: u32,
+    windows: &[u32],
+    base: u32,
+    dep: u32,
+    after: u32,
+) -> FreqAnswer
+    ensures { λ r. ⌜ r ≡ freqOutcome settings count (now (windows .entry)) base dep after ⌝ }
 {
-    if WINDOW_LIMIT < count {
-        return no_board(1);
+    let v = door::limits(count <= WINDOW_LIMIT, settings);
+    if v != 0 {
+        return no_board(v);
     }
     if windows.len() != 3 * (count as usize) {
         return no_board(2);

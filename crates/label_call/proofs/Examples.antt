@@ -8,6 +8,9 @@ use lib.Dec.{eqb}
 use lib.IntN.{pos, negsuc}
 use lib.Ieee.{Float, fin, nan}
 use lib.Ieee
+use Rattle.door.specs.Settings.{defaultSettings, settingsOk}
+use Rattle.door.specs.declared.Settings.{Settings}
+use Rattle.door.proofs.House.{noTripTried}
 use Rattle.label.specs.declared.Label.{Label}
 use Rattle.label.specs.declared.Label.the-variants.{Empty, Access, Transit, Walk}
 use Rattle.label.specs.Table.{putWords, putDistance, loaded, wordsOf}
@@ -44,8 +47,8 @@ pub record Case : Type 0 where
 
 pub right : Case → Bool
 right c =
-    let o = storeOutcome (c .label) 2 (c .stop) (c .row) words distances in
-    let a = loadAnswer 2 (c .stop) (c .row) (o .labels) (o .labelDistances) in
+    let o = storeOutcome defaultSettings (c .label) 2 (c .stop) (c .row) words distances in
+    let a = loadAnswer defaultSettings 2 (c .stop) (c .row) (o .labels) (o .labelDistances) in
     let past = drop (c .at + 8) (o .labels) in
     eqb (o .code) 0
     && eqb (a .code) 0
@@ -69,11 +72,12 @@ cases =
     ∷ []
 
 pub worked : all cases ≡ true
-unfolding all right cases same words distances one metres storeOutcome loadAnswer placeCode putWords putDistance loaded Ieee.eq
+unfolding settingsOk all right cases same words distances one metres storeOutcome loadAnswer placeCode putWords putDistance loaded Ieee.eq
 worked = refl
 
--- stops, stop and row of a load, and its code: the counts first, then the lengths, the stop, the row and the kind
+-- settings, stops, stop and row of a load, and its code: the counts first, then the settings, the lengths, the stop, the row and the kind
 pub record Refusal : Type 0 where
+  pub settings : Settings
   pub stops : ℕ
   pub stop : ℕ
   pub row : ℕ
@@ -82,25 +86,28 @@ pub record Refusal : Type 0 where
 pub refused : List Refusal → Bool
 refused [] = true
 refused (r ∷ rs) =
-    let a = loadAnswer (r .stops) (r .stop) (r .row) words distances in
+    let a = loadAnswer (r .settings) (r .stops) (r .stop) (r .row) words distances in
     eqb (a .code) (r .code) && same (wordsOf (a .row)) (replicate 8 0) && refused rs
 
 pub refusals : List Refusal
 refusals =
-    record { stops = 4097; stop = 4097; row = 13; code = 1 }
-    ∷ record { stops = 1; stop = 2; row = 13; code = 2 }
-    ∷ record { stops = 2; stop = 2; row = 13; code = 4 }
-    ∷ record { stops = 2; stop = 1; row = 13; code = 5 }
-    ∷ record { stops = 2; stop = 1; row = 12; code = 5 }
+    record { settings = defaultSettings; stops = 4097; stop = 4097; row = 13; code = 1 }
+    ∷ record { settings = noTripTried; stops = 4097; stop = 4097; row = 13; code = 1 }
+    ∷ record { settings = noTripTried; stops = 1; stop = 2; row = 13; code = 14 }
+    ∷ record { settings = defaultSettings; stops = 1; stop = 2; row = 13; code = 2 }
+    ∷ record { settings = defaultSettings; stops = 2; stop = 2; row = 13; code = 4 }
+    ∷ record { settings = defaultSettings; stops = 2; stop = 1; row = 13; code = 5 }
+    ∷ record { settings = defaultSettings; stops = 2; stop = 1; row = 12; code = 5 }
     ∷ []
 
 pub refusals-worked : refused refusals ≡ true
-unfolding refused refusals same words distances one loadAnswer placeCode loaded
+unfolding settingsOk refused refusals same words distances one loadAnswer placeCode loaded
 refusals-worked = refl
 
--- stores that are refused, in a table of two stops: the label, the stop's row and the code. A stop number in the label that is the
+-- stores that are refused, in a table of two stops: the settings, the label, the stop's row and the code. A stop number in the label that is the
 -- count, and before the row; the row; both slices as they came.
 pub record StoreRefusal : Type 0 where
+  pub settings : Settings
   pub label : Label
   pub stop : ℕ
   pub row : ℕ
@@ -109,19 +116,20 @@ pub record StoreRefusal : Type 0 where
 pub kept : List StoreRefusal → Bool
 kept [] = true
 kept (r ∷ rs) =
-    let o = storeOutcome (r .label) 2 (r .stop) (r .row) words distances in
+    let o = storeOutcome (r .settings) (r .label) 2 (r .stop) (r .row) words distances in
     eqb (o .code) (r .code) && same (o .labels) words && Ieee.eq (getD (o .labelDistances) (13 * r .stop + r .row) one) one && kept rs
 
 pub storeRefusals : List StoreRefusal
 storeRefusals =
-    record { label = Access 1 400 60 metres; stop = 2; row = 13; code = 4 }
-    ∷ record { label = Access 2 400 60 metres; stop = 0; row = 13; code = 4 }
-    ∷ record { label = Transit 500 9 2 1 4 0 0; stop = 1; row = 1; code = 4 }
-    ∷ record { label = Walk 560 2 1 60 metres 1; stop = 0; row = 12; code = 4 }
-    ∷ record { label = Walk 560 1 2 60 metres 1; stop = 0; row = 12; code = 4 }
-    ∷ record { label = Walk 560 1 0 60 metres 1; stop = 0; row = 13; code = 5 }
+    record { settings = noTripTried; label = Access 1 400 60 metres; stop = 2; row = 13; code = 14 }
+    ∷ record { settings = defaultSettings; label = Access 1 400 60 metres; stop = 2; row = 13; code = 4 }
+    ∷ record { settings = defaultSettings; label = Access 2 400 60 metres; stop = 0; row = 13; code = 4 }
+    ∷ record { settings = defaultSettings; label = Transit 500 9 2 1 4 0 0; stop = 1; row = 1; code = 4 }
+    ∷ record { settings = defaultSettings; label = Walk 560 2 1 60 metres 1; stop = 0; row = 12; code = 4 }
+    ∷ record { settings = defaultSettings; label = Walk 560 1 2 60 metres 1; stop = 0; row = 12; code = 4 }
+    ∷ record { settings = defaultSettings; label = Walk 560 1 0 60 metres 1; stop = 0; row = 13; code = 5 }
     ∷ []
 
 pub store-refusals-worked : kept storeRefusals ≡ true
-unfolding kept storeRefusals same words distances one metres storeOutcome placeCode putWords putDistance Ieee.eq
+unfolding settingsOk kept storeRefusals same words distances one metres storeOutcome placeCode putWords putDistance Ieee.eq
 store-refusals-worked = refl

@@ -6,6 +6,8 @@ use lib.ListN.{length}
 use lib.Dec.{leb, ltb}
 use lib.Ieee.{Float}
 use Rattle.door.specs.Door.{ask}
+use Rattle.door.specs.Settings.{settingsOk}
+use Rattle.door.specs.declared.Settings.{Settings}
 use Rattle.label.specs.declared.Label.{Label}
 use Rattle.label.specs.declared.Label.the-variants.{Empty, Access, Transit, Walk}
 use Rattle.label_call.specs.declared.LabelAnswer.{LabelAnswer}
@@ -19,19 +21,19 @@ stopsBelow (Access stop arrival walk distance) stops = ltb stop stops
 stopsBelow (Transit arrival trip boardStop boardOff alightOff prevRound shift) stops = ltb boardStop stops
 stopsBelow (Walk arrival from to duration distance prevRound) stops = ltb from stops && ltb to stops
 
--- the questions about a row in slices of these lengths: 1 at most 4,096 stops, 2 the slices' lengths, 4 whether the stop numbers
--- are below the count, 5 the row
-unfoldable pub placeCode : (below : Bool) (stops row words labelDistances : ℕ) → ℕ
-placeCode below stops row words labelDistances =
-    ask 1 (leb stops 4096) (ask 2 (lengthsRight stops words labelDistances) (ask 4 below (ask 5 (leb row 12) 0)))
+-- the questions about a row in slices of these lengths: 1 at most 4,096 stops, 14 the settings, 2 the slices' lengths, 4 whether the stop
+-- numbers are below the count, 5 the row
+unfoldable pub placeCode : (S : Settings) (below : Bool) (stops row words labelDistances : ℕ) → ℕ
+placeCode S below stops row words labelDistances =
+    ask 1 (leb stops 4096) (ask 14 (settingsOk S) (ask 2 (lengthsRight stops words labelDistances) (ask 4 below (ask 5 (leb row 12) 0))))
 
 -- of a store: 4 is of the stop and of the stop numbers in the label
-abbrev pub storeCode : (x : Label) (stops stop row words labelDistances : ℕ) → ℕ
-storeCode x stops stop row words labelDistances = placeCode (ltb stop stops && stopsBelow x stops) stops row words labelDistances
+abbrev pub storeCode : (S : Settings) (x : Label) (stops stop row words labelDistances : ℕ) → ℕ
+storeCode S x stops stop row words labelDistances = placeCode S (ltb stop stops && stopsBelow x stops) stops row words labelDistances
 
 -- of a load: 4 is of the stop
-abbrev pub loadCode : (stops stop row words labelDistances : ℕ) → ℕ
-loadCode stops stop row words labelDistances = placeCode (ltb stop stops) stops row words labelDistances
+abbrev pub loadCode : (S : Settings) (stops stop row words labelDistances : ℕ) → ℕ
+loadCode S stops stop row words labelDistances = placeCode S (ltb stop stops) stops row words labelDistances
 
 -- a storing call's code, and both slices as it leaves them
 pub record LabelOutcome : Type 0 where
@@ -48,8 +50,8 @@ labelSettle zero x k l d = labelOutcome 0 (putWords (rowOf x) l k) (putDistance 
 labelSettle (suc n) x k l d = labelOutcome (suc n) l d
 
 -- label x is stored at a stop's row
-unfoldable pub storeOutcome : Label → ℕ → ℕ → ℕ → List ℕ → List Float → LabelOutcome
-storeOutcome x stops stop row l d = labelSettle (storeCode x stops stop row (length l) (length d)) x (recordOf stop row) l d
+unfoldable pub storeOutcome : Settings → Label → ℕ → ℕ → ℕ → List ℕ → List Float → LabelOutcome
+storeOutcome S x stops stop row l d = labelSettle (storeCode S x stops stop row (length l) (length d)) x (recordOf stop row) l d
 
 -- a refused load gives an empty row
 abbrev pub refusedLabel : ℕ → LabelAnswer
@@ -68,7 +70,7 @@ andThen zero later = later
 andThen (suc n) later = suc n
 
 -- the label at a stop's row is loaded. Question 5 is also of its kind.
-unfoldable pub loadAnswer : ℕ → ℕ → ℕ → List ℕ → List Float → LabelAnswer
-loadAnswer stops stop row l d =
+unfoldable pub loadAnswer : Settings → ℕ → ℕ → ℕ → List ℕ → List Float → LabelAnswer
+loadAnswer S stops stop row l d =
     let k = recordOf stop row in
-    answerLabel (andThen (loadCode stops stop row (length l) (length d)) (ask 5 (leb (kindAt l k) 3) 0)) (loaded l d k)
+    answerLabel (andThen (loadCode S stops stop row (length l) (length d)) (ask 5 (leb (kindAt l k) 3) 0)) (loaded l d k)

@@ -7,6 +7,7 @@
 ghost use mathlib.Core.Path.{_≡_};
 ghost use Rattle.label.specs.Table.{lengthsRight};
 ghost use Rattle.label_call.specs.Calls.{stopsBelow, placeCode, labelOutcome, storeOutcome, refusedLabel, loadAnswer};
+use door::Settings;
 use label::Label;
 use label::LabelRow;
 
@@ -25,12 +26,13 @@ fn lengths_right(stops: u32, words: usize, numbers: usize) -> bool
     door::both(words == records * 8, numbers == records)
 }
 
-// Questions 1, 2, 4 and 5 about a stop's row, in slices of these lengths; `below` says whether the stop numbers are below the count.
-fn place(below: bool, stops: u32, row: u32, words: usize, numbers: usize) -> u32
-    ensures { λ r. ⌜ r ≡ placeCode below stops row words numbers ⌝ }
+// Questions 1, 14, 2, 4 and 5 about a stop's row, in slices of these lengths; `below` says whether the stop numbers are below the count.
+fn place(settings: Settings, below: bool, stops: u32, row: u32, words: usize, numbers: usize) -> u32
+    ensures { λ r. ⌜ r ≡ placeCode settings below stops row words numbers ⌝ }
 {
-    if 4096 < stops {
-        return 1;
+    let v = door::limits(stops <= 4096, settings);
+    if v != 0 {
+        return v;
     }
     if !lengths_right(stops, words, numbers) {
         return 2;
@@ -47,6 +49,7 @@ fn place(below: bool, stops: u32, row: u32, words: usize, numbers: usize) -> u32
 // A label is stored at its stop's row, or refused, and then nothing is written. `below` says whether the stop numbers in it are below
 // the count.
 fn store(
+    settings: Settings,
     label: Label,
     below: bool,
     stops: u32,
@@ -57,10 +60,17 @@ fn store(
 ) -> u32
     requires { ⌜ below ≡ stopsBelow label stops ⌝ }
     ensures { λ r. ⌜ labelOutcome r (now (labels .exit)) (now («label_distances» .exit))
-        ≡ storeOutcome label stops stop row (now (labels .entry)) (now («label_distances» .entry)) ⌝ }
+        ≡ storeOutcome settings label stops stop row (now (labels .entry)) (now («label_distances» .entry)) ⌝ }
 {
     let known = door::both(stop < stops, below);
-    let code = place(known, stops, row, labels.len(), label_distances.len());
+    let code = place(
+        settings,
+        known,
+        stops,
+        row,
+        labels.len(),
+        label_distances.len(),
+    );
     if code != 0 {
         return code;
     }
@@ -70,6 +80,7 @@ fn store(
 
 // An access label is stored; the code is the answer. Question 4 is also of its stop.
 pub fn store_access(
+    settings: Settings,
     stops: u32,
     stop: u32,
     row: u32,
@@ -81,7 +92,7 @@ pub fn store_access(
     label_distances: &mut [f64],
 ) -> u32
     ensures { λ r. ⌜ labelOutcome r (now (labels .exit)) (now («label_distances» .exit))
-        ≡ storeOutcome (Label.Access «stop_idx» «arrival_s» «walk_duration» «walk_distance») stops stop row (now (labels .entry))
+        ≡ storeOutcome settings (Label.Access «stop_idx» «arrival_s» «walk_duration» «walk_distance») stops stop row (now (labels .entry))
         (now («label_distances» .entry)) ⌝ }
 {
     let label = Label::Access {
@@ -91,6 +102,7 @@ pub fn store_access(
         walk_distance,
     };
     store(
+        settings,
         label,
         stop_idx < stops,
         stops,
@@ -103,6 +115,7 @@ pub fn store_access(
 
 // A ride's label is stored; the code is the answer. Question 4 is also of the stop where it was boarded.
 pub fn store_transit(
+    settings: Settings,
     stops: u32,
     stop: u32,
     row: u32,
@@ -117,7 +130,7 @@ pub fn store_transit(
     label_distances: &mut [f64],
 ) -> u32
     ensures { λ r. ⌜ labelOutcome r (now (labels .exit)) (now («label_distances» .exit))
-        ≡ storeOutcome (Label.Transit «arrival_s» «trip_idx» «board_stop» «board_off» «alight_off» «prev_round» «time_shift_s»)
+        ≡ storeOutcome settings (Label.Transit «arrival_s» «trip_idx» «board_stop» «board_off» «alight_off» «prev_round» «time_shift_s»)
         stops stop row (now (labels .entry)) (now («label_distances» .entry)) ⌝ }
 {
     let label = Label::Transit {
@@ -130,6 +143,7 @@ pub fn store_transit(
         time_shift_s,
     };
     store(
+        settings,
         label,
         board_stop < stops,
         stops,
@@ -142,6 +156,7 @@ pub fn store_transit(
 
 // A walk's label is stored; the code is the answer. Question 4 is also of both its stops.
 pub fn store_walk(
+    settings: Settings,
     stops: u32,
     stop: u32,
     row: u32,
@@ -155,7 +170,7 @@ pub fn store_walk(
     label_distances: &mut [f64],
 ) -> u32
     ensures { λ r. ⌜ labelOutcome r (now (labels .exit)) (now («label_distances» .exit))
-        ≡ storeOutcome (Label.Walk «arrival_s» «from_stop» «to_stop» «duration_s» «distance_m» «prev_round»)
+        ≡ storeOutcome settings (Label.Walk «arrival_s» «from_stop» «to_stop» «duration_s» «distance_m» «prev_round»)
         stops stop row (now (labels .entry)) (now («label_distances» .entry)) ⌝ }
 {
     let label = Label::Walk {
@@ -167,7 +182,16 @@ pub fn store_walk(
         prev_round,
     };
     let below = door::both(from_stop < stops, to_stop < stops);
-    store(label, below, stops, stop, row, labels, label_distances)
+    store(
+        settings,
+        label,
+        below,
+        stops,
+        stop,
+        row,
+        labels,
+        label_distances,
+    )
 }
 
 fn refused_label(code: u32) -> LabelAnswer
@@ -178,10 +202,18 @@ fn refused_label(code: u32) -> LabelAnswer
 }
 
 // The label at a stop's row, as a row; 5 also for a kind above 3.
-pub fn load(stops: u32, stop: u32, row: u32, labels: &[u32], label_distances: &[f64]) -> LabelAnswer
-    ensures { λ r. ⌜ r ≡ loadAnswer stops stop row (now (labels .entry)) (now («label_distances» .entry)) ⌝ }
+pub fn load(
+    settings: Settings,
+    stops: u32,
+    stop: u32,
+    row: u32,
+    labels: &[u32],
+    label_distances: &[f64],
+) -> LabelAnswer
+    ensures { λ r. ⌜ r ≡ loadAnswer settings stops stop row (now (labels .entry)) (now («label_distances» .entry)) ⌝ }
 {
     let code = place(
+        settings,
         stop < stops,
         stops,
         row,

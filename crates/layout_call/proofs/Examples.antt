@@ -6,6 +6,8 @@ use mathlib.Core.List.{List, [], _∷_, _++_}
 use lib.Dec.{eqb}
 use Rattle.loops.specs.Iter.{every}
 use Rattle.loops.specs.Count.{tabFrom}
+use Rattle.door.specs.Settings.{defaultSettings, settingsOk}
+use Rattle.door.proofs.House.{noTripTried}
 use Rattle.tables.specs.declared.Counts.{Counts}
 use Rattle.tables.specs.Tables.{timeOf, tripOf, windowOf, edgeOf}
 use Rattle.tables.specs.Door.{countsOk, slicesOk, tripRuns, stopTimeNumbers, edgeNumbers, stopTimeRanges, tripRanges, windowRanges, edgeRanges, edgeRises, runsOk, numbersOk, rangesOk, orderOk}
@@ -77,7 +79,7 @@ refusal t lines runs listed entries positions fifo n =
 
 unfoldable pub right : Case → Bool
 right c =
-    let o = layoutOutcome (c .t) counts (c .lines) (c .listed) (c .runs) (c .entries) (layoutAreas (c .positions) (c .fifo)) in
+    let o = layoutOutcome defaultSettings (c .t) counts (c .lines) (c .listed) (c .runs) (c .entries) (layoutAreas (c .positions) (c .fifo)) in
     eqb (o .answer) (c .answer) && (same (o .areas .positions) (c .positionsAfter) && same (o .areas .fifo) (c .fifoAfter))
 
 unfoldable pub all : List Case → Bool
@@ -142,11 +144,17 @@ cases =
     ∷ []
 
 -- walk edges out of order are refused by 6, and both slices are as they came
-pub walk-edges-unordered : layoutOutcome walked walkedCounts 1 1 (0 ∷ 1 ∷ []) (0 ∷ []) (layoutAreas (9 ∷ []) (7 ∷ [])) ≡ layoutOutcomeOf 6 (layoutAreas (9 ∷ []) (7 ∷ []))
-unfolding walked walkedCounts time trip every timeOf tripOf windowOf edgeOf countsOk slicesOk tripRuns stopTimeNumbers edgeNumbers stopTimeRanges tripRanges windowRanges edgeRanges edgeRises runsOk numbersOk rangesOk orderOk lineRunIn lineRunsOk entriesOk layoutSizesOk layoutVerdict
+pub walk-edges-unordered : layoutOutcome defaultSettings walked walkedCounts 1 1 (0 ∷ 1 ∷ []) (0 ∷ []) (layoutAreas (9 ∷ []) (7 ∷ [])) ≡ layoutOutcomeOf 6 (layoutAreas (9 ∷ []) (7 ∷ []))
+unfolding settingsOk walked walkedCounts time trip every timeOf tripOf windowOf edgeOf countsOk slicesOk tripRuns stopTimeNumbers edgeNumbers stopTimeRanges tripRanges windowRanges edgeRanges edgeRises runsOk numbersOk rangesOk orderOk lineRunIn lineRunsOk entriesOk layoutSizesOk layoutVerdict
 walk-edges-unordered = refl
 
 -- every case is right
 pub worked : all cases ≡ true
-unfolding all cases right laid refusal timetableK table time trip counts runsK entriesK nines sevens same every tabFrom timeOf tripOf windowOf edgeOf countsOk slicesOk tripRuns stopTimeNumbers edgeNumbers stopTimeRanges tripRanges windowRanges edgeRanges edgeRises runsOk numbersOk rangesOk orderOk inOrder neighbours fifoLine lastIn positionIn lineRunIn lineRunsOk entriesOk layoutSizesOk layoutVerdict
+unfolding settingsOk all cases right laid refusal timetableK table time trip counts runsK entriesK nines sevens same every tabFrom timeOf tripOf windowOf edgeOf countsOk slicesOk tripRuns stopTimeNumbers edgeNumbers stopTimeRanges tripRanges windowRanges edgeRanges edgeRises runsOk numbersOk rangesOk orderOk inOrder neighbours fifoLine lastIn positionIn lineRunIn lineRunsOk entriesOk layoutSizesOk layoutVerdict
 worked = refl
+
+-- 14 is asked after 1 and before 2
+pub settings-asked : eqb (layoutOutcome noTripTried [] counts 2 3 runsK entriesK (layoutAreas nines sevens) .answer) 14
+    && eqb (layoutOutcome noTripTried [] counts 4097 3 runsK entriesK (layoutAreas nines sevens) .answer) 1 ≡ true
+unfolding settingsOk counts runsK entriesK nines sevens countsOk layoutSizesOk layoutVerdict slicesOk
+settings-asked = refl

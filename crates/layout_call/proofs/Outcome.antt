@@ -8,6 +8,8 @@ use lib.Dec.{eqb, leb}
 use borrow.Author.Tests.{eqb-true, leb-true}
 use Rattle.loops.proofs.Iter.{and-left}
 use Rattle.door.specs.Door.{ask}
+use Rattle.door.specs.Settings.{settingsOk}
+use Rattle.door.specs.declared.Settings.{Settings}
 use Rattle.door.proofs.Laws.{ask-yes, ask-later}
 use Rattle.tables.specs.declared.Counts.{Counts}
 use Rattle.tables.specs.Door.{countsOk, slicesOk, runsOk, numbersOk, rangesOk, orderOk}
@@ -54,21 +56,23 @@ sizes-yes t c lines n runs entries positions fifo h =
     }
 
 -- all together
-pub admitted : (t : List ℕ) (c : Counts) (lines n : ℕ) (runs entries : List ℕ) (s : LayoutAreas) → layoutVerdict t c lines n runs entries (layoutAreasOk c lines n runs entries s) ≡ 0
+pub admitted : (S : Settings) (t : List ℕ) (c : Counts) (lines n : ℕ) (runs entries : List ℕ) (s : LayoutAreas) → layoutVerdict S t c lines n runs entries (layoutAreasOk c lines n runs entries s) ≡ 0
     → LayoutAdmitted t c lines runs entries s
 unfolding layoutVerdict
-admitted t c lines n runs entries s h =
+admitted S t c lines n runs entries s h =
     let sizes = layoutAreasOk c lines n runs entries s in
     let r6 = ask 6 (orderOk t c) 0 in
     let r5 = ask 5 (rangesOk t c) r6 in
     let r4 = ask 4 (numbersOk t c && entriesOk c entries n) r5 in
     let r3 = ask 3 (runsOk t c && lineRunsOk runs lines n) r4 in
     let r2 = ask 2 (slicesOk t c && sizes) r3 in
-    let h2 = ask-later 0 (countsOk c && (leb lines 4096 && leb n 4096)) r2 h in
+    let r14 = ask 14 (settingsOk S) r2 in
+    let h14 = ask-later 0 (countsOk c && (leb lines 4096 && leb n 4096)) r14 h in
+    let h2 = ask-later 13 (settingsOk S) r2 h14 in
     let h3 = ask-later 1 (slicesOk t c && sizes) r3 h2 in
     let h4 = ask-later 2 (runsOk t c && lineRunsOk runs lines n) r4 h3 in
     let h5 = ask-later 3 (numbersOk t c && entriesOk c entries n) r5 h4 in
-    let e1 = ask-yes 0 (countsOk c && (leb lines 4096 && leb n 4096)) r2 h in
+    let e1 = ask-yes 0 (countsOk c && (leb lines 4096 && leb n 4096)) r14 h in
     let e2 = ask-yes 1 (slicesOk t c && sizes) r3 h2 in
     let q3 = two (runsOk t c) (lineRunsOk runs lines n) (ask-yes 2 (runsOk t c && lineRunsOk runs lines n) r4 h3) in
     let q4 = two (numbersOk t c) (entriesOk c entries n) (ask-yes 3 (numbersOk t c && entriesOk c entries n) r5 h4) in

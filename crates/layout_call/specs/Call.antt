@@ -6,6 +6,8 @@ use mathlib.Core.List.{List}
 use lib.ListN.{length}
 use lib.Dec.{leb, eqb}
 use Rattle.door.specs.Door.{ask}
+use Rattle.door.specs.Settings.{settingsOk}
+use Rattle.door.specs.declared.Settings.{Settings}
 use Rattle.tables.specs.declared.Counts.{Counts}
 use Rattle.tables.specs.Door.{countsOk, slicesOk, runsOk, numbersOk, rangesOk, orderOk}
 use Rattle.tables.specs.Sane.{Sane}
@@ -29,15 +31,16 @@ layoutSizesOk c lines n runs entries positions fifo =
 abbrev pub layoutAreasOk : Counts → ℕ → ℕ → List ℕ → List ℕ → LayoutAreas → Bool
 layoutAreasOk c lines n runs entries s = layoutSizesOk c lines n (length runs) (length entries) (length (s .positions)) (length (s .fifo))
 
--- THE QUESTIONS 1 to 6: the number of the first that is answered no, or 0. 6 is of the walk edges.
-unfoldable pub layoutVerdict : List ℕ → Counts → ℕ → ℕ → List ℕ → List ℕ → Bool → ℕ
-layoutVerdict t c lines n runs entries sizes =
+-- THE QUESTIONS 1, 14 and 2 to 6: the number of the first that is answered no, or 0. 6 is of the walk edges.
+unfoldable pub layoutVerdict : Settings → List ℕ → Counts → ℕ → ℕ → List ℕ → List ℕ → Bool → ℕ
+layoutVerdict S t c lines n runs entries sizes =
     ask 1 (countsOk c && (leb lines 4096 && leb n 4096))
+    (ask 14 (settingsOk S)
     (ask 2 (slicesOk t c && sizes)
     (ask 3 (runsOk t c && lineRunsOk runs lines n)
     (ask 4 (numbersOk t c && entriesOk c entries n)
     (ask 5 (rangesOk t c)
-    (ask 6 (orderOk t c) 0)))))
+    (ask 6 (orderOk t c) 0))))))
 
 -- WHAT IS WRITTEN: every trip's position, every line's FIFO flag
 abbrev pub layoutMade : List ℕ → Counts → ℕ → List ℕ → List ℕ → LayoutAreas
@@ -55,9 +58,9 @@ abbrev pub layoutSettle : ℕ → List ℕ → Counts → ℕ → List ℕ → L
 layoutSettle zero t c lines runs entries s = layoutOutcomeOf 0 (layoutMade t c lines runs entries)
 layoutSettle (suc v) t c lines runs entries s = layoutOutcomeOf (suc v) s
 
-abbrev pub layoutOutcome : List ℕ → Counts → ℕ → ℕ → List ℕ → List ℕ → LayoutAreas → LayoutOutcome
-layoutOutcome t c lines n runs entries s =
-    layoutSettle (layoutVerdict t c lines n runs entries (layoutAreasOk c lines n runs entries s)) t c lines runs entries s
+abbrev pub layoutOutcome : Settings → List ℕ → Counts → ℕ → ℕ → List ℕ → List ℕ → LayoutAreas → LayoutOutcome
+layoutOutcome S t c lines n runs entries s =
+    layoutSettle (layoutVerdict S t c lines n runs entries (layoutAreasOk c lines n runs entries s)) t c lines runs entries s
 
 -- what the questions give where all are answered yes
 pub record LayoutAdmitted (t : List ℕ) (c : Counts) (lines : ℕ) (runs entries : List ℕ) (s : LayoutAreas) : Type 0 where

@@ -8,6 +8,7 @@ ghost use Prim.Native.Nat.{_≤_};
 ghost use lib.ListN.{length};
 ghost use Rattle.layout_call.specs.Call.{layoutAreas, layoutSizesOk, layoutVerdict, layoutMade, layoutOutcome, layoutOutcomeOf};
 ghost use Rattle.layout_call.specs.Call.{LayoutAdmitted};
+use door::Settings;
 use tables::Counts;
 
 // Question 2: is each slice as long as the counts say?
@@ -29,6 +30,7 @@ fn sizes_ok(
 
 // The questions: the number of the first that is answered no, or 0.
 fn questions(
+    settings: Settings,
     tables: &[u32],
     c: Counts,
     lines: usize,
@@ -38,11 +40,15 @@ fn questions(
     positions: usize,
     fifo: usize,
 ) -> u32
-    ensures { λ r. ⌜ r ≡ layoutVerdict (now (tables .entry)) c lines n (now (runs .entry)) (now (entries .entry))
+    ensures { λ r. ⌜ r ≡ layoutVerdict settings (now (tables .entry)) c lines n (now (runs .entry)) (now (entries .entry))
         (layoutSizesOk c lines n (length (now (runs .entry))) (length (now (entries .entry))) positions fifo) ⌝ }
 {
-    if !door::both(tables::counts_ok(c), door::both(lines <= 4096, n <= 4096)) {
-        return 1;
+    let no = door::limits(
+        door::both(tables::counts_ok(c), door::both(lines <= 4096, n <= 4096)),
+        settings,
+    );
+    if no != 0 {
+        return no;
     }
     if !door::both(
         tables::slices_ok(tables, c),
@@ -91,6 +97,7 @@ fn lay_out(
 // one number a trip, `fifo` one a line, 1 or 0. The answer is the number of the first question that is answered no, or 0. A
 // refusal leaves both slices as they came.
 pub fn line_layout(
+    settings: Settings,
     tables: &[u32],
     c: Counts,
     lines: usize,
@@ -101,10 +108,11 @@ pub fn line_layout(
     fifo: &mut [u32],
 ) -> u32
     ensures { λ r. ⌜ layoutOutcomeOf r (layoutAreas (now (positions .exit)) (now (fifo .exit)))
-        ≡ layoutOutcome (now (tables .entry)) c lines «entry_count» (now (runs .entry)) (now (entries .entry))
+        ≡ layoutOutcome settings (now (tables .entry)) c lines «entry_count» (now (runs .entry)) (now (entries .entry))
         (layoutAreas (now (positions .entry)) (now (fifo .entry))) ⌝ }
 {
     let v = questions(
+        settings,
         tables,
         c,
         lines,

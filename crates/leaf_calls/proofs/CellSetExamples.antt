@@ -1,9 +1,35 @@
--- Question 1 of a number of cells, at its limit, as a computed check.
+-- Question 1 of a number of cells, at its limit, and question 14 of the calls that take numbers alone, as computed checks.
 use mathlib.Core.Path.{_≡_, refl}
 use mathlib.Core.Bool.{true, _&&_}
 use lib.Dec.{eqb}
-use Rattle.leaf_calls.specs.CellSetCall.{created}
+use Rattle.door.specs.Settings.{defaultSettings, settingsOk}
+use Rattle.door.proofs.House.{noTripTried}
+use Rattle.cell_bitset.specs.CellSet.{emptySet}
+use Rattle.leaf_calls.specs.CellSetCall.{created, resized, withCellAnswer, unionAnswer, heldAnswer, meetsAnswer, emptyAnswer}
+use Rattle.leaf_calls.specs.WalkCall.{walkDuration, roundsAnswer}
+use Rattle.leaf_calls.specs.StopDelayCall.{departureOutcome, arrivalOutcome, skippedOutcome}
+use Rattle.leaf_calls.specs.ClockCall.{serviceSecond}
 
--- question 1: 512 cells are made, 513 are not
-pub asked : eqb (created 0 .code) 0 && eqb (created 512 .code) 0 && eqb (created 513 .code) 1 && eqb (created 513 .set .reserved) 0 ≡ true
+-- question 1: 512 cells are made, 513 are not; then 14
+pub asked : eqb (created defaultSettings 0 .code) 0 && eqb (created defaultSettings 512 .code) 0 && eqb (created defaultSettings 513 .code) 1
+    && eqb (created defaultSettings 513 .set .reserved) 0 && eqb (created noTripTried 513 .code) 1 && eqb (created noTripTried 512 .code) 14 ≡ true
+unfolding settingsOk
 asked = refl
+
+-- 14: a set comes back as it came, a value is 0
+pub sets-kept : (resized noTripTried (emptySet 64) 512 ≡ record { code = 14; set = emptySet 64 })
+    × (withCellAnswer noTripTried (emptySet 64) 3 ≡ record { code = 14; set = emptySet 64 })
+    × (unionAnswer noTripTried (emptySet 64) (emptySet 512) ≡ record { code = 14; set = emptySet 64 })
+unfolding settingsOk
+sets-kept = (refl, refl, refl)
+
+pub values-0 : (emptyAnswer noTripTried (emptySet 64) ≡ record { code = 14; value = 0 })
+    × (roundsAnswer noTripTried 5 0 ≡ record { code = 14; value = 0 }) × (roundsAnswer defaultSettings 5 0 .code ≡ 0)
+unfolding settingsOk
+values-0 = (refl, refl, refl)
+
+-- 14 is asked before 5
+pub before-5 : eqb (walkDuration noTripTried 30 8 1 .code) 14 && eqb (serviceSecond noTripTried 48 0 0 .code) 14 && eqb (skippedOutcome noTripTried 8 .code) 14
+    && eqb (departureOutcome noTripTried 0 0 8 0 .code) 14 && eqb (arrivalOutcome noTripTried 0 0 0 8 0 .code) 14 ≡ true
+unfolding settingsOk
+before-5 = refl

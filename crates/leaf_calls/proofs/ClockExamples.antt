@@ -4,6 +4,7 @@ use mathlib.Core.Path.{_≡_, refl}
 use mathlib.Core.Bool.{Bool, true, _&&_}
 use mathlib.Core.List.{List, [], _∷_}
 use lib.Dec.{eqb}
+use Rattle.door.specs.Settings.{defaultSettings, settingsOk}
 use Rattle.leaf_calls.specs.ClockCall.{serviceSecond}
 
 -- hours, minutes and seconds, and the code and value that they must give
@@ -16,7 +17,7 @@ pub record Case : Type 0 where
 
 pub right : Case → Bool
 right c =
-    let a = serviceSecond (c .hour) (c .minute) (c .second) in
+    let a = serviceSecond defaultSettings (c .hour) (c .minute) (c .second) in
     eqb (a .code) (c .code) && eqb (a .value) (c .value)
 
 pub all : List Case → Bool
@@ -35,5 +36,5 @@ cases =
     ∷ []
 
 pub worked : all cases ≡ true
-unfolding all right cases
+unfolding settingsOk all right cases
 worked = refl

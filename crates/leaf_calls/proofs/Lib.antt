@@ -5,3 +5,4 @@ pub mod CellSetExamples
 pub mod StopDelayCall
 pub mod WalkExamples
 pub mod WalkCall
+pub mod CellSetCall

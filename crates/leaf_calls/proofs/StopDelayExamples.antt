@@ -4,6 +4,7 @@ use mathlib.Core.Path.{_≡_, refl}
 use mathlib.Core.Bool.{Bool, true, _&&_}
 use mathlib.Core.List.{List, [], _∷_}
 use lib.Dec.{eqb}
+use Rattle.door.specs.Settings.{defaultSettings, settingsOk}
 use Rattle.door.specs.declared.Answer.{Answer}
 use Rattle.leaf_calls.specs.StopDelayCall.{departureOutcome, arrivalOutcome, skippedOutcome}
 
@@ -24,8 +25,8 @@ same a code value = eqb (a .code) code && eqb (a .value) value
 
 right : Case → Bool
 right c =
-    same (arrivalOutcome 200 (c .shift) (c .trip) (c .flags) (c .arrival)) (c .code) (c .arrives)
-    && (same (departureOutcome 230 (c .trip) (c .flags) (c .departure)) (c .code) (c .departs) && same (skippedOutcome (c .flags)) (c .code) (c .skipped))
+    same (arrivalOutcome defaultSettings 200 (c .shift) (c .trip) (c .flags) (c .arrival)) (c .code) (c .arrives)
+    && (same (departureOutcome defaultSettings 230 (c .trip) (c .flags) (c .departure)) (c .code) (c .departs) && same (skippedOutcome defaultSettings (c .flags)) (c .code) (c .skipped))
 
 pub all : List Case → Bool
 all [] = true
@@ -55,8 +56,8 @@ cases =
 
 -- every case is right; so are the times and sizes just past their limit
 pub worked : all cases
-    && (same (departureOutcome 1048576 0 0 0) 5 0 && (same (arrivalOutcome 1048576 0 0 0 0) 5 0
-    && (same (departureOutcome 0 1048576 0 0) 5 0 && (same (departureOutcome 0 0 0 4293918720) 5 0
-    && (same (arrivalOutcome 0 1048576 0 0 0) 5 0 && same (arrivalOutcome 0 0 0 0 1048576) 5 0))))) ≡ true
-unfolding all right cases same given
+    && (same (departureOutcome defaultSettings 1048576 0 0 0) 5 0 && (same (arrivalOutcome defaultSettings 1048576 0 0 0 0) 5 0
+    && (same (departureOutcome defaultSettings 0 1048576 0 0) 5 0 && (same (departureOutcome defaultSettings 0 0 0 4293918720) 5 0
+    && (same (arrivalOutcome defaultSettings 0 1048576 0 0 0) 5 0 && same (arrivalOutcome defaultSettings 0 0 0 0 1048576) 5 0))))) ≡ true
+unfolding settingsOk all right cases same given
 worked = refl

@@ -4,6 +4,7 @@ use mathlib.Core.Path.{_≡_, refl}
 use mathlib.Core.Bool.{Bool, true, _&&_}
 use mathlib.Core.List.{List, [], _∷_}
 use lib.Dec.{eqb}
+use Rattle.door.specs.Settings.{defaultSettings, settingsOk}
 use Rattle.walk_time.specs.Walk.{effectiveDuration}
 use Rattle.leaf_calls.specs.WalkCall.{walkDuration}
 
@@ -18,7 +19,7 @@ pub record Walk : Type 0 where
 pub walksRight : List Walk → Bool
 walksRight [] = true
 walksRight (c ∷ cs) =
-    let a = walkDuration (c .duration) (c .mode) (c .wheelchair) in
+    let a = walkDuration defaultSettings (c .duration) (c .mode) (c .wheelchair) in
     eqb (a .code) (c .code) && eqb (a .value) (c .value) && walksRight cs
 
 pub walks : List Walk
@@ -35,5 +36,5 @@ walks =
     ∷ []
 
 pub walks-worked : walksRight walks ≡ true
-unfolding walksRight walks effectiveDuration
+unfolding settingsOk walksRight walks effectiveDuration
 walks-worked = refl

@@ -1,14 +1,24 @@
--- The calls that make a cell set and that give it more room: question 1 of a number of cells, and what each answers. Definitions only.
+-- The calls of cell sets: question 1 of a number of cells, 14 of the settings, and what each answers. What a set then holds: `cell_bitset`
+-- specs/CellSet. Definitions only.
 use Prim.Native.Nat.{ℕ, zero, suc}
+use mathlib.Core.Bool.{Bool}
 use lib.Dec.{leb}
-use Rattle.door.specs.Door.{ask}
+use Rattle.loops.specs.Count.{one}
+use Rattle.door.specs.Door.{ask, answer}
+use Rattle.door.specs.Settings.{settingsOk}
+use Rattle.door.specs.declared.Settings.{Settings}
+use Rattle.door.specs.declared.Answer.{Answer}
 use Rattle.cell_bitset.specs.declared.CellBitSet.{CellBitSet}
 use Rattle.leaf_calls.specs.declared.CellSetAnswer.{CellSetAnswer}
-use Rattle.cell_bitset.specs.CellSet.{cellLimit, emptySet, sized}
+use Rattle.cell_bitset.specs.CellSet.{cellLimit, emptySet, sized, withCell, held, meets, union, holdsNone}
 
--- question 1 (are all counts within the limits?) of a number of cells: 0 is yes
-abbrev pub countAsked : ℕ → ℕ
-countAsked n = ask 1 (leb n cellLimit) 0
+-- questions 1 (are all counts within the limits?) of a number of cells, and 14: 0 is yes
+abbrev pub countAsked : Settings → ℕ → ℕ
+countAsked S n = ask 1 (leb n cellLimit) (ask 14 (settingsOk S) 0)
+
+-- question 14 alone
+abbrev pub settingsAsked : Settings → ℕ
+settingsAsked S = ask 14 (settingsOk S) 0
 
 -- the answer of a call whose questions gave this number: the set that it makes, or the one that a refusal gives back
 abbrev pub setAnswer : ℕ → CellBitSet → CellBitSet → CellSetAnswer
@@ -16,9 +26,30 @@ setAnswer zero made back = record { code = 0; set = made }
 setAnswer (suc n) made back = record { code = suc n; set = back }
 
 -- a new set of n cells; refused: the set of no group
-abbrev pub created : ℕ → CellSetAnswer
-created n = setAnswer (countAsked n) (emptySet n) (emptySet 0)
+abbrev pub created : Settings → ℕ → CellSetAnswer
+created S n = setAnswer (countAsked S n) (emptySet n) (emptySet 0)
 
 -- the set with room for n cells at least; refused: the set as it came
-abbrev pub resized : CellBitSet → ℕ → CellSetAnswer
-resized s n = setAnswer (countAsked n) (sized s n) s
+abbrev pub resized : Settings → CellBitSet → ℕ → CellSetAnswer
+resized S set n = setAnswer (countAsked S n) (sized set n) set
+
+-- the set with this cell, and with the cells of another; refused: the set as it came
+abbrev pub withCellAnswer : Settings → CellBitSet → ℕ → CellSetAnswer
+withCellAnswer S set cell = setAnswer (settingsAsked S) (withCell set cell) set
+
+abbrev pub unionAnswer : Settings → CellBitSet → CellBitSet → CellSetAnswer
+unionAnswer S set other = setAnswer (settingsAsked S) (union set other) set
+
+-- yes as 1, no as 0; refused: 0
+abbrev pub truthAnswer : Settings → Bool → Answer
+truthAnswer S b = answer (settingsAsked S) (one b)
+
+-- is the cell in the set? Have two sets a cell in common? Does the set hold no cell?
+abbrev pub heldAnswer : Settings → CellBitSet → ℕ → Answer
+heldAnswer S set cell = truthAnswer S (held set cell)
+
+abbrev pub meetsAnswer : Settings → CellBitSet → CellBitSet → Answer
+meetsAnswer S set other = truthAnswer S (meets set other)
+
+abbrev pub emptyAnswer : Settings → CellBitSet → Answer
+emptyAnswer S set = truthAnswer S (holdsNone set)

@@ -1,10 +1,12 @@
--- The calls of the effective times: question 5, and what each answers. The times themselves: `stop_delay` specs/Times. Definitions only.
+-- The calls of the effective times: questions 14 and 5, and what each answers. The times themselves: `stop_delay` specs/Times. Definitions only.
 use Prim.Native.Nat.{ℕ}
 use mathlib.Core.Bool.{Bool, _&&_}
 use lib.Dec.{leb}
 use Rattle.loops.specs.Count.{one}
 use Rattle.door.specs.declared.Answer.{Answer}
 use Rattle.door.specs.Door.{ask, answer, timeLimit}
+use Rattle.door.specs.Settings.{settingsOk}
+use Rattle.door.specs.declared.Settings.{Settings}
 use Rattle.stop_delay.specs.Times.{skippedAt, effectiveDeparture, effectiveArrival}
 use Rattle.stop_delay.specs.Door.{sizeOk}
 
@@ -12,16 +14,20 @@ use Rattle.stop_delay.specs.Door.{sizeOk}
 abbrev pub timeInRange : (time flags trip own : ℕ) → Bool
 timeInRange time flags trip own = (leb time timeLimit && leb flags 7) && (sizeOk trip && sizeOk own)
 
-abbrev pub departureOutcome : (departure trip flags own : ℕ) → Answer
-departureOutcome departure trip flags own =
-    answer (ask 5 (timeInRange departure flags trip own) 0)
+-- 14, then 5
+abbrev pub rangesAsked : Settings → Bool → ℕ
+rangesAsked S ranged = ask 14 (settingsOk S) (ask 5 ranged 0)
+
+abbrev pub departureOutcome : (S : Settings) (departure trip flags own : ℕ) → Answer
+departureOutcome S departure trip flags own =
+    answer (rangesAsked S (timeInRange departure flags trip own))
     (effectiveDeparture departure (record { «trip_delay» = trip; flags = flags; «departure_delay» = own; «arrival_delay» = 0 }))
 
-abbrev pub arrivalOutcome : (arrival shift trip flags own : ℕ) → Answer
-arrivalOutcome arrival shift trip flags own =
-    answer (ask 5 (timeInRange arrival flags trip own && sizeOk shift) 0)
+abbrev pub arrivalOutcome : (S : Settings) (arrival shift trip flags own : ℕ) → Answer
+arrivalOutcome S arrival shift trip flags own =
+    answer (rangesAsked S (timeInRange arrival flags trip own && sizeOk shift))
     (effectiveArrival arrival shift (record { «trip_delay» = trip; flags = flags; «departure_delay» = 0; «arrival_delay» = own }))
 
 -- is the stop skipped: 1, else 0
-abbrev pub skippedOutcome : ℕ → Answer
-skippedOutcome flags = answer (ask 5 (leb flags 7) 0) (one (skippedAt flags))
+abbrev pub skippedOutcome : Settings → ℕ → Answer
+skippedOutcome S flags = answer (rangesAsked S (leb flags 7)) (one (skippedAt flags))

@@ -1,6 +1,6 @@
-// leaf_calls: the exported calls of the leaves that take numbers alone (document 01, items 1, 2, 4 and 11): cell sets made and grown, walks,
-// effective times, clock readings. Each asks its questions, then hands on to the leaf's own function. The calls of leaves that are lent slices:
-// `frequency_call`, `delay_call`.
+// leaf_calls: the exported calls of the leaves that take numbers alone (document 01, items 1, 2, 4 and 11): cell sets, walks and rounds,
+// effective times, clock readings. Each asks its questions, 14 (the settings) among them, then hands on to the leaf's own function. The calls of
+// leaves that are lent slices: `frequency_call`, `delay_call`.
 // Place: a call crate; only `exports` and programs use it.
 // Specs (claims): the questions and the outcome of each call (CellSetCall, WalkCall, StopDelayCall, ClockCall). What a leaf computes is defined
 // beside its function, in its own crate.
@@ -8,32 +8,35 @@
 // hours, minutes and seconds are; document 01's worked rows (proofs/..Examples).
 // Assumes nothing.
 ghost use mathlib.Core.Path.{_≡_};
-ghost use Rattle.leaf_calls.specs.CellSetCall.{created, resized};
+ghost use Rattle.leaf_calls.specs.CellSetCall.{created, resized, withCellAnswer, unionAnswer};
+ghost use Rattle.leaf_calls.specs.CellSetCall.{truthAnswer, heldAnswer, meetsAnswer, emptyAnswer};
 ghost use mathlib.Core.Bool.{true};
 ghost use Rattle.leaf_calls.specs.ClockCall.{clockInRange, reading, serviceSecond};
 ghost use Rattle.leaf_calls.specs.StopDelayCall.{timeInRange, departureOutcome, arrivalOutcome, skippedOutcome};
-ghost use Rattle.leaf_calls.specs.WalkCall.{walkInRange, walkDuration};
+ghost use Rattle.leaf_calls.specs.WalkCall.{walkInRange, walkDuration, roundsAnswer};
 use cell_bitset::CellBitSet;
 use door::Answer;
+use door::Settings;
 use stop_delay::StopDelay;
 
 // The most cells that a set has room for.
 const CELL_LIMIT: u32 = 512;
 
-// The answer of a call that takes a number of cells: 0 and the set made, or the number of the first no.
+// The answer of a call that gives a set: 0 and the set made, or the number of the first no.
 #[repr(C)]
 pub struct CellSetAnswer {
     pub code: u32,
     pub set: CellBitSet,
 }
 
-// A new set, behind question 1.
-pub fn create(num_cells: u32) -> CellSetAnswer
-    ensures { λ r. ⌜ r ≡ created «num_cells» ⌝ }
+// A new set, behind questions 1 and 14.
+pub fn create(settings: Settings, num_cells: u32) -> CellSetAnswer
+    ensures { λ r. ⌜ r ≡ created settings «num_cells» ⌝ }
 {
-    if CELL_LIMIT < num_cells {
+    let v = door::limits(num_cells <= CELL_LIMIT, settings);
+    if v != 0 {
         return CellSetAnswer {
-            code: 1,
+            code: v,
             set: CellBitSet::new(0),
         };
     }
@@ -43,17 +46,78 @@ pub fn create(num_cells: u32) -> CellSetAnswer
     }
 }
 
-// A set with room for more cells, behind question 1.
-pub fn resize(set: CellBitSet, num_cells: u32) -> CellSetAnswer
-    ensures { λ r. ⌜ r ≡ resized set «num_cells» ⌝ }
+// A set with room for more cells, behind questions 1 and 14.
+pub fn resize(settings: Settings, set: CellBitSet, num_cells: u32) -> CellSetAnswer
+    ensures { λ r. ⌜ r ≡ resized settings set «num_cells» ⌝ }
 {
-    if CELL_LIMIT < num_cells {
-        return CellSetAnswer { code: 1, set: set };
+    let v = door::limits(num_cells <= CELL_LIMIT, settings);
+    if v != 0 {
+        return CellSetAnswer { code: v, set: set };
     }
     CellSetAnswer {
         code: 0,
         set: set.ensure_sized(num_cells),
     }
+}
+
+// A set with one cell more, behind question 14.
+pub fn set_bit(settings: Settings, set: CellBitSet, cell: u32) -> CellSetAnswer
+    ensures { λ r. ⌜ r ≡ withCellAnswer settings set cell ⌝ }
+{
+    if !door::settings_ok(settings) {
+        return CellSetAnswer { code: 14, set: set };
+    }
+    CellSetAnswer {
+        code: 0,
+        set: set.set_bit(cell),
+    }
+}
+
+// Two sets in one, behind question 14.
+pub fn union_with(settings: Settings, set: CellBitSet, other: CellBitSet) -> CellSetAnswer
+    ensures { λ r. ⌜ r ≡ unionAnswer settings set other ⌝ }
+{
+    if !door::settings_ok(settings) {
+        return CellSetAnswer { code: 14, set: set };
+    }
+    CellSetAnswer {
+        code: 0,
+        set: set.union_with(other),
+    }
+}
+
+// Yes or no as 1 or 0, behind question 14.
+fn truth(settings: Settings, yes: bool) -> Answer
+    ensures { λ r. ⌜ r ≡ truthAnswer settings yes ⌝ }
+{
+    if !door::settings_ok(settings) {
+        return door::refused(14);
+    }
+    if yes {
+        return door::given(1);
+    }
+    door::given(0)
+}
+
+// Is the cell in the set?
+pub fn get_bit(settings: Settings, set: CellBitSet, cell: u32) -> Answer
+    ensures { λ r. ⌜ r ≡ heldAnswer settings set cell ⌝ }
+{
+    truth(settings, set.get_bit(cell))
+}
+
+// Have the sets a cell in common?
+pub fn intersects(settings: Settings, set: CellBitSet, other: CellBitSet) -> Answer
+    ensures { λ r. ⌜ r ≡ meetsAnswer settings set other ⌝ }
+{
+    truth(settings, set.intersects(other))
+}
+
+// Does the set hold no cell?
+pub fn is_empty(settings: Settings, set: CellBitSet) -> Answer
+    ensures { λ r. ⌜ r ≡ emptyAnswer settings set ⌝ }
+{
+    truth(settings, set.is_empty())
 }
 
 // Is this a clock reading?
@@ -72,11 +136,12 @@ fn reading(hour: u32, minute: u32, second: u32) -> u32
 }
 
 // The service second of a clock reading; 5 if it is none.
-pub fn service_second(hour: u32, minute: u32, second: u32) -> Answer
-    ensures { λ r. ⌜ r ≡ serviceSecond hour minute second ⌝ }
+pub fn service_second(settings: Settings, hour: u32, minute: u32, second: u32) -> Answer
+    ensures { λ r. ⌜ r ≡ serviceSecond settings hour minute second ⌝ }
 {
-    if !clock_in_range(hour, minute, second) {
-        return door::refused(5);
+    let v = door::ranges(settings, clock_in_range(hour, minute, second));
+    if v != 0 {
+        return door::refused(v);
     }
     door::given(reading(hour, minute, second))
 }
@@ -90,17 +155,22 @@ fn time_in_range(time: u32, flags: u32, trip_delay: u32, own: u32) -> bool
     door::both(codes, sizes)
 }
 
-// Question 5, then the effective departure.
+// Questions 14 and 5, then the effective departure.
 pub fn effective_departure(
+    settings: Settings,
     departure: u32,
     trip_delay: u32,
     flags: u32,
     departure_delay: u32,
 ) -> door::Answer
-    ensures { λ r. ⌜ r ≡ departureOutcome departure «trip_delay» flags «departure_delay» ⌝ }
+    ensures { λ r. ⌜ r ≡ departureOutcome settings departure «trip_delay» flags «departure_delay» ⌝ }
 {
-    if !time_in_range(departure, flags, trip_delay, departure_delay) {
-        return door::refused(5);
+    let v = door::ranges(
+        settings,
+        time_in_range(departure, flags, trip_delay, departure_delay),
+    );
+    if v != 0 {
+        return door::refused(v);
     }
     let d = StopDelay {
         trip_delay: trip_delay,
@@ -111,19 +181,24 @@ pub fn effective_departure(
     door::given(stop_delay::rt_effective_dep_s(departure, d))
 }
 
-// Question 5, then the effective arrival.
+// Questions 14 and 5, then the effective arrival.
 pub fn effective_arrival(
+    settings: Settings,
     arrival: u32,
     time_shift_s: u32,
     trip_delay: u32,
     flags: u32,
     arrival_delay: u32,
 ) -> door::Answer
-    ensures { λ r. ⌜ r ≡ arrivalOutcome arrival «time_shift_s» «trip_delay» flags «arrival_delay» ⌝ }
+    ensures { λ r. ⌜ r ≡ arrivalOutcome settings arrival «time_shift_s» «trip_delay» flags «arrival_delay» ⌝ }
 {
     let ranged = time_in_range(arrival, flags, trip_delay, arrival_delay);
-    if !door::both(ranged, stop_delay::size_ok(time_shift_s)) {
-        return door::refused(5);
+    let v = door::ranges(
+        settings,
+        door::both(ranged, stop_delay::size_ok(time_shift_s)),
+    );
+    if v != 0 {
+        return door::refused(v);
     }
     let d = StopDelay {
         trip_delay: trip_delay,
@@ -134,12 +209,13 @@ pub fn effective_arrival(
     door::given(stop_delay::rt_effective_arr_s(arrival, time_shift_s, d))
 }
 
-// Question 5, then 1 if the stop is skipped, else 0.
-pub fn skipped(flags: u32) -> door::Answer
-    ensures { λ r. ⌜ r ≡ skippedOutcome flags ⌝ }
+// Questions 14 and 5, then 1 if the stop is skipped, else 0.
+pub fn skipped(settings: Settings, flags: u32) -> door::Answer
+    ensures { λ r. ⌜ r ≡ skippedOutcome settings flags ⌝ }
 {
-    if 7 < flags {
-        return door::refused(5);
+    let v = door::ranges(settings, flags <= 7);
+    if v != 0 {
+        return door::refused(v);
     }
     let d = StopDelay {
         trip_delay: 0,
@@ -153,7 +229,7 @@ pub fn skipped(flags: u32) -> door::Answer
     door::given(0)
 }
 
-// Question 5 of the call below.
+// Question 5 of a walk.
 fn walk_in_range(duration: u32, pathway_mode: u32, wheelchair: u32) -> bool
     ensures { λ r. ⌜ r ≡ walkInRange duration «pathway_mode» wheelchair ⌝ }
 {
@@ -164,11 +240,27 @@ fn walk_in_range(duration: u32, pathway_mode: u32, wheelchair: u32) -> bool
 }
 
 // The duration of a walk in a query; 5 if a number is out of its range.
-pub fn walk_duration(duration: u32, pathway_mode: u32, wheelchair: u32) -> Answer
-    ensures { λ r. ⌜ r ≡ walkDuration duration «pathway_mode» wheelchair ⌝ }
+pub fn walk_duration(
+    settings: Settings,
+    duration: u32,
+    pathway_mode: u32,
+    wheelchair: u32,
+) -> Answer
+    ensures { λ r. ⌜ r ≡ walkDuration settings duration «pathway_mode» wheelchair ⌝ }
 {
-    if !walk_in_range(duration, pathway_mode, wheelchair) {
-        return door::refused(5);
+    let v = door::ranges(settings, walk_in_range(duration, pathway_mode, wheelchair));
+    if v != 0 {
+        return door::refused(v);
     }
     door::given(walk_time::effective_duration_s(duration, pathway_mode, wheelchair == 1))
+}
+
+// The rounds of a query, behind question 14.
+pub fn max_rounds(settings: Settings, wanted: u32, transfers: u32) -> Answer
+    ensures { λ r. ⌜ r ≡ roundsAnswer settings wanted transfers ⌝ }
+{
+    if !door::settings_ok(settings) {
+        return door::refused(14);
+    }
+    door::given(walk_time::tbr_max_rounds(wanted, transfers))
 }

@@ -8,6 +8,9 @@ use Rattle.loops.specs.Iter.{every, first}
 use Rattle.loops.specs.Count.{count, tabFrom}
 use Rattle.sorts.specs.Sort.{insertBy, sortBy}
 use Rattle.sorts.specs.Orders.{keep}
+use Rattle.door.specs.Settings.{defaultSettings, settingsOk}
+use Rattle.door.specs.declared.Settings.{Settings}
+use Rattle.door.proofs.House.{noTripTried}
 use Rattle.tables.specs.declared.Counts.{Counts}
 use Rattle.tables.specs.Tables.{timeOf, tripOf, windowOf, edgeOf}
 use Rattle.tables.specs.Door.{countsOk, slicesOk, tripRuns, stopTimeNumbers, edgeNumbers, stopTimeRanges, tripRanges, windowRanges, edgeRanges, edgeRises, runsOk, numbersOk, rangesOk, orderOk}
@@ -68,6 +71,7 @@ left : List ℕ → List ℕ → List ℕ → LineAreas
 left lines runs entries = lineAreas lines runs entries (0 ∷ 0 ∷ 0 ∷ []) (0 ∷ 0 ∷ 0 ∷ [])
 
 pub record Case : Type 0 where
+  pub settings : Settings
   pub table : List ℕ
   pub counts : Counts
   pub lent : LineAreas
@@ -92,7 +96,7 @@ sameAreas a b =
 
 right : Case → Bool
 right k =
-    let o = linesOutcome (k .table) (k .counts) (k .lent) in
+    let o = linesOutcome (k .settings) (k .table) (k .counts) (k .lent) in
     sameAnswer (o .answer) (k .answer) && sameAreas (o .areas) (k .left)
 
 pub all : List Case → Bool
@@ -100,10 +104,10 @@ all [] = true
 all (k ∷ ks) = right k && all ks
 
 given : List ℕ → Counts → Grouped → LineAreas → Case
-given t c g s = record { table = t; counts = c; lent = lent (nines ++ nines); answer = g; left = s }
+given t c g s = record { settings = defaultSettings; table = t; counts = c; lent = lent (nines ++ nines); answer = g; left = s }
 
 refusal : List ℕ → Counts → List ℕ → ℕ → Case
-refusal t c runs n = record { table = t; counts = c; lent = lent runs; answer = Refused n; left = lent runs }
+refusal t c runs n = record { settings = defaultSettings; table = t; counts = c; lent = lent runs; answer = Refused n; left = lent runs }
 
 two : List ℕ
 two = 0 ∷ 2 ∷ 2 ∷ 1 ∷ 9 ∷ 9 ∷ []
@@ -118,12 +122,15 @@ cases =
     -- T2 first: its line is 0
     ∷ given turned (counts 3) (Lines 2) (left (0 ∷ 1 ∷ 1 ∷ []) (0 ∷ 1 ∷ 1 ∷ 2 ∷ 9 ∷ 9 ∷ []) (0 ∷ 1 ∷ 2 ∷ []))
     -- nothing at all
-    ∷ record { table = []; counts = none; lent = lineAreas [] [] [] [] []; answer = Lines 0; left = lineAreas [] [] [] [] [] }
+    ∷ record { settings = defaultSettings; table = []; counts = none; lent = lineAreas [] [] [] [] []; answer = Lines 0; left = lineAreas [] [] [] [] [] }
     -- refused: too many trips; a table or the runs of a wrong length; a trip without stop times; a stop past the stops; a code; a time;
     -- walk edges out of order
     ∷ refusal (table 160 2 2 0) (counts 4097) (nines ++ nines) 1
     ∷ refusal (0 ∷ table 160 2 2 0) (counts 3) (nines ++ nines) 2
     ∷ refusal (table 160 2 2 0) (counts 3) (9 ∷ nines ++ nines) 2
+    -- 14 before 2, after 1
+    ∷ record { settings = noTripTried; table = []; counts = counts 3; lent = lent nines; answer = Refused 14; left = lent nines }
+    ∷ record { settings = noTripTried; table = []; counts = counts 4097; lent = lent nines; answer = Refused 1; left = lent nines }
     ∷ refusal (table 160 2 0 0) (counts 3) (nines ++ nines) 3
     ∷ refusal (table 160 3 2 0) (counts 3) (nines ++ nines) 4
     ∷ refusal (table 160 2 2 7) (counts 3) (nines ++ nines) 5
@@ -133,5 +140,5 @@ cases =
 
 -- every case is right
 pub worked : all cases ≡ true
-unfolding all right cases given refusal two left lent nines none counts turned walked walkedCounts table t0 t1 t2 trip stopTime sameList sameAnswer sameAreas every first count tabFrom insertBy sortBy keep flatMap timeOf tripOf windowOf edgeOf countsOk slicesOk tripRuns stopTimeNumbers edgeNumbers stopTimeRanges tripRanges windowRanges edgeRanges edgeRises runsOk numbersOk rangesOk orderOk same leadOf isLead lineOf lineTrips entriesOf lineCount lineFirst runsOf lineSizesOk linesVerdict linesMade
+unfolding settingsOk all right cases given refusal two left lent nines none counts turned walked walkedCounts table t0 t1 t2 trip stopTime sameList sameAnswer sameAreas every first count tabFrom insertBy sortBy keep flatMap timeOf tripOf windowOf edgeOf countsOk slicesOk tripRuns stopTimeNumbers edgeNumbers stopTimeRanges tripRanges windowRanges edgeRanges edgeRises runsOk numbersOk rangesOk orderOk same leadOf isLead lineOf lineTrips entriesOf lineCount lineFirst runsOf lineSizesOk linesVerdict linesMade
 worked = refl

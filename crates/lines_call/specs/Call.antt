@@ -8,6 +8,8 @@ use lib.Dec.{eqb}
 use Rattle.loops.specs.Count.{tab}
 use Rattle.door.specs.declared.Answer.{Answer}
 use Rattle.door.specs.Door.{ask, refusal, success}
+use Rattle.door.specs.Settings.{settingsOk}
+use Rattle.door.specs.declared.Settings.{Settings}
 use Rattle.tables.specs.declared.Counts.{Counts}
 use Rattle.tables.specs.Sane.{Sane}
 use Rattle.tables.specs.Timetable.{timetable}
@@ -44,15 +46,16 @@ lineSizesOk c z =
     (eqb (z .lines) (c .trips) && eqb (z .runs) (c .trips * 2))
     && (eqb (z .entries) (c .trips) && (eqb (z .work) (c .trips) && eqb (z .other) (c .trips)))
 
--- THE QUESTIONS 1 to 6: the number of the first that is answered no, or 0. 6 is of the walk edges.
-unfoldable pub linesVerdict : List ℕ → Counts → LineLengths → ℕ
-linesVerdict t c z =
+-- THE QUESTIONS 1, 14 and 2 to 6: the number of the first that is answered no, or 0. 6 is of the walk edges.
+unfoldable pub linesVerdict : Settings → List ℕ → Counts → LineLengths → ℕ
+linesVerdict S t c z =
     ask 1 (countsOk c)
+    (ask 14 (settingsOk S)
     (ask 2 (slicesOk t c && lineSizesOk c z)
     (ask 3 (runsOk t c)
     (ask 4 (numbersOk t c)
     (ask 5 (rangesOk t c)
-    (ask 6 (orderOk t c) 0)))))
+    (ask 6 (orderOk t c) 0))))))
 
 -- what is made; the workspace is left zero
 unfoldable pub linesMade : List ℕ → Counts → LineAreas → LineAreas
@@ -73,8 +76,8 @@ abbrev pub linesSettle : ℕ → List ℕ → Counts → LineAreas → LinesOutc
 linesSettle zero t c s = linesOutcomeOf (Lines (linesOf (timetable t c))) (linesMade t c s)
 linesSettle (suc n) t c s = linesOutcomeOf (Refused (suc n)) s
 
-abbrev pub linesOutcome : List ℕ → Counts → LineAreas → LinesOutcome
-linesOutcome t c s = linesSettle (linesVerdict t c (lineLengths s)) t c s
+abbrev pub linesOutcome : Settings → List ℕ → Counts → LineAreas → LinesOutcome
+linesOutcome S t c s = linesSettle (linesVerdict S t c (lineLengths s)) t c s
 
 -- document 01's number for each case of the answer, and its value: how many lines
 abbrev pub linesAnswer : Grouped → Answer

@@ -67,10 +67,10 @@ module _ (T : Tables) (Q : Query) where
 
   module _ (S : SteadyDay T Q) where
     -- the delay that moves a departure is within the margin, or the margin is the cap
-    covered : (t o : ℕ) → let d = delayAt T Q (delayOf Q t) t o in Covered (Q .delays) (Q .settings .marginCap) (sizeOf (cond (departureGiven (d .flags)) (d .«departure_delay») (d .«trip_delay»)))
+    covered : (t o : ℕ) → let d = delayAt T Q (delayOf Q t) t o in Covered (Q .delays) (Q .settings .«margin_cap») (sizeOf (cond (departureGiven (d .flags)) (d .«departure_delay») (d .«trip_delay»)))
     covered t o =
-        moved-by (λ (x : ℕ). Covered (Q .delays) (Q .settings .marginCap) (sizeOf x)) departureGiven (λ (d : StopDelay). d .«departure_delay») refl (inl (omega arith))
-        (margin-trip (Q .delays) (Q .settings .marginCap)) (λ i j h g. margin-departure (Q .delays) (Q .settings .marginCap) j h g) t o
+        moved-by (λ (x : ℕ). Covered (Q .delays) (Q .settings .«margin_cap») (sizeOf x)) departureGiven (λ (d : StopDelay). d .«departure_delay») refl (inl (omega arith))
+        (margin-trip (Q .delays) (Q .settings .«margin_cap»)) (λ i j h g. margin-departure (Q .delays) (Q .settings .«margin_cap») j h g) t o
 
     pub depart-late : (x t o : ℕ) → x < stops T → Boarding T Q (effective T Q) x t o → effective T Q .departs t o ≤ departure T t o + marginOf T Q
     depart-late x t o h b =

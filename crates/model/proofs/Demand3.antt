@@ -156,7 +156,7 @@ unflagged-pareto T Q D S =
           let g = D .egress-small (j .stop) (j .walk) (j .egress) in
           let low = unflagged T Q D S .lowest v (record { justRode = j .justRode; rideCount = j .rideCount; stop = j .stop; reached = j .reached; journey = j .journey; fits = omega (arith, j .fits, b); walk = j .walk; egress = j .egress; sum = j .sum }) in
           let c =
-          subst (λ (z : PlainSearch.Answer (net T Q)). j .reached + egressWalk (Q .egress) (j .stop) ≤ z .total + Q .settings .candidateSlack → Pareto.Covers (net T Q) (z .cand) k (j .reached + egressWalk (Q .egress) (j .stop))) (sym (sim-answer T Q N-plain C))
+          subst (λ (z : PlainSearch.Answer (net T Q)). j .reached + egressWalk (Q .egress) (j .stop) ≤ z .total + Q .settings .«candidate_slack» → Pareto.Covers (net T Q) (z .cand) k (j .reached + egressWalk (Q .egress) (j .stop))) (sym (sim-answer T Q N-plain C))
           (Pareto.pareto (net T Q) N-plain (trips T) (roundsOf Q) k (rounds-few Q) b (j .justRode) (j .rideCount) (j .stop) (j .reached) (omega (arith, j .fits)) (reach-of T Q D (j .justRode) (j .rideCount) (j .stop) (j .reached) (j .journey)) (e .0) (omega (arith, h, g, e .1)))
           (omega (arith, s, j .sum, e .1)) in
           (c .candidate, subst (λ (z : Bool). List·Memᴰ (c .candidate) (elim z [ true ↦ [] | false ↦ small T Q (final T Q false) .cand ])) (sym (ne-eqb (searchAnswer T Q false .total) never (λ z. omega (arith, z, low, j .sum, h, g)))) (c .listed), omega (arith, c .early, j .sum, e .1), c .row);

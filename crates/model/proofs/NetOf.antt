@@ -50,7 +50,7 @@ net T Q =
       egs = Q .egress;
       chg = Q .change;
       start = Q .start;
-      slack = Q .settings .candidateSlack;
+      slack = Q .settings .«candidate_slack»;
     }
 
 -- the shift of a boarding of trip t at offset o

@@ -442,13 +442,13 @@ module _ (T : Tables) (Q : Query) where
   unfolding candidatesFrom PlainSearch.cands
   sim-candidates c top zero r last = refl
   sim-candidates c top (suc k) r last =
-      go (ltb (b .0) last && leb (b .0) (top + Q .settings .candidateSlack)) (sim-candidates c top k (suc r) (b .0)) (sim-candidates c top k (suc r) last) ∙ ap R (sim-row c r (Q .egress) (never, never))
+      go (ltb (b .0) last && leb (b .0) (top + Q .settings .«candidate_slack»)) (sim-candidates c top k (suc r) (b .0)) (sim-candidates c top k (suc r) last) ∙ ap R (sim-row c r (Q .egress) (never, never))
     where
       b : ℕ × ℕ
       b = rowTarget T Q c r (Q .egress) (never, never)
 
       R : ℕ × ℕ → List (ℕ × ℕ × ℕ)
-      R b = elim (ltb (b .0) last && leb (b .0) (top + Q .settings .candidateSlack)) [ true ↦ (b .0, b .1, r) ∷ PlainSearch.cands N (coreOf c) top k (suc r) (b .0) | false ↦ PlainSearch.cands N (coreOf c) top k (suc r) last ]
+      R b = elim (ltb (b .0) last && leb (b .0) (top + Q .settings .«candidate_slack»)) [ true ↦ (b .0, b .1, r) ∷ PlainSearch.cands N (coreOf c) top k (suc r) (b .0) | false ↦ PlainSearch.cands N (coreOf c) top k (suc r) last ]
 
       go : (x : Bool) → candidatesFrom T Q c top k (suc r) (b .0) ≡ PlainSearch.cands N (coreOf c) top k (suc r) (b .0) → candidatesFrom T Q c top k (suc r) last ≡ PlainSearch.cands N (coreOf c) top k (suc r) last
           → _≡_ {A = List (ℕ × ℕ × ℕ)} (elim x [ true ↦ (b .0, b .1, r) ∷ candidatesFrom T Q c top k (suc r) (b .0) | false ↦ candidatesFrom T Q c top k (suc r) last ])

@@ -120,10 +120,10 @@ module _ (T : Tables) (Q : Query) (D : Door T Q) (S : TripDelays T Q) where
       ∙ ap (shifted (arrival T t o)) (trip-delay (delayOf Q t) t o)
 
   -- a trip of the table is late by no more than the cap, and its departures stay where the delay puts them
-  within : (t : ℕ) → t < trips T → sizeOf (lateBy Q (delayOf Q t)) ≤ Q .settings .marginCap
+  within : (t : ℕ) → t < trips T → sizeOf (lateBy Q (delayOf Q t)) ≤ Q .settings .«margin_cap»
   within t u = go (delayOf Q t) refl
     where
-      go : (h : Hit) → delayOf Q t ≡ h → sizeOf (lateBy Q h) ≤ Q .settings .marginCap
+      go : (h : Hit) → delayOf Q t ≡ h → sizeOf (lateBy Q h) ≤ Q .settings .«margin_cap»
       go miss e = omega arith
       go (hit i) e = omega (arith, S .within-cap i (row-below Q t i e) (subst (λ (z : ℕ). z < trips T) (sym (row-trip Q t i e)) u))
 

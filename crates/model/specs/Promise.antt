@@ -84,7 +84,7 @@ module _ (T : Tables) (Q : Query) where
   -- PLAIN DAY: the transfers too are as our call wrote them
   pub record PlainDay : Type 0 where
     pub calm : CalmDay
-    pub transfers : TransfersBuilt T (calm .listed) (Q .settings .transferTime)
+    pub transfers : TransfersBuilt T (calm .listed) (Q .settings .«transfer_time»)
     pub conditions : PlainConditions
 
 module _ (T : Tables) (Q : Query) (W : TripTimes) where
@@ -161,7 +161,7 @@ module _ (T : Tables) (Q : Query) (W : TripTimes) where
   -- beyond the request: for every journey of at most k rides that arrives within the slack of the best total, a candidate of row k or
   -- lower arrives no later
   pub record Pareto (A : SearchAnswer) : Type 0 where
-    pub covers : (k v : ℕ) → k ≤ roundsOf Q → JourneyOf k v → v ≤ A .total + Q .settings .candidateSlack
+    pub covers : (k v : ℕ) → k ≤ roundsOf Q → JourneyOf k v → v ≤ A .total + Q .settings .«candidate_slack»
         → (c : ℕ × ℕ × ℕ) × (List·Memᴰ c (A .candidates)) × (c .0 ≤ v) × (c .2 ≤ k)
 
 -- DAYS WITH DELAYS. Effective times (01, item 4): departure and arrival are each moved by their own delay where a stop row gives one, else by
@@ -194,8 +194,8 @@ module _ (T : Tables) (Q : Query) where
     pub departures : (x y t o p : ℕ) → x < stops T → y < stops T → Boarding T Q W x t o → Boarding T Q W y t p → o < p
         → W .departs t o ≤ W .departs t p
     -- the departure is no further from its schedule than the cap of the margin
-    pub not-late : (x t o : ℕ) → x < stops T → Boarding T Q W x t o → W .departs t o ≤ departure T t o + Q .settings .marginCap
-    pub not-early : (x t o : ℕ) → x < stops T → Boarding T Q W x t o → departure T t o ≤ W .departs t o + Q .settings .marginCap
+    pub not-late : (x t o : ℕ) → x < stops T → Boarding T Q W x t o → W .departs t o ≤ departure T t o + Q .settings .«margin_cap»
+    pub not-early : (x t o : ℕ) → x < stops T → Boarding T Q W x t o → departure T t o ≤ W .departs t o + Q .settings .«margin_cap»
     -- the trip arrives when it does, wherever it was boarded
     pub one-arrival : (x t o p : ℕ) → x < stops T → Boarding T Q W x t o → Alighting T Q W t o p → arrivesFrom t o p ≡ W .arrives t p
 
@@ -211,7 +211,7 @@ module _ (T : Tables) (Q : Query) where
         → (departureGiven (Q .delays .stopRow j .flags) || arrivalGiven (Q .delays .stopRow j .flags)) ≡ false
     -- the delay is no larger than the cap of the margin
     pub within-cap : (i : ℕ) → i < Q .delays .delays → Q .delays .delay i .trip < trips T
-        → sizeOf (Q .delays .delay i .delay) ≤ Q .settings .marginCap
+        → sizeOf (Q .delays .delay i .delay) ≤ Q .settings .«margin_cap»
     -- and puts no departure before 0
     pub after-zero : (i o : ℕ) → i < Q .delays .delays → Q .delays .delay i .trip < trips T → o < stopCount T (Q .delays .delay i .trip)
         → nonNeg (pos (departure T (Q .delays .delay i .trip) o) +ℤ ofBits (Q .delays .delay i .delay)) ≡ true

@@ -161,7 +161,7 @@ module _ (T : Tables) (Q : Query) where
   arrivalNow adj shift t o = effectiveArrival (arrival T t o) shift (delayAt adj t o)
 
   abbrev pub marginOf : ℕ
-  marginOf = margin (Q .delays) (Q .settings .marginCap)
+  marginOf = margin (Q .delays) (Q .settings .«margin_cap»)
 
   -- BOARDING trip t at offset o, not before `after`: departure and time shift. A frequency trip: its earliest run.
   unfoldable pub boardAt : Hit → ℕ → ℕ → ℕ → FreqBoard
@@ -230,8 +230,8 @@ module _ (T : Tables) (Q : Query) where
       let p : ℕ = position T (e .target) in
       let isFifo : Bool = fifo T (lineAt T (e .target)) in
       elim (ltb p (l .count) && eqb (l .trip p) (e .target)) [
-        | true ↦ resolveIn isFifo (e .offset) after best (l .trip) (min (l .count - p) (Q .settings .lineScan)) p
-        | false ↦ resolveIn isFifo (e .offset) after best (λ p. e .target) (min 1 (Q .settings .lineScan)) 0
+        | true ↦ resolveIn isFifo (e .offset) after best (l .trip) (min (l .count - p) (Q .settings .«line_scan»)) p
+        | false ↦ resolveIn isFifo (e .offset) after best (λ p. e .target) (min 1 (Q .settings .«line_scan»)) 0
       ]
 
   -- queue trip t, boarded at offset o at stop s: a frequency trip each time, another only at a lower offset than before
@@ -571,7 +571,7 @@ module _ (T : Tables) (Q : Query) where
   candidatesFrom a top zero r last = []
   candidatesFrom a top (suc k) r last =
       let b = rowTarget a r (Q .egress) (never, never) in
-      elim (ltb (b .0) last && leb (b .0) (top + Q .settings .candidateSlack)) [
+      elim (ltb (b .0) last && leb (b .0) (top + Q .settings .«candidate_slack»)) [
         | true ↦ (b .0, b .1, r) ∷ candidatesFrom a top k (suc r) (b .0)
         | false ↦ candidatesFrom a top k (suc r) last
       ]

@@ -7,6 +7,7 @@ use lib.Dec.{ltb, eqb}
 use lib.Ieee.{Float}
 use Rattle.loops.specs.Count.{upto}
 use Rattle.sorts.specs.Orders.{keep}
+use Rattle.door.specs.declared.Settings.{Settings}
 use Rattle.cell_bitset.specs.declared.CellBitSet.{CellBitSet}
 use Rattle.walk_time.specs.Walk.{effectiveDuration, roundCount}
 use Rattle.departures.specs.declared.DepartureRow.{DepartureRow}
@@ -14,18 +15,6 @@ use Rattle.tables.specs.Timetable.{Timetable, timeAt}
 use Rattle.line_layout.specs.Layout.{LineTrips, fifoLine, positionIn}
 use Rattle.event_transfers.specs.Transfers.{Transfer}
 use Rattle.delay_rows.specs.Delays.{DelayTables}
-
--- four numbers of the Rust: the transfer time of the building calls, how many trips of a line are tried for a transfer, by how much
--- a candidate may be later than the best total, the cap of the delay margin
-pub record Settings : Type 0 where
-  pub transferTime : ℕ
-  pub lineScan : ℕ
-  pub candidateSlack : ℕ
-  pub marginCap : ℕ
-
--- as the Rust has them
-abbrev pub rustSettings : Settings
-rustSettings = record { transferTime = 120; lineScan = 64; candidateSlack = 3600; marginCap = 21600 }
 
 -- u32::MAX: no arrival, no stop, no line
 abbrev pub never : ℕ
@@ -69,6 +58,8 @@ pub record Query : Type 0 where
   pub delays : DelayTables
   -- the switch that puts arc flags off (`flash_disabled`)
   pub flagsOff : Bool
+  -- the four numbers that the call received: the transfer time of built transfers, how many trips of a line are tried for a transfer, by how
+  -- much a candidate may be later than the best total, the cap of the delay margin
   pub settings : Settings
 
 -- how many rounds a query has (the request, "Round")

@@ -369,10 +369,10 @@ module _ (T : Tables) (Q : Query) where
   departuresRise t o p = leb (effective T Q .departs t o) (effective T Q .departs t p)
 
   abbrev notLate : ℕ → ℕ → Bool
-  notLate t o = leb (effective T Q .departs t o) (departure T t o + Q .settings .marginCap)
+  notLate t o = leb (effective T Q .departs t o) (departure T t o + Q .settings .«margin_cap»)
 
   abbrev notEarly : ℕ → ℕ → Bool
-  notEarly t o = leb (departure T t o) (effective T Q .departs t o + Q .settings .marginCap)
+  notEarly t o = leb (departure T t o) (effective T Q .departs t o + Q .settings .«margin_cap»)
 
   abbrev oneArrival : ℕ → ℕ → ℕ → Bool
   oneArrival t o p = eqb (arrivesFrom T Q t o p) (effective T Q .arrives t p)
@@ -387,7 +387,7 @@ module _ (T : Tables) (Q : Query) where
       || not (departureGiven (Q .delays .stopRow j .flags) || arrivalGiven (Q .delays .stopRow j .flags))
 
   abbrev capTest : ℕ → Bool
-  capTest i = not (ltb (Q .delays .delay i .trip) (trips T)) || leb (sizeOf (Q .delays .delay i .delay)) (Q .settings .marginCap)
+  capTest i = not (ltb (Q .delays .delay i .trip) (trips T)) || leb (sizeOf (Q .delays .delay i .delay)) (Q .settings .«margin_cap»)
 
   abbrev zeroTest : ℕ → ℕ → Bool
   zeroTest i o = nonNeg (pos (departure T (Q .delays .delay i .trip) o) +ℤ ofBits (Q .delays .delay i .delay))
@@ -468,7 +468,7 @@ plain-conditions T Q e =
     }
 
 -- tables as built that pass the tests are a plain day
-pub plain-when : (T : Tables) (Q : Query) (listed : ℕ → List DepartureRow) → LinesBuilt T listed → TransfersBuilt T listed (Q .settings .transferTime)
+pub plain-when : (T : Tables) (Q : Query) (listed : ℕ → List DepartureRow) → LinesBuilt T listed → TransfersBuilt T listed (Q .settings .«transfer_time»)
     → allOf (plainTests T Q) ≡ true → PlainDay T Q
 plain-when T Q listed lines transfers e =
     record {
@@ -533,9 +533,9 @@ built-lines X listed time patterns =
     }
 
 pub plain-holds : (X : Timetable) (listed : ℕ → List DepartureRow) (patterns : List CellBitSet) (Q : Query)
-    → allOf (plainTests (built X listed (Q .settings .transferTime) patterns) Q) ≡ true → PlainDay (built X listed (Q .settings .transferTime) patterns) Q
+    → allOf (plainTests (built X listed (Q .settings .«transfer_time») patterns) Q) ≡ true → PlainDay (built X listed (Q .settings .«transfer_time») patterns) Q
 plain-holds X listed patterns Q =
-    plain-when (built X listed (Q .settings .transferTime) patterns) Q listed (built-lines X listed (Q .settings .transferTime) patterns)
+    plain-when (built X listed (Q .settings .«transfer_time») patterns) Q listed (built-lines X listed (Q .settings .«transfer_time») patterns)
     (record { transfers-built = λ t o h l. refl })
 
 pub bare-lines : (X : Timetable) (listed : ℕ → List DepartureRow) → LinesBuilt (bare X listed) listed

@@ -1,14 +1,15 @@
 -- Worked rows computed of the definitions, as one tabulated check: document 01's rows on Timetable K; K with a pattern, with a frequency
--- trip and with delays; queries without origin or egress; the day with walks. Each row: what is computed, and the numbers it must give.
+-- trip and with delays; queries without origin or egress; the day with walks; rows under other settings. Each row: what is computed, and the numbers it must give.
 use Prim.Native.Nat.{ℕ, zero, suc}
 use mathlib.Core.Path.{_≡_, refl}
 use mathlib.Core.Bool.{true, false}
 use mathlib.Core.List.{List, [], _∷_, _++_, map, flatMap, flatten}
-use lib.ListN.{length}
+use lib.ListN.{length, getD}
 use Rattle.loops.specs.Iter.{iter, every, some, first}
 use Rattle.loops.specs.Count.{one, upto, count, tabFrom}
 use Rattle.sorts.specs.Sort.{insertBy, sortBy}
 use Rattle.sorts.specs.Orders.{keep}
+use Rattle.door.specs.Settings.{defaultSettings}
 use Rattle.walk_time.specs.Walk.{effectiveDuration, roundCount}
 use Rattle.frequency.specs.declared.FreqBoard.{FreqBoard}
 use Rattle.frequency.specs.declared.FreqBoard.the-variants.{Nothing, Board}
@@ -23,7 +24,7 @@ use Rattle.departures.specs.Departures.{frequencyListed}
 use Rattle.event_transfers.specs.Transfers.{Transfer, departuresOfLine, firstNotBefore, transferTo, transfersOf}
 use Rattle.model.specs.Tables.{never, Tables, Query, changeBefore, isEgress, egressWalk, edgesFrom, fifo, modeWanted, usable, permitted}
 use Rattle.model.specs.Search.{SearchAnswer, targetsFrom, targetCells, holdsTarget, useArcFlags, someTransfer, skipsEdge, skipsTransfer, flagsInUse, departuresAt, markAt, lineAt, notBefore, marginOf, boardAt, bestAfter, improve, relax, resolveIn, lineTripsAt, resolve, enqueue, takeTransfers, alightings, transferring, scanTripForward, rideSegments, dominated, pruned, passedOver, boarding, board, scanDepartures, scanStops, walkFrom, walkAll, ridePhase, stamped, walkPhase, idle, rounds, setOut, access, bestTarget, rowTarget, candidatesFrom, final, searchAnswer, putOff, runTbr, query}
-use Rattle.plain_days.specs.K.{built, timetableK, listedK, tablesK, patternK, frequentK, asks, queryK, noDelays, origin, delayedK, tablesW, queryW}
+use Rattle.plain_days.specs.K.{built, runs, calls, leaves, window, footEdge, timetableK, listedK, tablesK, everyCell, patternK, frequentK, asks, under, house, queryK, noDelays, origin, delayedK, delaysFrom, onDay, tablesW, queryW}
 
 -- a total, its stop, and the candidates (total, stop, row) one after another
 abbrev shown : SearchAnswer → List ℕ
@@ -75,10 +76,10 @@ paperRows =
     ∷ (shown (query tablesK (queryK 151 120)), (never ∷ never ∷ []))
     -- lines and FIFO; T1 ending 399
     ∷ (linesShown tablesK, (2 ∷ 0 ∷ 0 ∷ 1 ∷ 2 ∷ 0 ∷ 1 ∷ 1 ∷ 1 ∷ 2 ∷ 1 ∷ []))
-    ∷ (linesShown (built (timetableK 399 320 0) listedK 120 []), (2 ∷ 0 ∷ 0 ∷ 1 ∷ 2 ∷ 0 ∷ 1 ∷ 0 ∷ 1 ∷ 2 ∷ 1 ∷ []))
+    ∷ (linesShown (built (timetableK 399 320 0) listedK (defaultSettings .«transfer_time») []), (2 ∷ 0 ∷ 0 ∷ 1 ∷ 2 ∷ 0 ∷ 1 ∷ 0 ∷ 1 ∷ 2 ∷ 1 ∷ []))
     -- transfers; T2 at 319
     ∷ (transfersShown tablesK, (0 ∷ 1 ∷ 2 ∷ 0 ∷ 120 ∷ 0 ∷ 0 ∷ 0 ∷ 0 ∷ 0 ∷ 0 ∷ 0 ∷ []))
-    ∷ (transfersShown (built (timetableK 460 319 0) listedK 120 []), (0 ∷ 0 ∷ 0 ∷ 0 ∷ 0 ∷ 0 ∷ 0 ∷ 0 ∷ []))
+    ∷ (transfersShown (built (timetableK 460 319 0) listedK (defaultSettings .«transfer_time») []), (0 ∷ 0 ∷ 0 ∷ 0 ∷ 0 ∷ 0 ∷ 0 ∷ 0 ∷ []))
     -- rounds
     ∷ ((roundCount 0 0 ∷ roundCount 0 3 ∷ roundCount 20 0 ∷ []), (4 ∷ 5 ∷ 12 ∷ []))
     -- windows
@@ -94,7 +95,7 @@ paperRows =
 -- beyond the paper
 abbrev moreRows : List (List ℕ × List ℕ)
 moreRows =
-    -- the pattern's flags skip nothing: the query puts them off; the Rust rides transfers of 120 seconds whatever the change time
+    -- the pattern's flags skip nothing: the query puts them off; the Rust rides transfers of the transfer time, whatever the change time
     (shown (query patternK (queryK 90 121)), (405 ∷ 2 ∷ 405 ∷ 2 ∷ 1 ∷ []))
     ∷ (shown (runTbr patternK (queryK 90 121)), (385 ∷ 2 ∷ 405 ∷ 2 ∷ 1 ∷ 385 ∷ 2 ∷ 2 ∷ []))
     -- the change time is 60: the Rust misses the change to T2
@@ -120,6 +121,51 @@ moreRows =
     -- T4 gone. On foot without a wheelchair the stairs take 2 seconds.
     ∷ (shown (query tablesW queryW), (395 ∷ 3 ∷ 995 ∷ 4 ∷ 0 ∷ 405 ∷ 4 ∷ 1 ∷ 395 ∷ 3 ∷ 2 ∷ []))
     ∷ (shown (query tablesW onFoot), (207 ∷ 4 ∷ 207 ∷ 4 ∷ 1 ∷ []))
+    ∷ []
+
+-- T0 goes from stop 0 to stop 1; T1, not active, and T2 from there to stop 2. The transfer of T0 at stop 1 is to T1; T2 is the next of its line.
+abbrev patternL : Tables
+patternL =
+    built (record {
+      stops = 3;
+      trips = 3;
+      edges = 0;
+      trip = λ t. getD (runs 0 2 1 0 ∷ runs 2 2 0 0 ∷ runs 4 2 1 0 ∷ []) t (runs 0 0 0 0);
+      time = λ i. getD (calls 0 0 100 100 ∷ calls 1 1 200 200 ∷ calls 1 0 320 320 ∷ calls 2 1 380 380 ∷ calls 1 0 330 330 ∷ calls 2 1 400 400 ∷ []) i (calls 0 0 0 0);
+      window = λ i. window 0 0 0;
+      edge = λ e. footEdge 0 0 0 0;
+      cell = λ s. 0;
+    })
+    (λ s. getD ((leaves 0 0 ∷ []) ∷ (leaves 1 0 ∷ leaves 2 0 ∷ []) ∷ []) s []) (defaultSettings .«transfer_time») (everyCell ∷ [])
+
+-- K on a day when T0 is 50 seconds late, asked at 140: stop 0 is reached at 150, when T0 leaves
+abbrev lateK : Query
+lateK = onDay 140 120 (delaysFrom ((0, 50) ∷ []) [])
+
+-- K built with this transfer time, with a pattern
+abbrev builtWith : ℕ → Tables
+builtWith time = built (timetableK 460 320 0) listedK time (everyCell ∷ [])
+
+-- UNDER OTHER SETTINGS
+abbrev houseRows : List (List ℕ × List ℕ)
+houseRows =
+    -- transfer time: T0 at stop 1 (arrives at 200) reaches T2 (leaves at 320) with 120 seconds, not with 121; so `run_tbr` with flags
+    (transfersShown (builtWith 120), (0 ∷ 1 ∷ 2 ∷ 0 ∷ 120 ∷ 0 ∷ 0 ∷ 0 ∷ 0 ∷ 0 ∷ 0 ∷ 0 ∷ []))
+    ∷ (transfersShown (builtWith 121), (0 ∷ 0 ∷ 0 ∷ 0 ∷ 0 ∷ 0 ∷ 0 ∷ 0 ∷ []))
+    ∷ (shown (runTbr (builtWith 120) (under (house 120 64 3600 21600) (queryK 90 121))), (385 ∷ 2 ∷ 405 ∷ 2 ∷ 1 ∷ 385 ∷ 2 ∷ 2 ∷ []))
+    ∷ (shown (runTbr (builtWith 121) (under (house 121 64 3600 21600) (queryK 90 121))), (405 ∷ 2 ∷ 405 ∷ 2 ∷ 1 ∷ []))
+    -- one trip of a line is tried, then two: T1 does not run
+    ∷ (shown (runTbr patternL (under (house 120 1 3600 21600) (queryK 90 0))), (never ∷ never ∷ []))
+    ∷ (shown (runTbr patternL (under (house 120 2 3600 21600) (queryK 90 0))), (405 ∷ 2 ∷ 405 ∷ 2 ∷ 2 ∷ []))
+    -- the candidate at 405 is 20 seconds later than the best
+    ∷ (shown (query tablesK (under (house 120 64 20 21600) (queryK 90 120))), (385 ∷ 2 ∷ 405 ∷ 2 ∷ 1 ∷ 385 ∷ 2 ∷ 2 ∷ []))
+    ∷ (shown (query tablesK (under (house 120 64 19 21600) (queryK 90 120))), (385 ∷ 2 ∷ 385 ∷ 2 ∷ 2 ∷ []))
+    ∷ (shown (query tablesK (under (house 120 64 0 21600) (queryK 90 120))), (385 ∷ 2 ∷ 385 ∷ 2 ∷ 2 ∷ []))
+    -- T0 is listed at 100, 50 seconds before one may board: a margin of less does not see it
+    ∷ (shown (query tablesK (under (house 120 64 3600 50) lateK)), (455 ∷ 2 ∷ 455 ∷ 2 ∷ 1 ∷ []))
+    ∷ (shown (query tablesK (under (house 120 64 3600 49) lateK)), (465 ∷ 2 ∷ 465 ∷ 2 ∷ 1 ∷ []))
+    ∷ (shown (query tablesK (under (house 120 64 3600 0) lateK)), (465 ∷ 2 ∷ 465 ∷ 2 ∷ 1 ∷ []))
+    ∷ ((marginOf tablesK lateK ∷ marginOf tablesK (under (house 120 64 3600 49) lateK) ∷ []), (50 ∷ 49 ∷ []))
     ∷ []
 
 -- the filled labels, in full; records 0 to 12 are stop 0's
@@ -170,9 +216,10 @@ given l = map (λ r. r .1) l
 pub record Worked : Type 0 where
   pub paper : computed paperRows ≡ given paperRows
   pub more : computed moreRows ≡ given moreRows
+  pub settings : computed houseRows ≡ given houseRows
   pub labels : computed labelRows ≡ given labelRows
   pub scans : computed scanRows ≡ given scanRows
 
 pub worked : Worked
 unfolding changeBefore isEgress egressWalk edgesFrom fifo modeWanted usable permitted targetsFrom targetCells holdsTarget useArcFlags someTransfer skipsEdge skipsTransfer flagsInUse departuresAt markAt lineAt notBefore boardAt bestAfter improve relax resolveIn lineTripsAt resolve enqueue takeTransfers alightings transferring scanTripForward rideSegments dominated pruned passedOver boarding board scanDepartures scanStops walkFrom walkAll ridePhase stamped walkPhase idle rounds setOut access bestTarget rowTarget candidatesFrom final searchAnswer runTbr query frequencyListed earliestFreqBoard inOrder neighbours fifoLine lastIn positionIn same leadOf isLead lineOf lineTrips departuresOfLine firstNotBefore transferTo transfersOf effectiveDuration roundCount firstRun iter every first some count tabFrom insertBy sortBy keep filledFrom flatten flatMap
-worked = record { paper = refl; more = refl; labels = refl; scans = refl }
+worked = record { paper = refl; more = refl; settings = refl; labels = refl; scans = refl }

@@ -1,4 +1,4 @@
--- Plain days that exist: Timetable K, K with a pattern that skips nothing, and a day with walks. On K with the pattern the Rust itself
+-- Plain days that exist: Timetable K, K with a pattern that skips nothing, K under other settings, and a day with walks. On K with the pattern the Rust itself
 -- does not give what demand 3 asks.
 use Prim.Native.Nat.{ℕ, zero, suc, _+_, _≤_}
 use mathlib.Core.Path.{_≡_, refl, sym, ap, subst, _∙_}
@@ -16,13 +16,20 @@ use Rattle.walk_time.specs.Walk.{effectiveDuration, roundCount}
 use Rattle.line_numbers.specs.Lines.{lineOf, same, leadOf, isLead, lineTrips}
 use Rattle.departures.specs.Departures.{frequencyListed}
 use Rattle.event_transfers.specs.Transfers.{departuresOfLine, firstNotBefore, transferTo, transfersOf}
-use Rattle.model.specs.Tables.{Origin, Query, stopAt, changeBefore, edgesFrom, modeWanted, usable, permitted}
+use Rattle.model.specs.Tables.{Origin, Tables, Query, stopAt, changeBefore, edgesFrom, modeWanted, usable, permitted}
 use Rattle.model.specs.Search.{targetsFrom, targetCells, holdsTarget, useArcFlags, someTransfer, skipsEdge, skipsTransfer, flagsInUse, putOff, runTbr}
 use Rattle.model.specs.Door.{Door}
 use Rattle.model.specs.Promise.{scheduled, PlainDay, Alighting, Journey, WholeJourney, Way, Demand3}
-use Rattle.plain_days.specs.K.{timetableK, listedK, tablesK, patternK, everyCell, queryK, asks, noDelays, origin, tablesW, timetableW, listedW, queryW}
+use Rattle.plain_days.specs.K.{built, under, house, timetableK, listedK, tablesK, patternK, everyCell, queryK, asks, noDelays, origin, tablesW, timetableW, listedW, queryW}
 use Rattle.plain_days.proofs.Examples.{worked}
 use Rattle.plain_days.proofs.DayTests.{allOf, passed, allIn, among, first-or, anyIn, sortedTest, risingTest, has, doorTests, plainTests, door-holds, plain-holds, leaving}
+
+-- K built and asked under other settings: transfer time 121, one trip tried in a line, no slack, no margin
+abbrev pub queryH : Query
+queryH = under (house 121 1 0 0) (queryK 90 120)
+
+abbrev pub tablesH : Tables
+tablesH = built (timetableK 460 320 0) listedK (queryH .settings .«transfer_time») []
 
 -- THE DAYS: each passes both tests
 abbrev pub dayTests : List Bool
@@ -30,7 +37,8 @@ dayTests =
     allOf (doorTests tablesK (queryK 90 120)) ∷ allOf (plainTests tablesK (queryK 90 120))
     ∷ allOf (doorTests patternK (queryK 90 121)) ∷ allOf (plainTests patternK (queryK 90 121))
     ∷ allOf (doorTests patternK (queryK 91 60)) ∷ allOf (plainTests patternK (queryK 91 60))
-    ∷ allOf (doorTests tablesW queryW) ∷ allOf (plainTests tablesW queryW) ∷ []
+    ∷ allOf (doorTests tablesW queryW) ∷ allOf (plainTests tablesW queryW)
+    ∷ allOf (doorTests tablesH queryH) ∷ allOf (plainTests tablesH queryH) ∷ []
 
 pub days-pass : allOf dayTests ≡ true
 unfolding allOf allIn anyIn sortedTest risingTest has effectiveDuration edgesFrom targetsFrom targetCells holdsTarget useArcFlags someTransfer skipsEdge skipsTransfer flagsInUse frequencyListed same leadOf isLead lineOf lineTrips departuresOfLine firstNotBefore transferTo transfersOf iter every first some count tabFrom insertBy sortBy keep flatten
@@ -56,6 +64,13 @@ door-short = door-holds patternK (queryK 91 60) (passed dayTests days-pass 4)
 
 pub plain-short : PlainDay patternK (queryK 91 60)
 plain-short = plain-holds (timetableK 460 320 0) listedK (everyCell ∷ []) (queryK 91 60) (passed dayTests days-pass 5)
+
+-- K under other settings
+pub door-H : Door tablesH queryH
+door-H = door-holds tablesH queryH (passed dayTests days-pass 8)
+
+pub plain-H : PlainDay tablesH queryH
+plain-H = plain-holds (timetableK 460 320 0) listedK [] queryH (passed dayTests days-pass 9)
 
 -- the day with walks
 pub door-W : Door tablesW queryW
@@ -107,7 +122,7 @@ not-plain d =
     let l = r .3 in
     omega (arith, q, l)
 
--- THE RUST ON A PLAIN DAY. On K with the pattern it knows only transfers of 120 seconds.
+-- THE RUST ON A PLAIN DAY. On K with the pattern it knows only transfers of the transfer time.
 rust-total : runTbr patternK (queryK 90 121) .total ≡ 385
 rust-total = ap (λ l. getD (getD l 1 []) 0 0) (worked .more)
 

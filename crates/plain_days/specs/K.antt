@@ -17,7 +17,9 @@ use Rattle.line_numbers.specs.Lines.{lineOf, linesOf, lineTrips}
 use Rattle.departures.specs.Departures.{byDeparture, markOf}
 use Rattle.event_transfers.specs.Transfers.{builtTransfers}
 use Rattle.delay_rows.specs.Delays.{DelayTables}
-use Rattle.model.specs.Tables.{rustSettings, Tables, Origin, Query}
+use Rattle.door.specs.Settings.{defaultSettings}
+use Rattle.door.specs.declared.Settings.{Settings}
+use Rattle.model.specs.Tables.{Tables, Origin, Query}
 
 -- THE BUILT TABLES of a timetable: what the building calls make of the departures that a caller lists at each stop, after this
 -- transfer time; with these patterns over one cell, and no walk distances
@@ -91,18 +93,18 @@ listedK s = getD ((leaves 0 0 ∷ leaves 1 0 ∷ []) ∷ (leaves 0 1 ∷ leaves 
 
 -- K as the building calls make it
 abbrev pub tablesK : Tables
-tablesK = built (timetableK 460 320 0) listedK 120 []
+tablesK = built (timetableK 460 320 0) listedK (defaultSettings .«transfer_time») []
 
 -- with one pattern, which holds every stop's cell
 abbrev pub everyCell : CellBitSet
 everyCell = withCell (emptySet 1) 0
 
 abbrev pub patternK : Tables
-patternK = built (timetableK 460 320 0) listedK 120 (everyCell ∷ [])
+patternK = built (timetableK 460 320 0) listedK (defaultSettings .«transfer_time») (everyCell ∷ [])
 
 -- with T0 as a frequency trip
 abbrev pub frequentK : Tables
-frequentK = built (timetableK 460 320 1) listedK 120 []
+frequentK = built (timetableK 460 320 1) listedK (defaultSettings .«transfer_time») []
 
 -- a query: start, origins, egress, wheelchair, change time, delays, and the switch that puts arc flags off
 abbrev pub asks : ℕ → List Origin → List (ℕ × ℕ) → Bool → ℕ → DelayTables → Bool → Query
@@ -118,8 +120,29 @@ asks start origins egress wheelchair change delays off =
       transfers = 0;
       delays = delays;
       flagsOff = off;
-      settings = rustSettings;
+      settings = defaultSettings;
     }
+
+-- the same query under other settings
+abbrev pub under : Settings → Query → Query
+under S Q =
+    record {
+      start = Q .start;
+      origins = Q .origins;
+      egress = Q .egress;
+      modes = Q .modes;
+      wheelchair = Q .wheelchair;
+      change = Q .change;
+      wantedRounds = Q .wantedRounds;
+      transfers = Q .transfers;
+      delays = Q .delays;
+      flagsOff = Q .flagsOff;
+      settings = S;
+    }
+
+-- settings by their four numbers: transfer time, trips tried in a line, candidate slack, delay margin cap
+abbrev pub house : ℕ → ℕ → ℕ → ℕ → Settings
+house time scan slack cap = record { «transfer_time» = time; «line_scan» = scan; «candidate_slack» = slack; «margin_cap» = cap }
 
 -- K's query: origin 0 (10), egress 2 (5); start and change
 abbrev pub queryK : ℕ → ℕ → Query
@@ -258,7 +281,7 @@ abbrev pub listedW : ℕ → List DepartureRow
 listedW s = getD ((leaves 0 0 ∷ leaves 1 0 ∷ leaves 2 0 ∷ []) ∷ [] ∷ (leaves 3 0 ∷ leaves 4 0 ∷ []) ∷ []) s []
 
 abbrev pub tablesW : Tables
-tablesW = built timetableW listedW 120 []
+tablesW = built timetableW listedW (defaultSettings .«transfer_time») []
 
 -- a wheelchair query: the stairs take 200 seconds. Long walks lead to stops 1, 2 and 4 too. Egress 3 (5) and 4 (5), change 120.
 abbrev pub queryW : Query

@@ -7,6 +7,7 @@ use lib.ListN.{length, getD, take, drop, length-append, length-take}
 use lib.Seq.{getD-take}
 use Rattle.loops.specs.Count.{tab, upto}
 use Rattle.loops.proofs.Count.{getD-tab, length-tabFrom}
+use Rattle.door.specs.declared.Settings.{Settings}
 use Rattle.tables.specs.declared.Counts.{Counts}
 use Rattle.tables.specs.Timetable.{Timetable, timetable}
 use Rattle.sorts.specs.Orders.{All}
@@ -30,19 +31,19 @@ use Rattle.promise.proofs.Sections.{Sizes, Sections, sections}
 use Rattle.promise.proofs.Alike.{sorted-same, mark-same, lines-same, line-same, lists-same, stop-known}
 
 -- THE LINES CALL, answered: the questions' facts hold, the lines are counted, and the slices are as defined
-pub record LinesAnswered (t : List ℕ) (c : Counts) (s : LineAreas) (n : ℕ) : Type 0 where
+pub record LinesAnswered (S : Settings) (t : List ℕ) (c : Counts) (s : LineAreas) (n : ℕ) : Type 0 where
   pub facts : LinesAdmitted t c s
   pub counted : n ≡ linesOf (timetable t c)
-  pub areas : linesOutcome t c s .areas ≡ linesMade t c s
+  pub areas : linesOutcome S t c s .areas ≡ linesMade t c s
 
-lines-by : (t : List ℕ) (c : Counts) (s : LineAreas) (n v : ℕ) → linesVerdict t c (lineLengths s) ≡ v → linesSettle v t c s .answer ≡ Lines n → LinesAnswered t c s n
-lines-by t c s n zero e h =
+lines-by : (S : Settings) (t : List ℕ) (c : Counts) (s : LineAreas) (n v : ℕ) → linesVerdict S t c (lineLengths s) ≡ v → linesSettle v t c s .answer ≡ Lines n → LinesAnswered S t c s n
+lines-by S t c s n zero e h =
     let y : linesOf (timetable t c) ≡ n = cc in
-    record { facts = admitted t c s 0 (sym e) refl; counted = sym y; areas = ap (λ (v : ℕ). linesSettle v t c s .areas) e }
-lines-by t c s n (suc v) e h = let y : _≡_ {A = ℕ} 0 1 = cc in absurd (omega arith)
+    record { facts = admitted S t c s 0 (sym e) refl; counted = sym y; areas = ap (λ (v : ℕ). linesSettle v t c s .areas) e }
+lines-by S t c s n (suc v) e h = let y : _≡_ {A = ℕ} 0 1 = cc in absurd (omega arith)
 
-pub lines-answered : (t : List ℕ) (c : Counts) (s : LineAreas) (n : ℕ) → linesOutcome t c s .answer ≡ Lines n → LinesAnswered t c s n
-lines-answered t c s n h = lines-by t c s n (linesVerdict t c (lineLengths s)) refl h
+pub lines-answered : (S : Settings) (t : List ℕ) (c : Counts) (s : LineAreas) (n : ℕ) → linesOutcome S t c s .answer ≡ Lines n → LinesAnswered S t c s n
+lines-answered S t c s n h = lines-by S t c s n (linesVerdict S t c (lineLengths s)) refl h
 
 -- the runs of the lines, cut to as many as there are
 runs-room : (T : Timetable) (old : List ℕ) → linesOf T * 2 ≤ length (runsOf T old)
@@ -76,19 +77,19 @@ module _ (x : Lent) (k : Chain x) where
 
   -- what the two calls left
   abbrev pub lineOut : LineAreas
-  lineOut = linesOutcome (k .linesOn .t) (k .linesOn .c) (k .lineAreas) .areas
+  lineOut = linesOutcome (k .linesOn .settings) (k .linesOn .t) (k .linesOn .c) (k .lineAreas) .areas
 
   abbrev pub sortOut : SortAreas
-  sortOut = sortOutcome (k .sortOn .t) (k .sortOn .c) (x .n .departures) (k .stopRuns) (k .sortAreas) .areas
+  sortOut = sortOutcome (k .sortOn .settings) (k .sortOn .t) (k .sortOn .c) (x .n .departures) (k .stopRuns) (k .sortAreas) .areas
 
-  pub lines-facts : LinesAnswered (k .linesOn .t) (k .linesOn .c) (k .lineAreas) (x .n .lines)
-  lines-facts = lines-answered (k .linesOn .t) (k .linesOn .c) (k .lineAreas) (x .n .lines) (k .lines-answered)
+  pub lines-facts : LinesAnswered (k .linesOn .settings) (k .linesOn .t) (k .linesOn .c) (k .lineAreas) (x .n .lines)
+  lines-facts = lines-answered (k .linesOn .settings) (k .linesOn .t) (k .linesOn .c) (k .lineAreas) (x .n .lines) (k .lines-answered)
 
   pub sort-facts : SortAdmitted (k .sortOn .t) (k .sortOn .c) (x .n .departures) (k .stopRuns) (k .sortAreas)
-  sort-facts = answered-admitted (k .sortOn .t) (k .sortOn .c) (x .n .departures) (k .stopRuns) (k .sortAreas) (k .sorting-answered)
+  sort-facts = answered-admitted (k .sortOn .settings) (k .sortOn .t) (k .sortOn .c) (x .n .departures) (k .stopRuns) (k .sortAreas) (k .sorting-answered)
 
   pub sort-made : sortOut ≡ sortMade (k .sortOn .t) (k .sortOn .c) (x .n .departures) (k .stopRuns) (k .sortAreas .rows)
-  sort-made = answered-made (k .sortOn .t) (k .sortOn .c) (x .n .departures) (k .stopRuns) (k .sortAreas) (k .sorting-answered)
+  sort-made = answered-made (k .sortOn .settings) (k .sortOn .t) (k .sortOn .c) (x .n .departures) (k .stopRuns) (k .sortAreas) (k .sorting-answered)
 
   -- the slices of the lines call at exit
   pub out-lines : lineOut .lines ≡ tab (lineOf T1) (k .linesOn .c .trips)
@@ -138,11 +139,11 @@ module _ (x : Lent) (k : Chain x) where
       record {
         departures-built = λ s h.
             let v : s < k .sortOn .c .stops = omega (arith, k .sortOn .same .stops) in
-            departures-seen s ∙ answered-sorted (k .sortOn .t) (k .sortOn .c) (x .n .departures) (k .stopRuns) (k .sortAreas) (k .sorting-answered) s
+            departures-seen s ∙ answered-sorted (k .sortOn .settings) (k .sortOn .t) (k .sortOn .c) (x .n .departures) (k .stopRuns) (k .sortAreas) (k .sorting-answered) s
             ∙ sym (sorted-same (k .sortOn .t) (k .sortOn .c) (x .t) (x .n .timetable) (sort-facts .sane .runs) (k .sortOn .same) (callersList x k s) (callers-known s v));
         marks-built = λ s h.
             let v : s < k .sortOn .c .stops = omega (arith, k .sortOn .same .stops) in
-            cut .sixth s h ∙ answered-marked (k .sortOn .t) (k .sortOn .c) (x .n .departures) (k .stopRuns) (k .sortAreas) (k .sorting-answered) s
+            cut .sixth s h ∙ answered-marked (k .sortOn .settings) (k .sortOn .t) (k .sortOn .c) (x .n .departures) (k .stopRuns) (k .sortAreas) (k .sorting-answered) s
             ∙ sym (mark-same (k .sortOn .t) (k .sortOn .c) (x .t) (x .n .timetable) (sort-facts .sane .runs) (k .sortOn .same) (callersList x k s) (callers-known s v));
         lines-built = lines-facts .counted ∙ sym (lines-same (k .linesOn .t) (k .linesOn .c) (x .t) (x .n .timetable) (lines-facts .facts .sound .runs) (k .linesOn .same));
         line-built = λ i h.

@@ -19,6 +19,7 @@ use Rattle.query_call.specs.Call.{queryOutcome}
 use Rattle.promise.specs.Claims.{PromiseKept}
 use Rattle.promise.specs.Chain.{Chain, TransferChain, callersList, DoorElse, TransfersPass}
 use Rattle.promise.specs.Demands.{lentAnswer, Demands}
+use Rattle.promise.proofs.Unflagged.{other-transfers, other-transfers-rust}
 use Rattle.promise.proofs.Building.{chain-tables}
 use Rattle.promise.proofs.Transferred.{chain-transfers}
 use Rattle.promise.proofs.Doors.{chain-door}
@@ -67,6 +68,8 @@ the-demands =
       chain-door = chain-door;
       chain-plain = λ x k m c e. chain-plain x k c m e;
       demand3-chain = λ x s k m d c e. demand3-chain x k c s m d e;
+      other-transfers = other-transfers;
+      other-transfers-rust = other-transfers-rust;
       chain-steady = λ x k c e. chain-steady x k c e;
       steady-chain = λ x s k p d c e. steady-chain x k c s p d e;
     }

@@ -14,6 +14,7 @@ use Rattle.loops.specs.Count.{count, tabFrom}
 use Rattle.loops.proofs.Iter.{everyIn-at}
 use Rattle.sorts.specs.Sort.{insertBy, sortBy, within}
 use Rattle.sorts.specs.Orders.{keep}
+use Rattle.door.specs.Settings.{defaultSettings, settingsOk}
 use Rattle.tables.specs.declared.Counts.{Counts}
 use Rattle.tables.specs.Tables.{timeOf, tripOf, windowOf, edgeOf}
 use Rattle.tables.specs.Door.{countsOk, slicesOk, tripRuns, stopTimeNumbers, edgeNumbers, stopTimeRanges, tripRanges, windowRanges, edgeRanges, edgeRises, runsOk, numbersOk, rangesOk, orderOk}
@@ -24,7 +25,7 @@ use Rattle.lines_call.specs.Call.{lineAreas, lineSizesOk, linesVerdict, linesMa
 use Rattle.departures_call.specs.Call.{sortAreas, sortSizesOk, sortVerdict, sortedRows}
 use Rattle.event_transfers.specs.Transfers.{departuresOfLine, eventsBefore, eventsOf, firstNotBefore, runsFrom, transferTo, transfersOf, transferWords}
 use Rattle.transfers_call.specs.Call.{transferAreas, areaWith, linesOk, transfersQuestion1, transfersQuestion2, transfersQuestion3, transfersQuestion4, transfersQuestion5, transfersQuestion6, roomOk, transfersSettled, transferSizesOk, transfersVerdict}
-use Rattle.query_door.specs.Door.{writtenOk, columnBelow, queryNumbers, settingRanges, walkRanges, columnRises}
+use Rattle.query_door.specs.Door.{writtenOk, columnBelow, queryNumbers, queryRanges, walkRanges, columnRises}
 use Rattle.query_door.proofs.Examples.{tK, builtK, transfersK, qK, query, time, trip, counts}
 use Rattle.query_reply.specs.Outcome.{reply, queryLengths}
 use Rattle.query_call.specs.Call.{queryOutcome}
@@ -77,14 +78,14 @@ own-rides t c = record { stops = refl; trips = refl; times = refl; time = λ i k
 
 -- THE CALLS' OUTCOMES, one after the other, are what the query is lent
 unfoldable pub chain-K : Chain lentK
-unfolding counts tB tK builtK time trip timeOf tripOf windowOf edgeOf every iter first count tabFrom insertBy sortBy within keep flatMap countsOk slicesOk tripRuns stopTimeNumbers edgeNumbers stopTimeRanges tripRanges windowRanges edgeRanges edgeRises runsOk numbersOk rangesOk orderOk flat frequencyListed sortStop runIn stopRunsOk rowNumbers rowsOk rowAtStop stopRowsOk atStopsOk listedOk same leadOf isLead lineOf lineTrips entriesOf lineCount lineFirst runsOf lineSizesOk linesVerdict linesMade sortSizesOk sortVerdict sortedRows
+unfolding settingsOk counts tB tK builtK time trip timeOf tripOf windowOf edgeOf every iter first count tabFrom insertBy sortBy within keep flatMap countsOk slicesOk tripRuns stopTimeNumbers edgeNumbers stopTimeRanges tripRanges windowRanges edgeRanges edgeRises runsOk numbersOk rangesOk orderOk flat frequencyListed sortStop runIn stopRunsOk rowNumbers rowsOk rowAtStop stopRowsOk atStopsOk listedOk same leadOf isLead lineOf lineTrips entriesOf lineCount lineFirst runsOf lineSizesOk linesVerdict linesMade sortSizesOk sortVerdict sortedRows
 chain-K =
     record {
-      linesOn = record { t = tB; c = cB; same = same-K };
+      linesOn = record { settings = defaultSettings; t = tB; c = cB; same = same-K };
       lineAreas = lineAreas (replicate 3 9) (replicate 6 9) (replicate 3 9) (replicate 3 9) (replicate 3 9);
       lines-answered = refl;
       entries-told = refl;
-      sortOn = record { t = tK; c = cB; same = own-rides tK cB };
+      sortOn = record { settings = defaultSettings; t = tK; c = cB; same = own-rides tK cB };
       stopRuns = 0 ∷ 2 ∷ 2 ∷ 3 ∷ 5 ∷ 0 ∷ [];
       sortAreas = sortAreas (1 ∷ 0 ∷ 0 ∷ 0 ∷ 2 ∷ 0 ∷ 1 ∷ 1 ∷ 0 ∷ 1 ∷ []) (replicate 3 9) (replicate 5 9) (replicate 5 9);
       sorting-answered = refl;
@@ -94,10 +95,11 @@ chain-K =
 
 -- .. the transfers call read the departures as they came
 pub transfers-K : TransferChain lentK chain-K
-unfolding chain-K counts tB tK transfersK time trip timeOf tripOf windowOf edgeOf every iter first count tabFrom insertBy sortBy within keep flatMap flatten countsOk slicesOk tripRuns stopTimeNumbers edgeNumbers stopTimeRanges tripRanges windowRanges edgeRanges edgeRises runsOk numbersOk rangesOk orderOk flat frequencyListed sortStop runIn stopRunsOk rowNumbers rowsOk rowAtStop stopRowsOk atStopsOk listedOk same leadOf isLead lineOf lineTrips entriesOf lineCount lineFirst runsOf lineSizesOk linesVerdict linesMade sortSizesOk sortVerdict sortedRows departuresOfLine eventsBefore eventsOf firstNotBefore runsFrom transferTo transfersOf transferWords areaWith linesOk transfersQuestion1 transfersQuestion2 transfersQuestion3 transfersQuestion4 transfersQuestion5 transfersQuestion6 roomOk transfersSettled transferSizesOk transfersVerdict
+unfolding settingsOk chain-K counts tB tK transfersK time trip timeOf tripOf windowOf edgeOf every iter first count tabFrom insertBy sortBy within keep flatMap flatten countsOk slicesOk tripRuns stopTimeNumbers edgeNumbers stopTimeRanges tripRanges windowRanges edgeRanges edgeRises runsOk numbersOk rangesOk orderOk flat frequencyListed sortStop runIn stopRunsOk rowNumbers rowsOk rowAtStop stopRowsOk atStopsOk listedOk same leadOf isLead lineOf lineTrips entriesOf lineCount lineFirst runsOf lineSizesOk linesVerdict linesMade sortSizesOk sortVerdict sortedRows departuresOfLine eventsBefore eventsOf firstNotBefore runsFrom transferTo transfersOf transferWords areaWith linesOk transfersQuestion1 transfersQuestion2 transfersQuestion3 transfersQuestion4 transfersQuestion5 transfersQuestion6 roomOk transfersSettled transferSizesOk transfersVerdict
 transfers-K =
     record {
-      on = record { t = tB; c = cB; same = same-K };
+      on = record { settings = defaultSettings; t = tB; c = cB; same = same-K };
+      same-time = refl;
       rows = 1 ∷ 0 ∷ 0 ∷ 0 ∷ 2 ∷ 0 ∷ 1 ∷ 1 ∷ 0 ∷ 1 ∷ [];
       rows-are = inr refl;
       areas = transferAreas (replicate 4 9) (replicate 16 9);
@@ -108,7 +110,7 @@ transfers-K =
 
 -- what else the door asks
 door-else-K : DoorElse lentK (queryLengths areasK)
-unfolding counts query qK tK time trip every timeOf tripOf windowOf edgeOf countsOk slicesOk tripRuns stopTimeNumbers edgeNumbers stopTimeRanges tripRanges windowRanges edgeRanges edgeRises runsOk numbersOk rangesOk orderOk writtenOk columnBelow queryNumbers settingRanges walkRanges columnRises
+unfolding settingsOk counts query qK tK time trip every timeOf tripOf windowOf edgeOf countsOk slicesOk tripRuns stopTimeNumbers edgeNumbers stopTimeRanges tripRanges windowRanges edgeRanges edgeRises runsOk numbersOk rangesOk orderOk writtenOk columnBelow queryNumbers queryRanges walkRanges columnRises
 door-else-K =
     record {
       counts = refl;
@@ -118,6 +120,7 @@ door-else-K =
       stop-rows = omega arith;
       origins = omega arith;
       egress = omega arith;
+      settings = refl;
       slices = refl;
       pattern-bytes = refl;
       distances = refl;
@@ -128,7 +131,7 @@ door-else-K =
       query-numbers = refl;
       delay-numbers = refl;
       ranges = refl;
-      settings = refl;
+      query-ranges = refl;
       walks = refl;
       delay-ranges = refl;
       order = refl;
@@ -143,14 +146,14 @@ whole-K = (the-demands .demand3-chain lentK areasK chain-K transfers-K door-else
 -- A STEADY DAY (SteadyInstance `lentD`: delays, times given at single stops, a skipped stop) after the lines call and the departure sorting call alone:
 -- no transfers, and zeros for their runs
 unfoldable pub chain-D : Chain lentD
-unfolding countsD tD builtD stopTime trip timeOf tripOf windowOf edgeOf every iter first count tabFrom insertBy sortBy within keep flatMap countsOk slicesOk tripRuns stopTimeNumbers edgeNumbers stopTimeRanges tripRanges windowRanges edgeRanges edgeRises runsOk numbersOk rangesOk orderOk flat frequencyListed sortStop runIn stopRunsOk rowNumbers rowsOk rowAtStop stopRowsOk atStopsOk listedOk same leadOf isLead lineOf lineTrips entriesOf lineCount lineFirst runsOf lineSizesOk linesVerdict linesMade sortSizesOk sortVerdict sortedRows
+unfolding settingsOk countsD tD builtD stopTime trip timeOf tripOf windowOf edgeOf every iter first count tabFrom insertBy sortBy within keep flatMap countsOk slicesOk tripRuns stopTimeNumbers edgeNumbers stopTimeRanges tripRanges windowRanges edgeRanges edgeRises runsOk numbersOk rangesOk orderOk flat frequencyListed sortStop runIn stopRunsOk rowNumbers rowsOk rowAtStop stopRowsOk atStopsOk listedOk same leadOf isLead lineOf lineTrips entriesOf lineCount lineFirst runsOf lineSizesOk linesVerdict linesMade sortSizesOk sortVerdict sortedRows
 chain-D =
     record {
-      linesOn = record { t = tD; c = cB; same = own-rides tD cB };
+      linesOn = record { settings = defaultSettings; t = tD; c = cB; same = own-rides tD cB };
       lineAreas = lineAreas (replicate 3 9) (replicate 6 9) (replicate 3 9) (replicate 3 9) (replicate 3 9);
       lines-answered = refl;
       entries-told = refl;
-      sortOn = record { t = tD; c = cB; same = own-rides tD cB };
+      sortOn = record { settings = defaultSettings; t = tD; c = cB; same = own-rides tD cB };
       stopRuns = 0 ∷ 2 ∷ 2 ∷ 2 ∷ 4 ∷ 0 ∷ [];
       sortAreas = sortAreas (1 ∷ 0 ∷ 0 ∷ 0 ∷ 2 ∷ 0 ∷ 1 ∷ 1 ∷ []) (replicate 3 9) (replicate 4 9) (replicate 4 9);
       sorting-answered = refl;
@@ -168,7 +171,7 @@ unfolding chain-D countsD tD stopTime trip timeOf tripOf eventsBefore
 no-transfers-D = no-transfers-pass lentD chain-D refl refl (λ i. zeros 16 i)
 
 door-else-D : DoorElse lentD (queryLengths areasK)
-unfolding countsD qD tD stopTime trip every timeOf tripOf windowOf edgeOf countsOk slicesOk tripRuns stopTimeNumbers edgeNumbers stopTimeRanges tripRanges windowRanges edgeRanges edgeRises runsOk numbersOk rangesOk orderOk writtenOk columnBelow queryNumbers settingRanges walkRanges columnRises
+unfolding settingsOk countsD qD tD stopTime trip every timeOf tripOf windowOf edgeOf countsOk slicesOk tripRuns stopTimeNumbers edgeNumbers stopTimeRanges tripRanges windowRanges edgeRanges edgeRises runsOk numbersOk rangesOk orderOk writtenOk columnBelow queryNumbers queryRanges walkRanges columnRises
 door-else-D =
     record {
       counts = refl;
@@ -178,6 +181,7 @@ door-else-D =
       stop-rows = omega arith;
       origins = omega arith;
       egress = omega arith;
+      settings = refl;
       slices = refl;
       pattern-bytes = refl;
       distances = refl;
@@ -188,7 +192,7 @@ door-else-D =
       query-numbers = refl;
       delay-numbers = refl;
       ranges = refl;
-      settings = refl;
+      query-ranges = refl;
       walks = refl;
       delay-ranges = refl;
       order = refl;

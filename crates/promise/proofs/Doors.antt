@@ -161,6 +161,7 @@ module _ (x : Lent) (k : Chain x) where
       (ap₂ _&&_
       (ap₂ _&&_ (ap₂ _&&_ (le-leb (x .n .lines) 4096 lines-few) (le-leb (x .n .entries) 4096 entries-few)) (ap₂ _&&_ (le-leb (x .n .departures) 65536 (sort-facts x k .listed .stops .few)) (le-leb (x .n .transfers) 65536 (p .few))))
       (ap₂ _&&_ (ap₂ _&&_ (le-leb (x .n .delays) 4096 (e .delays)) (le-leb (x .n .«stop_rows») 4096 (e .stop-rows))) (ap₂ _&&_ (le-leb (x .n .origins) 64 (e .origins)) (le-leb (x .n .egress) 64 (e .egress))))))
+      (ask-yes 14 _ _ (e .settings)
       (ask-yes 2 _ _
       (ap₂ _&&_ (e .slices)
       (ap₂ _&&_
@@ -170,8 +171,8 @@ module _ (x : Lent) (k : Chain x) where
       (ask-yes 4 _ _
       (ap₂ _&&_ (ap₂ _&&_ (e .numbers) line-numbers-pass)
       (ap₂ _&&_ (listed-pass (counts-yes (x .n .timetable) (e .counts)) (slices-yes (x .t) (x .n .timetable) (e .slices)) (runs-yes (x .t) (x .n .timetable) (e .runs))) (ap₂ _&&_ (e .query-numbers) (e .delay-numbers))))
-      (ask-yes 5 _ _ (ap₂ _&&_ (ap₂ _&&_ (e .ranges) (ap₂ _&&_ mark-pass (p .times))) (ap₂ _&&_ (e .settings) (ap₂ _&&_ (e .walks) (e .delay-ranges))))
-      (ask-yes 6 _ 0 (ap₂ _&&_ (ap₂ _&&_ (e .order) order-pass) (ap₂ _&&_ (e .egress-order) (e .delay-order))) refl)))))
+      (ask-yes 5 _ _ (ap₂ _&&_ (ap₂ _&&_ (e .ranges) (ap₂ _&&_ mark-pass (p .times))) (ap₂ _&&_ (e .query-ranges) (ap₂ _&&_ (e .walks) (e .delay-ranges))))
+      (ask-yes 6 _ 0 (ap₂ _&&_ (ap₂ _&&_ (e .order) order-pass) (ap₂ _&&_ (e .egress-order) (e .delay-order))) refl))))))
     where
       lines-few : x .n .lines ≤ 4096
       lines-few = omega (arith, lines-facts x k .counted, lines-at-most (T1 x k), lines-facts x k .facts .sound .counts .trips)

@@ -1,18 +1,21 @@
 -- AN INSTANCE of demand 3's hypotheses, in one statement about what is lent: Timetable K of document 01 with Q1, as slices. The door admits
 -- them, the day that they say is a plain one, and the call's whole outcome is the answer with the total 385 at stop 2.
-use Prim.Native.Nat.{ℕ, zero, suc, _<_}
+use Prim.Native.Nat.{ℕ, zero, suc, _+_, _<_}
 use mathlib.Core.Path.{_≡_, refl, ap}
-use mathlib.Core.List.{[], _∷_, flatten}
+use mathlib.Core.Bool.{Bool, true, false, _&&_, not}
+use mathlib.Core.List.{List, [], _∷_, _++_, flatten}
 use native.Mathlib.Omega.{arith}
 use lib.ListN.{length, getD, replicate}
+use Rattle.door.specs.Settings.{settingsOk}
+use Rattle.cell_bitset.specs.CellSet.{holdsNone}
 use Rattle.label.specs.Label.{noDistance}
 use Rattle.model.specs.Tables.{Tables, Query, stops, trips, stopCount, changeBefore, isEgress, egressWalk, edgesFrom, fifo, modeWanted, usable, permitted}
 use Rattle.model.specs.Search.{targetsFrom, targetCells, holdsTarget, useArcFlags, someTransfer, skipsEdge, skipsTransfer, flagsInUse, departuresAt, markAt, lineAt, notBefore, boardAt, bestAfter, improve, relax, resolveIn, lineTripsAt, resolve, enqueue, takeTransfers, alightings, transferring, scanTripForward, rideSegments, dominated, pruned, passedOver, boarding, board, scanDepartures, scanStops, walkFrom, walkAll, ridePhase, stamped, walkPhase, idle, rounds, setOut, access, bestTarget, rowTarget, candidatesFrom, final, searchAnswer, query as thePromise}
 use Rattle.model.specs.Promise.{transferInput, scheduled, LinesBuilt, PlainDay}
 use Rattle.plain_days.proofs.DayTests.{allOf, allIn, anyIn, sortedTest, risingTest, has, plain-when}
-use Rattle.query_input.specs.Lent.{Lent, tablesOf, queryOf}
+use Rattle.query_input.specs.Lent.{Lent, tablesOf, queryOf, marksAt}
 use Rattle.departure_order.specs.Order.{notEarlier, partOrder, departureOrder}
-use Rattle.query_door.specs.Door.{queryQuestion1, readOk, writtenOk, queryQuestion2, transferRunsOk, queryQuestion3, columnBelow, lineNumbers, queryNumbers, queryQuestion4, markRanges, transferRanges, settingRanges, walkRanges, queryQuestion5, columnRises, queryQuestion6, queryVerdict}
+use Rattle.query_door.specs.Door.{queryQuestion1, readOk, writtenOk, queryQuestion2, transferRunsOk, queryQuestion3, columnBelow, lineNumbers, queryNumbers, queryQuestion4, markRanges, transferRanges, queryRanges, walkRanges, queryQuestion5, columnRises, queryQuestion6, queryVerdict}
 use Rattle.tables.specs.Door.{countsOk, slicesOk, tripRuns, stopTimeNumbers, edgeNumbers, stopTimeRanges, tripRanges, windowRanges, edgeRanges, edgeRises, runsOk, numbersOk, rangesOk, orderOk}
 use Rattle.departures.specs.Listed.{runIn, stopRunsOk, rowNumbers, rowsOk, rowAtStop, stopRowsOk, atStopsOk, listedOk}
 use Rattle.line_layout.specs.Listed.{lineRunIn, lineRunsOk, entriesOk}
@@ -30,9 +33,10 @@ use Rattle.walk_time.specs.Walk.{effectiveDuration, roundCount}
 use Rattle.line_layout.specs.Layout.{fifoLine, inOrder, neighbours, lastIn, positionIn}
 use Rattle.query_reply.specs.Outcome.{QueryAreas, queryAreas, queryLengths, QueryOutcome, reply}
 use Rattle.query_call.specs.Call.{queryOutcome}
-use Rattle.promise.specs.Claims.{PromiseKept}
+use Rattle.promise.specs.Claims.{PromiseKept, lentWith, SameButTransfers}
 use Rattle.promise.specs.Demands.{lentAnswer}
 use Rattle.promise.proofs.Demands.{demand3-query, kept}
+use Rattle.promise.proofs.Unflagged.{other-transfers}
 
 -- what is lent to be read, and the tables and the query that it says
 abbrev pub lentK : Lent
@@ -88,7 +92,7 @@ lines-three T s t l n c e departures marks line counts trips =
 
 -- what the transfers are made from
 abbrev inputK : Input
-inputK = transferInput tablesK (tablesK .departures) 120
+inputK = transferInput tablesK (tablesK .departures) (queryK .settings .«transfer_time»)
 
 -- THE DAY THAT THE SLICES SAY IS A PLAIN ONE: tables as built
 pub plain-K : PlainDay tablesK queryK
@@ -110,7 +114,7 @@ abbrev pub areasK : QueryAreas
 areasK = queryAreas (replicate 312 7) (replicate 39 noDistance) (replicate 173 7) [] [] (replicate 39 7)
 
 pub door-K : queryVerdict lentK (queryLengths areasK) ≡ 0
-unfolding counts query qK transfersK builtK tK time trip every timeOf tripOf windowOf edgeOf countsOk slicesOk tripRuns stopTimeNumbers edgeNumbers stopTimeRanges tripRanges windowRanges edgeRanges edgeRises runsOk numbersOk rangesOk orderOk runIn stopRunsOk rowNumbers rowsOk rowAtStop stopRowsOk atStopsOk listedOk lineRunIn lineRunsOk entriesOk eventsBefore queryQuestion1 readOk writtenOk queryQuestion2 transferRunsOk queryQuestion3 columnBelow lineNumbers queryNumbers queryQuestion4 markRanges transferRanges settingRanges walkRanges queryQuestion5 notEarlier partOrder departureOrder columnRises queryQuestion6 queryVerdict
+unfolding settingsOk counts query qK transfersK builtK tK time trip every timeOf tripOf windowOf edgeOf countsOk slicesOk tripRuns stopTimeNumbers edgeNumbers stopTimeRanges tripRanges windowRanges edgeRanges edgeRises runsOk numbersOk rangesOk orderOk runIn stopRunsOk rowNumbers rowsOk rowAtStop stopRowsOk atStopsOk listedOk lineRunIn lineRunsOk entriesOk eventsBefore queryQuestion1 readOk writtenOk queryQuestion2 transferRunsOk queryQuestion3 columnBelow lineNumbers queryNumbers queryQuestion4 markRanges transferRanges queryRanges walkRanges queryQuestion5 notEarlier partOrder departureOrder columnRises queryQuestion6 queryVerdict
 door-K = refl
 
 -- THE CALL ANSWERS, and its answer keeps demand 3
@@ -121,3 +125,37 @@ kept-K = kept lentK areasK (queryOutcome lentK) (lentAnswer lentK) (scheduled ta
 pub reply-K : queryOutcome lentK areasK .reply ≡ reply 0 385 2 2
 unfolding counts query qK transfersK builtK tK time trip timeOf tripOf windowOf edgeOf cellOf eventsBefore changeBefore isEgress egressWalk edgesFrom fifo modeWanted usable permitted targetsFrom targetCells holdsTarget useArcFlags someTransfer skipsEdge skipsTransfer flagsInUse departuresAt markAt lineAt notBefore boardAt bestAfter improve relax resolveIn lineTripsAt resolve enqueue takeTransfers alightings transferring scanTripForward rideSegments dominated pruned passedOver boarding board scanDepartures scanStops walkFrom walkAll ridePhase stamped walkPhase idle rounds setOut access bestTarget rowTarget candidatesFrom final searchAnswer thePromise inOrder neighbours fifoLine lastIn positionIn effectiveDuration roundCount iter every first some count tabFrom insertBy sortBy keep flatten
 reply-K = ap (λ (o : QueryOutcome). o .reply) (kept-K .answer)
+
+-- K BUILT WITH A TRANSFER TIME OF 121, where no transfer is made: zeros for the runs, no area
+unfoldable pub built121 : List ℕ
+built121 =
+    (0 ∷ 0 ∷ 1 ∷ []) ++ (0 ∷ 2 ∷ 2 ∷ 1 ∷ []) ++ (0 ∷ 1 ∷ 2 ∷ []) ++ (0 ∷ 2 ∷ 2 ∷ 3 ∷ 5 ∷ 0 ∷ [])
+    ++ (0 ∷ 0 ∷ 1 ∷ 0 ∷ 0 ∷ 1 ∷ 1 ∷ 1 ∷ 2 ∷ 0 ∷ []) ++ (0 ∷ 0 ∷ 0 ∷ []) ++ replicate 16 0
+
+pub door-121 : queryVerdict (lentWith lentK 0 built121 []) (queryLengths areasK) ≡ 0
+unfolding settingsOk counts query qK transfersK builtK built121 tK time trip every timeOf tripOf windowOf edgeOf countsOk slicesOk tripRuns stopTimeNumbers edgeNumbers stopTimeRanges tripRanges windowRanges edgeRanges edgeRises runsOk numbersOk rangesOk orderOk runIn stopRunsOk rowNumbers rowsOk rowAtStop stopRowsOk atStopsOk listedOk lineRunIn lineRunsOk entriesOk eventsBefore queryQuestion1 readOk writtenOk queryQuestion2 transferRunsOk queryQuestion3 columnBelow lineNumbers queryNumbers queryQuestion4 markRanges transferRanges queryRanges walkRanges queryQuestion5 notEarlier partOrder departureOrder columnRises queryQuestion6 queryVerdict
+door-121 = refl
+
+apart-K : SameButTransfers lentK built121
+unfolding counts builtK built121
+apart-K =
+    record {
+      line = below-three (λ (i : ℕ). getD built121 i 0 ≡ getD builtK i 0) refl refl refl;
+      line-runs = refl;
+      entries = refl;
+      stop-runs = refl;
+      departures = refl;
+      mark = below-three (λ (i : ℕ). getD built121 (marksAt (lentK .n) + i) 0 ≡ getD builtK (marksAt (lentK .n) + i) 0) refl refl refl;
+    }
+
+off-K : useArcFlags tablesK queryK ≡ false
+unfolding counts qK query useArcFlags
+off-K = no-patterns (not (holdsNone (targetCells tablesK queryK)))
+  where
+    no-patterns : (b : Bool) → (b && false) && true ≡ false
+    no-patterns true = refl
+    no-patterns false = refl
+
+-- asked with a transfer time of 120 it answers as K built with 120 does
+pub unread-K : queryOutcome (lentWith lentK 0 built121 []) areasK ≡ queryOutcome lentK areasK
+unread-K = other-transfers lentK off-K .outcome 0 built121 [] areasK apart-K door-K door-121

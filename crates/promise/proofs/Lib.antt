@@ -10,3 +10,4 @@ pub mod Chain
 pub mod Instance
 pub mod SteadyInstance
 pub mod ChainInstance
+pub mod Unflagged

@@ -93,9 +93,9 @@ module _ (x : Lent) (k : Chain x) (m : TransferChain x k) where
             let d : Transfer = record { target = 0; offset = 0; time = 0; pattern = 0 } in
             let w : i < length (allTransfers I) = omega (arith, facts .counted, rows-told) in
             let z : 2 + i * 4 ≡ i * 4 + 2 = omega arith in
-            let a : getD (x .transfers) (2 + i * 4) 0 ≡ 120 =
+            let a : getD (x .transfers) (2 + i * 4) 0 ≡ m .on .settings .«transfer_time» =
             ap₂ (λ (l : List ℕ) (j : ℕ). getD l j 0) area-is z ∙ ap (λ (r : Transfer). r .time) (area-words I (m .areas .area) d i w) ∙ all-at (Takes I) (allTransfers I) i d (all-take-time I) w in
-            lt-ltb (columnAt (x .transfers) 2 4 i) (timeLimit + 1) (omega (arith, a)));
+            lt-ltb (columnAt (x .transfers) 2 4 i) (timeLimit + 1) (omega (arith, a, facts .facts .time)));
       }
 
 -- NO TRANSFERS: a caller who makes none (a steady day needs none) lends zeros for the runs, and no transfer

@@ -6,6 +6,7 @@ use Prim.Native.Nat.{ℕ}
 use mathlib.Core.Path.{_≡_, refl, ap}
 use mathlib.Core.List.{List, [], _∷_, _++_, flatten}
 use lib.ListN.{replicate}
+use Rattle.door.specs.Settings.{defaultSettings, settingsOk}
 use Rattle.label.specs.Label.{noDistance}
 use Rattle.model.specs.Tables.{Tables, Query, changeBefore, isEgress, egressWalk, edgesFrom, fifo, modeWanted, usable, permitted}
 use Rattle.model.specs.Search.{targetsFrom, targetCells, holdsTarget, useArcFlags, someTransfer, skipsEdge, skipsTransfer, flagsInUse, departuresAt, markAt, lineAt, notBefore, boardAt, bestAfter, improve, relax, resolveIn, lineTripsAt, resolve, enqueue, takeTransfers, alightings, transferring, scanTripForward, rideSegments, dominated, pruned, passedOver, boarding, board, scanDepartures, scanStops, walkFrom, walkAll, ridePhase, stamped, walkPhase, idle, rounds, setOut, access, bestTarget, rowTarget, candidatesFrom, final, searchAnswer, query as thePromise}
@@ -13,7 +14,7 @@ use Rattle.model.specs.Promise.{effective, SteadyDay}
 use Rattle.plain_days.proofs.DayTests.{allOf, allIn, anyIn, steady-when}
 use Rattle.query_input.specs.Lent.{Lent, tablesOf, queryOf}
 use Rattle.departure_order.specs.Order.{notEarlier, partOrder, departureOrder}
-use Rattle.query_door.specs.Door.{queryQuestion1, readOk, writtenOk, queryQuestion2, transferRunsOk, queryQuestion3, columnBelow, lineNumbers, queryNumbers, queryQuestion4, markRanges, transferRanges, settingRanges, walkRanges, queryQuestion5, columnRises, queryQuestion6, queryVerdict}
+use Rattle.query_door.specs.Door.{queryQuestion1, readOk, writtenOk, queryQuestion2, transferRunsOk, queryQuestion3, columnBelow, lineNumbers, queryNumbers, queryQuestion4, markRanges, transferRanges, queryRanges, walkRanges, queryQuestion5, columnRises, queryQuestion6, queryVerdict}
 use Rattle.tables.specs.Door.{countsOk, slicesOk, tripRuns, stopTimeNumbers, edgeNumbers, stopTimeRanges, tripRanges, windowRanges, edgeRanges, edgeRises, runsOk, numbersOk, rangesOk, orderOk}
 use Rattle.departures.specs.Listed.{runIn, stopRunsOk, rowNumbers, rowsOk, rowAtStop, stopRowsOk, atStopsOk, listedOk}
 use Rattle.line_layout.specs.Listed.{lineRunIn, lineRunsOk, entriesOk}
@@ -73,6 +74,7 @@ qD =
 unfoldable pub countsD : QueryCounts
 countsD =
     record {
+      settings = defaultSettings;
       timetable = record { stops = 3; trips = 3; times = 8; windows = 0; edges = 0 };
       cells = 0;
       patterns = 0;
@@ -98,7 +100,7 @@ queryD = queryOf lentD
 
 -- THE DOOR ADMITS THE SLICES, with areas as for K; no arc flags are in use, so the halves of the queue may be empty
 pub door-D : queryVerdict lentD (queryLengths areasK) ≡ 0
-unfolding countsD qD builtD tD stopTime trip every timeOf tripOf windowOf edgeOf countsOk slicesOk tripRuns stopTimeNumbers edgeNumbers stopTimeRanges tripRanges windowRanges edgeRanges edgeRises runsOk numbersOk rangesOk orderOk runIn stopRunsOk rowNumbers rowsOk rowAtStop stopRowsOk atStopsOk listedOk lineRunIn lineRunsOk entriesOk eventsBefore queryQuestion1 readOk writtenOk queryQuestion2 transferRunsOk queryQuestion3 columnBelow lineNumbers queryNumbers queryQuestion4 markRanges transferRanges settingRanges walkRanges queryQuestion5 notEarlier partOrder departureOrder columnRises queryQuestion6 queryVerdict
+unfolding settingsOk countsD qD builtD tD stopTime trip every timeOf tripOf windowOf edgeOf countsOk slicesOk tripRuns stopTimeNumbers edgeNumbers stopTimeRanges tripRanges windowRanges edgeRanges edgeRises runsOk numbersOk rangesOk orderOk runIn stopRunsOk rowNumbers rowsOk rowAtStop stopRowsOk atStopsOk listedOk lineRunIn lineRunsOk entriesOk eventsBefore queryQuestion1 readOk writtenOk queryQuestion2 transferRunsOk queryQuestion3 columnBelow lineNumbers queryNumbers queryQuestion4 markRanges transferRanges queryRanges walkRanges queryQuestion5 notEarlier partOrder departureOrder columnRises queryQuestion6 queryVerdict
 door-D = refl
 
 -- THE DAY THAT THE SLICES SAY IS A STEADY ONE: lines, departures and marks as built, from the departures as they are listed

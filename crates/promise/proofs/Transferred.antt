@@ -20,7 +20,6 @@ use Rattle.departures_call.proofs.Laws.{answered-sorted}
 use Rattle.event_transfers.specs.Transfers.{Input, departuresOfLine, builtTransfers, eventsBefore, transfersAt}
 use Rattle.transfers_call.specs.Call.{TransferAreas, inputOf, transfersOutcome}
 use Rattle.transfers_call.proofs.Laws.{Answered, answered, answered-transfers}
-use Rattle.model.specs.Tables.{rustSettings}
 use Rattle.model.specs.Promise.{transferInput, TransfersBuilt}
 use Rattle.query_input.specs.Lent.{Lent, tablesOf, transferRunAt, transferRunsAt}
 use Rattle.promise.specs.Chain.{Chain, TransferChain, callersList, lentOn}
@@ -50,7 +49,7 @@ module _ (x : Lent) (k : Chain x) (m : TransferChain x k) where
   reads rows = inputOf (lentOn x k (m .on) rows)
 
   abbrev says : Input
-  says = transferInput (tablesOf x) (callersList x k) (rustSettings .transferTime)
+  says = transferInput (tablesOf x) (callersList x k) (x .n .settings .«transfer_time»)
 
   -- a row of the caller's list departs alike in all three timetables
   module _ (y : DepartureRow) (q : RowKnown (k .sortOn .t) (k .sortOn .c) y) where
@@ -83,7 +82,7 @@ module _ (x : Lent) (k : Chain x) (m : TransferChain x k) where
       (λ (a : rows ≡ sortOut x k .rows).
       sym (ap (λ (r : List ℕ). byDeparture T3 (keep (ofLine r) (listedAt (k .stopRuns) r s))) a
       ∙ ap (λ (l : List DepartureRow). byDeparture T3 (keep (ofLine []) l))
-      (answered-sorted (k .sortOn .t) (k .sortOn .c) (x .n .departures) (k .stopRuns) (k .sortAreas) (k .sorting-answered) s ∙ sorted-read s h)
+      (answered-sorted (k .sortOn .settings) (k .sortOn .t) (k .sortOn .c) (x .n .departures) (k .stopRuns) (k .sortAreas) (k .sorting-answered) s ∙ sorted-read s h)
       ∙ line-sorted (rowDeparture T3) (ofLine []) (callersList x k s)))
       (λ (b : rows ≡ k .sortAreas .rows). ap (λ (r : List ℕ). byDeparture T3 (keep (ofLine r) (listedAt (k .stopRuns) r s))) (sym b))
       e
@@ -114,7 +113,7 @@ module _ (x : Lent) (k : Chain x) (m : TransferChain x k) where
       ∙ answered-transfers (lentOn x k (m .on) (m .rows)) (m .areas) (x .n .transfers) (m .transfers-answered) i o h u
 
   -- TRANSFERS AS BUILT, of the query's own timetable and from the caller's list
-  pub chain-transfers : TransfersBuilt (tablesOf x) (callersList x k) (rustSettings .transferTime)
+  pub chain-transfers : TransfersBuilt (tablesOf x) (callersList x k) (x .n .settings .«transfer_time»)
   chain-transfers =
       record {
         transfers-built = λ i o h u.
@@ -124,7 +123,7 @@ module _ (x : Lent) (k : Chain x) (m : TransferChain x k) where
             let q : s < m .on .c .stops = sound .numbers .stop (firstOf (m .on .t) (m .on .c) i + o) (omega (arith, sound .runs .run i v)) in
             let z : s < k .sortOn .c .stops = omega (arith, q, m .on .same .stops, k .sortOn .same .stops) in
             seen i o v w
-            ∙ sym (built-alike says (reads (m .rows)) i o (time-same (m .on .t) (m .on .c) (x .t) (x .n .timetable) (sound .runs) (m .on .same) i o v w) refl refl
+            ∙ sym (built-alike says (reads (m .rows)) i o (time-same (m .on .t) (m .on .c) (x .t) (x .n .timetable) (sound .runs) (m .on .same) i o v w) refl (sym (m .same-time))
             (λ line. line-alike says (reads (k .sortAreas .rows)) s refl (says-alike s z) line ∙ rows-alike (m .rows) (m .rows-are) s line z)
             (λ line. subst (λ (l : List DepartureRow). All (λ r. rowDeparture (Y x k) r ≡ rowDeparture T3 r) l) (rows-alike (m .rows) (m .rows-are) s line z)
             (all-alike says (reads (k .sortAreas .rows)) s refl (says-alike s z) line)));

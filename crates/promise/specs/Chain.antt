@@ -8,6 +8,8 @@ use mathlib.Core.Logic.{_⊎_}
 use mathlib.Core.List.{List, _++_}
 use mathlib.Core.Bool.{true}
 use lib.ListN.{take, length}
+use Rattle.door.specs.Settings.{settingsOk}
+use Rattle.door.specs.declared.Settings.{Settings}
 use Rattle.tables.specs.declared.Counts.{Counts}
 use Rattle.tables.specs.Tables.{timeOf, tripOf}
 use Rattle.tables.specs.Door.{countsOk, slicesOk, runsOk, numbersOk, rangesOk, orderOk}
@@ -19,10 +21,9 @@ use Rattle.lines_call.specs.declared.Grouped.the-variants.{Lines}
 use Rattle.departures_call.specs.Call.{SortAreas, sortOutcome}
 use Rattle.transfers_call.specs.Call.{TransferLent, transferLent, TransferAreas, transfersOutcome}
 use Rattle.transfers_call.specs.declared.Built.the-variants.{Rows}
-use Rattle.model.specs.Tables.{rustSettings}
 use Rattle.query_types.specs.declared.Lengths.{Lengths}
 use Rattle.query_input.specs.Lent.{Lent, eventCount, querySize, transferRows, delaysOf}
-use Rattle.query_door.specs.Door.{writtenOk, transferRunsOk, queryNumbers, transferRanges, settingRanges, walkRanges, egressOrder}
+use Rattle.query_door.specs.Door.{writtenOk, transferRunsOk, queryNumbers, transferRanges, queryRanges, walkRanges, egressOrder}
 
 -- TWO SLICES SAY THE SAME RIDES: the same counts of stops, trips and stop times, every stop time, and of each trip all words but "active" and
 -- "excluded" (fields 6 and 7), which may change from query to query. Windows, walk edges and cells are free.
@@ -33,8 +34,9 @@ pub record SameRides (t : List ℕ) (c : Counts) (t' : List ℕ) (c' : Counts) :
   pub time : (i k : ℕ) → i < c .times → k < 6 → timeOf t' i k ≡ timeOf t i k
   pub trip : (i k : ℕ) → i < c .trips → k < 6 → tripOf t' c' i k ≡ tripOf t c i k
 
--- a timetable slice with its counts that says the rides of the query's: what a building call was lent
+-- what a building call was lent: settings, and a timetable slice with its counts that says the rides of the query's
 pub record RidesLent (x : Lent) : Type 0 where
+  pub settings : Settings
   pub t : List ℕ
   pub c : Counts
   pub same : SameRides t c (x .t) (x .n .timetable)
@@ -48,34 +50,35 @@ pub record Chain (x : Lent) : Type 0 where
   -- the lines call answered with so many lines as the query is told
   pub linesOn : RidesLent x
   pub lineAreas : LineAreas
-  pub lines-answered : linesOutcome (linesOn .t) (linesOn .c) lineAreas .answer ≡ Lines (x .n .lines)
+  pub lines-answered : linesOutcome (linesOn .settings) (linesOn .t) (linesOn .c) lineAreas .answer ≡ Lines (x .n .lines)
   pub entries-told : x .n .entries ≡ x .n .timetable .trips
   -- the departure sorting call answered 0
   pub sortOn : RidesLent x
   pub stopRuns : List ℕ
   pub sortAreas : SortAreas
-  pub sorting-answered : sortOutcome (sortOn .t) (sortOn .c) (x .n .departures) stopRuns sortAreas .answer ≡ 0
+  pub sorting-answered : sortOutcome (sortOn .settings) (sortOn .t) (sortOn .c) (x .n .departures) stopRuns sortAreas .answer ≡ 0
   -- what they left, one after the other, is what the query is lent; then come the transfer runs
   pub rest : List ℕ
-  pub lent-built : x .built ≡ chained (x .n .lines) (linesOutcome (linesOn .t) (linesOn .c) lineAreas .areas) stopRuns
-      (sortOutcome (sortOn .t) (sortOn .c) (x .n .departures) stopRuns sortAreas .areas) rest
+  pub lent-built : x .built ≡ chained (x .n .lines) (linesOutcome (linesOn .settings) (linesOn .t) (linesOn .c) lineAreas .areas) stopRuns
+      (sortOutcome (sortOn .settings) (sortOn .t) (sortOn .c) (x .n .departures) stopRuns sortAreas .areas) rest
 
 -- the caller's list of departures for each stop: what was lent to the departure sorting call
 abbrev pub callersList : (x : Lent) → Chain x → ℕ → List DepartureRow
 callersList x k = listedAt (k .stopRuns) (k .sortAreas .rows)
 
--- what the transfers call is lent: a timetable, the lines as the lines call left them, the departures in these rows, and 120 seconds
+-- what the transfers call is lent: settings, a timetable, the lines as the lines call left them, the departures in these rows
 abbrev pub lentOn : (x : Lent) → Chain x → RidesLent x → List ℕ → TransferLent
 lentOn x k r rows =
-    transferLent (r .t) (r .c) (x .n .lines) (linesOutcome (k .linesOn .t) (k .linesOn .c) (k .lineAreas) .areas .lines)
-    (x .n .departures) (k .stopRuns) rows
-    (rustSettings .transferTime)
+    transferLent (r .settings) (r .t) (r .c) (x .n .lines)
+    (linesOutcome (k .linesOn .settings) (k .linesOn .t) (k .linesOn .c) (k .lineAreas) .areas .lines) (x .n .departures) (k .stopRuns) rows
 
--- .. AND THE TRANSFERS CALL: it was lent the rows as sorted, or as they came; its area and its runs are what the query is lent
+-- .. AND THE TRANSFERS CALL: it got the query's transfer time, and was lent the rows as sorted, or as they came; its area and its runs are what
+-- the query is lent
 pub record TransferChain (x : Lent) (k : Chain x) : Type 0 where
   pub on : RidesLent x
+  pub same-time : on .settings .«transfer_time» ≡ x .n .settings .«transfer_time»
   pub rows : List ℕ
-  pub rows-are : (rows ≡ sortOutcome (k .sortOn .t) (k .sortOn .c) (x .n .departures) (k .stopRuns) (k .sortAreas) .areas .rows)
+  pub rows-are : (rows ≡ sortOutcome (k .sortOn .settings) (k .sortOn .t) (k .sortOn .c) (x .n .departures) (k .stopRuns) (k .sortAreas) .areas .rows)
       ⊎ (rows ≡ k .sortAreas .rows)
   pub areas : TransferAreas
   pub transfers-answered : transfersOutcome (lentOn x k on rows) areas .answer ≡ Rows (x .n .transfers)
@@ -92,6 +95,8 @@ pub record DoorElse (x : Lent) (l : Lengths) : Type 0 where
   pub stop-rows : x .n .«stop_rows» ≤ 4096
   pub origins : x .n .origins ≤ 64
   pub egress : x .n .egress ≤ 64
+  -- 14
+  pub settings : settingsOk (x .n .settings) ≡ true
   -- 2
   pub slices : slicesOk (x .t) (x .n .timetable) ≡ true
   pub pattern-bytes : length (x .patterns) ≡ x .n .patterns * 64
@@ -106,7 +111,7 @@ pub record DoorElse (x : Lent) (l : Lengths) : Type 0 where
   pub delay-numbers : delayNumbers (x .n .timetable .trips) (delaysOf (x .q) (x .n)) ≡ true
   -- 5
   pub ranges : rangesOk (x .t) (x .n .timetable) ≡ true
-  pub settings : settingRanges (x .q) ≡ true
+  pub query-ranges : queryRanges (x .q) ≡ true
   pub walks : walkRanges (x .q) (x .n) ≡ true
   pub delay-ranges : delayRanges (delaysOf (x .q) (x .n)) ≡ true
   -- 6

@@ -1,17 +1,18 @@
 -- THE CLAIMS for a call, over all that is lent and all areas: `o` is the call's outcome and `a` the answer that the definitions give. Which calls
 -- and which days they are made of, Demands says. Definitions only.
-use Prim.Native.Nat.{ℕ, suc, _/_, _≤_, _<_}
+use Prim.Native.Nat.{ℕ, suc, _+_, _/_, _≤_, _<_}
 use mathlib.Core.Path.{_≡_}
 use mathlib.Core.Logic.{_⊎_}
 use mathlib.Core.Bool.{Bool, false}
-use mathlib.Core.List.{List·Memᴰ}
-use lib.ListN.{length}
+use mathlib.Core.List.{List, List·Memᴰ}
+use lib.ListN.{length, getD}
 use Rattle.model.specs.Search.{SearchAnswer}
 use Rattle.answer_laws.specs.Lawful.{Lawful}
 use Rattle.joined.specs.Joined.{Joined, JoinedByDeparture}
 use Rattle.answer_laws.specs.Queue.{NoFrequency, allStopTimes}
 use Rattle.model.specs.Promise.{TripTimes, Demand3, Pareto}
-use Rattle.query_input.specs.Lent.{Lent, tablesOf, queryOf}
+use Rattle.query_types.specs.declared.QueryCounts.{QueryCounts}
+use Rattle.query_input.specs.Lent.{Lent, tablesOf, queryOf, lineRuns, lineEntries, stopRuns, departureRows, marksAt}
 use Rattle.query_door.specs.Door.{queryVerdict}
 use Rattle.query_reply.specs.Outcome.{QueryAreas, QueryOutcome, queryLengths, refused, overflown, answered}
 
@@ -58,3 +59,40 @@ pub record PromiseKept (x : Lent) (s : QueryAreas) (o : QueryAreas → QueryOutc
   pub answer : o s ≡ answered a s
   pub demand3 : Demand3 (tablesOf x) (queryOf x) W a
   pub pareto : Pareto (tablesOf x) (queryOf x) W a
+
+-- THE SAME QUERY WITH OTHER TRANSFERS: so many, in this area, their runs at the end of this slice of what was built
+abbrev pub recounted : QueryCounts → ℕ → QueryCounts
+recounted n transfers =
+    record {
+      settings = n .settings;
+      timetable = n .timetable;
+      cells = n .cells;
+      patterns = n .patterns;
+      lines = n .lines;
+      entries = n .entries;
+      departures = n .departures;
+      transfers = transfers;
+      delays = n .delays;
+      «stop_rows» = n .«stop_rows»;
+      origins = n .origins;
+      egress = n .egress;
+    }
+
+abbrev pub lentWith : Lent → ℕ → List ℕ → List ℕ → Lent
+lentWith x transfers built area =
+    record { n = recounted (x .n) transfers; t = x .t; built = built; transfers = area; patterns = x .patterns; distances = x .distances; q = x .q }
+
+-- that slice says the same of lines, departures and marks
+pub record SameButTransfers (x : Lent) (built : List ℕ) : Type 0 where
+  pub line : (i : ℕ) → i < x .n .timetable .trips → getD built i 0 ≡ getD (x .built) i 0
+  pub line-runs : lineRuns built (x .n) ≡ lineRuns (x .built) (x .n)
+  pub entries : lineEntries built (x .n) ≡ lineEntries (x .built) (x .n)
+  pub stop-runs : stopRuns built (x .n) ≡ stopRuns (x .built) (x .n)
+  pub departures : departureRows built (x .n) ≡ departureRows (x .built) (x .n)
+  pub mark : (s : ℕ) → s < x .n .timetable .stops → getD built (marksAt (x .n) + s) 0 ≡ getD (x .built) (marksAt (x .n) + s) 0
+
+-- NO TRANSFER IS READ: where the door admits both, a call whose outcomes these are leaves the same
+pub record TransfersUnread (x : Lent) (o : Lent → QueryAreas → QueryOutcome) : Type 0 where
+  pub outcome : (transfers : ℕ) (built area : List ℕ) (s : QueryAreas) → SameButTransfers x built
+      → queryVerdict x (queryLengths s) ≡ 0 → queryVerdict (lentWith x transfers built area) (queryLengths s) ≡ 0
+      → o (lentWith x transfers built area) s ≡ o x s

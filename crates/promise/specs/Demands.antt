@@ -4,7 +4,6 @@
 -- and write with the outcomes named here. Definitions only.
 use mathlib.Core.Path.{_≡_}
 use mathlib.Core.Bool.{false}
-use Rattle.model.specs.Tables.{rustSettings}
 use Rattle.model.specs.Search.{SearchAnswer, useArcFlags, flagsInUse, runTbr, query}
 use Rattle.model.specs.Promise.{scheduled, effective, LinesBuilt, TransfersBuilt, CalmConditions, PlainConditions, PlainDay, SteadyConditions}
 use Rattle.model.specs.Promise.{SteadyDay}
@@ -13,7 +12,7 @@ use Rattle.query_input.specs.Lent.{Lent, tablesOf, queryOf}
 use Rattle.query_door.specs.Door.{queryVerdict}
 use Rattle.query_reply.specs.Outcome.{QueryAreas, queryLengths}
 use Rattle.query_call.specs.Call.{runTbrOutcome, queryOutcome}
-use Rattle.promise.specs.Claims.{DoorMet, NeverFull, LawsMet, PromiseMet, PromiseKept}
+use Rattle.promise.specs.Claims.{DoorMet, NeverFull, LawsMet, PromiseMet, PromiseKept, TransfersUnread}
 use Rattle.promise.specs.Chain.{Chain, TransferChain, callersList, DoorElse, TransfersPass}
 
 -- the answers that the definitions give to what is lent: the query's, and the Rust's
@@ -43,7 +42,8 @@ pub record Demands : Type 0 where
       → PromiseMet x (runTbrOutcome x) (rustAnswerOf x) (effective (tablesOf x) (queryOf x))
   -- THE CHAIN: what the building calls left is as a day asks, of the query's own timetable and from the caller's list
   pub chain-tables : (x : Lent) (k : Chain x) → LinesBuilt (tablesOf x) (callersList x k)
-  pub chain-transfers : (x : Lent) (k : Chain x) → TransferChain x k → TransfersBuilt (tablesOf x) (callersList x k) (rustSettings .transferTime)
+  pub chain-transfers : (x : Lent) (k : Chain x) → TransferChain x k
+      → TransfersBuilt (tablesOf x) (callersList x k) (x .n .settings .«transfer_time»)
   -- the query's door has nothing left to ask of it
   pub chain-pass : (x : Lent) (k : Chain x) → TransferChain x k → TransfersPass x (k .rest)
   pub chain-door : (x : Lent) (k : Chain x) (l : Lengths) → TransfersPass x (k .rest) → DoorElse x l → queryVerdict x l ≡ 0
@@ -53,6 +53,9 @@ pub record Demands : Type 0 where
   pub demand3-chain : (x : Lent) (s : QueryAreas) (k : Chain x) → TransferChain x k → DoorElse x (queryLengths s)
       → CalmConditions (tablesOf x) (queryOf x) → PlainConditions (tablesOf x) (queryOf x)
       → PromiseKept x s (queryOutcome x) (lentAnswer x) (scheduled (tablesOf x))
+  -- with arc flags off no transfer is read: transfers built with another transfer time, or none, change nothing
+  pub other-transfers : (x : Lent) → useArcFlags (tablesOf x) (queryOf x) ≡ false → TransfersUnread x queryOutcome
+  pub other-transfers-rust : (x : Lent) → useArcFlags (tablesOf x) (queryOf x) ≡ false → TransfersUnread x runTbrOutcome
   -- on a steady day the transfers call is not needed: any transfers will do that the door admits, or none
   pub chain-steady : (x : Lent) → Chain x → CalmConditions (tablesOf x) (queryOf x) → SteadyConditions (tablesOf x) (queryOf x)
       → SteadyDay (tablesOf x) (queryOf x)

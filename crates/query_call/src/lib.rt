@@ -33,8 +33,9 @@ use query_types::QueryCounts;
 pub fn workspace(counts: QueryCounts) -> Answer
     ensures { λ r. ⌜ r ≡ workspaceAnswer counts ⌝ }
 {
-    if !query_door::counts_ok(counts) {
-        return door::refused(1);
+    let v = door::limits(query_door::counts_ok(counts), counts.settings);
+    if v != 0 {
+        return door::refused(v);
     }
     door::given(query_door::work_size(counts) as u32)
 }

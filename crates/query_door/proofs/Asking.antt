@@ -3,7 +3,9 @@ use Prim.Native.Nat.{ℕ}
 use mathlib.Core.Path.{_≡_, refl}
 use mathlib.Core.Bool.{Bool, true, false}
 use lib.ListN.{length}
-use Rattle.door.proofs.Laws.{ask-no, ask-on}
+use Rattle.door.specs.Door.{ask}
+use Rattle.door.specs.Settings.{settingsOk}
+use Rattle.door.proofs.Laws.{Within, not-within, ask-no, ask-on, ask-past}
 use Rattle.query_types.specs.declared.Lengths.{Lengths}
 use Rattle.query_input.specs.Lent.{transferRows, Lent}
 use Rattle.query_door.specs.Door.{queryQuestion1, queryQuestion2, queryQuestion3, queryQuestion4, queryQuestion5, queryQuestion6, queryVerdict}
@@ -30,30 +32,34 @@ module _ (x : Lent) (l : Lengths) where
   abbrev q6 : Bool
   q6 = queryQuestion6 (x .t) (x .built) (x .q) (x .n)
 
-  pub no1 : q1 ≡ false → 1 ≡ queryVerdict x l
-  unfolding queryVerdict
-  no1 e = ask-no 1 q1 _ e
+  -- 1 and 14 are answered yes
+  abbrev pub FirstYes : Type 0
+  FirstYes = Within q1 (settingsOk (x .n .settings))
 
-  pub no2 : q1 ≡ true → q2 ≡ false → 2 ≡ queryVerdict x l
+  pub no1 : {v : ℕ} {q : Bool} → v ≡ ask 1 q (ask 14 (settingsOk (x .n .settings)) 0) → q ≡ q1 → (v ≡ 0 → ⊥) → v ≡ queryVerdict x l
   unfolding queryVerdict
-  no2 a e = ask-on 1 q1 a (ask-no 2 q2 _ e)
+  no1 e f h = not-within (settingsOk (x .n .settings)) _ e f h
 
-  pub no3 : q1 ≡ true → q2 ≡ true → q3 ≡ false → 3 ≡ queryVerdict x l
+  pub no2 : FirstYes → q2 ≡ false → 2 ≡ queryVerdict x l
   unfolding queryVerdict
-  no3 a b e = ask-on 1 q1 a (ask-on 2 q2 b (ask-no 3 q3 _ e))
+  no2 a e = ask-past a (ask-no 2 q2 _ e)
 
-  pub no4 : q1 ≡ true → q2 ≡ true → q3 ≡ true → q4 ≡ false → 4 ≡ queryVerdict x l
+  pub no3 : FirstYes → q2 ≡ true → q3 ≡ false → 3 ≡ queryVerdict x l
   unfolding queryVerdict
-  no4 a b c e = ask-on 1 q1 a (ask-on 2 q2 b (ask-on 3 q3 c (ask-no 4 q4 _ e)))
+  no3 a b e = ask-past a (ask-on 2 q2 b (ask-no 3 q3 _ e))
 
-  pub no5 : q1 ≡ true → q2 ≡ true → q3 ≡ true → q4 ≡ true → q5 ≡ false → 5 ≡ queryVerdict x l
+  pub no4 : FirstYes → q2 ≡ true → q3 ≡ true → q4 ≡ false → 4 ≡ queryVerdict x l
   unfolding queryVerdict
-  no5 a b c d e = ask-on 1 q1 a (ask-on 2 q2 b (ask-on 3 q3 c (ask-on 4 q4 d (ask-no 5 q5 _ e))))
+  no4 a b c e = ask-past a (ask-on 2 q2 b (ask-on 3 q3 c (ask-no 4 q4 _ e)))
 
-  pub no6 : q1 ≡ true → q2 ≡ true → q3 ≡ true → q4 ≡ true → q5 ≡ true → q6 ≡ false → 6 ≡ queryVerdict x l
+  pub no5 : FirstYes → q2 ≡ true → q3 ≡ true → q4 ≡ true → q5 ≡ false → 5 ≡ queryVerdict x l
   unfolding queryVerdict
-  no6 a b c d f e = ask-on 1 q1 a (ask-on 2 q2 b (ask-on 3 q3 c (ask-on 4 q4 d (ask-on 5 q5 f (ask-no 6 q6 _ e)))))
+  no5 a b c d e = ask-past a (ask-on 2 q2 b (ask-on 3 q3 c (ask-on 4 q4 d (ask-no 5 q5 _ e))))
 
-  pub yes : q1 ≡ true → q2 ≡ true → q3 ≡ true → q4 ≡ true → q5 ≡ true → q6 ≡ true → 0 ≡ queryVerdict x l
+  pub no6 : FirstYes → q2 ≡ true → q3 ≡ true → q4 ≡ true → q5 ≡ true → q6 ≡ false → 6 ≡ queryVerdict x l
   unfolding queryVerdict
-  yes a b c d f e = ask-on 1 q1 a (ask-on 2 q2 b (ask-on 3 q3 c (ask-on 4 q4 d (ask-on 5 q5 f (ask-on 6 q6 e refl)))))
+  no6 a b c d f e = ask-past a (ask-on 2 q2 b (ask-on 3 q3 c (ask-on 4 q4 d (ask-on 5 q5 f (ask-no 6 q6 _ e)))))
+
+  pub yes : FirstYes → q2 ≡ true → q3 ≡ true → q4 ≡ true → q5 ≡ true → q6 ≡ true → 0 ≡ queryVerdict x l
+  unfolding queryVerdict
+  yes a b c d f e = ask-past a (ask-on 2 q2 b (ask-on 3 q3 c (ask-on 4 q4 d (ask-on 5 q5 f (ask-on 6 q6 e refl)))))

@@ -10,10 +10,13 @@ use Rattle.tables.specs.Door.{countsOk, slicesOk, tripRuns, stopTimeNumbers, ed
 use Rattle.departures.specs.Listed.{runIn, stopRunsOk, rowNumbers, rowsOk, rowAtStop, stopRowsOk, atStopsOk, listedOk}
 use Rattle.line_layout.specs.Listed.{lineRunIn, lineRunsOk, entriesOk}
 use Rattle.event_transfers.specs.Transfers.{eventsBefore}
+use Rattle.door.specs.Settings.{defaultSettings, settingsOk}
+use Rattle.door.specs.declared.Settings.{Settings}
+use Rattle.door.proofs.House.{noTripTried}
 use Rattle.query_types.specs.declared.QueryCounts.{QueryCounts}
 use Rattle.query_types.specs.declared.Lengths.{Lengths}
 use Rattle.departure_order.specs.Order.{notEarlier, partOrder, departureOrder}
-use Rattle.query_door.specs.Door.{queryQuestion1, readOk, writtenOk, queryQuestion2, transferRunsOk, queryQuestion3, columnBelow, lineNumbers, queryNumbers, queryQuestion4, markRanges, transferRanges, settingRanges, walkRanges, queryQuestion5, columnRises, queryQuestion6, queryVerdict}
+use Rattle.query_door.specs.Door.{queryQuestion1, readOk, writtenOk, queryQuestion2, transferRunsOk, queryQuestion3, columnBelow, lineNumbers, queryNumbers, queryQuestion4, markRanges, transferRanges, queryRanges, walkRanges, queryQuestion5, columnRises, queryQuestion6, queryVerdict}
 
 -- a stop time: stop, arrival, departure; a trip: first stop time, count
 unfoldable pub time : ℕ → ℕ → ℕ → List ℕ
@@ -51,10 +54,11 @@ query egress delays = (90 ∷ 120 ∷ 0 ∷ 0 ∷ 0 ∷ 0 ∷ 0 ∷ []) ++ (0 �
 unfoldable pub qK : List ℕ
 qK = query (2 ∷ 5 ∷ []) []
 
--- so many lines, egress stops, delay rows
-unfoldable pub counts : ℕ → ℕ → ℕ → QueryCounts
-counts lines egress delays =
+-- settings, so many lines, egress stops, delay rows
+abbrev countsUnder : Settings → ℕ → ℕ → ℕ → QueryCounts
+countsUnder S lines egress delays =
     record {
+      settings = S;
       timetable = record { stops = 3; trips = 3; times = 8; windows = 0; edges = 0 };
       cells = 0;
       patterns = 0;
@@ -67,6 +71,9 @@ counts lines egress delays =
       origins = 1;
       egress = egress;
     }
+
+unfoldable pub counts : ℕ → ℕ → ℕ → QueryCounts
+counts lines egress delays = countsUnder defaultSettings lines egress delays
 
 -- the lengths of what is written, with these halves of the queue
 unfoldable pub lengths : ℕ → ℕ → Lengths
@@ -96,6 +103,9 @@ verdicts =
     ∷ withArea (transfersK ++ (9 ∷ 9 ∷ []))
     ∷ asked (counts 2 2 0) tK builtK transfersK (query (1 ∷ 5 ∷ 2 ∷ 5 ∷ []) []) (lengths 40 40)
     ∷ asked (counts 2 1 2) tK builtK transfersK (query (2 ∷ 5 ∷ []) (4294967295 ∷ 0 ∷ 4294967295 ∷ 0 ∷ [])) (lengths 0 0)
+    -- 14: a setting out of its range, before unequal halves and after too many lines
+    ∷ asked (countsUnder noTripTried 2 1 0) tK builtK transfersK qK (lengths 40 44)
+    ∷ asked (countsUnder noTripTried 4097 1 0) tK builtK transfersK qK (lengths 40 44)
     -- 1: too many lines. 2: unequal halves; a number too many; one too few
     ∷ asked (counts 4097 1 0) tK builtK transfersK qK (lengths 40 40)
     ∷ asked (counts 2 1 0) tK builtK transfersK qK (lengths 40 44)
@@ -130,6 +140,6 @@ verdicts =
 
 pub doorK :
     verdicts
-    ≡ 0 ∷ 0 ∷ 0 ∷ 0 ∷ 1 ∷ 2 ∷ 2 ∷ 2 ∷ 3 ∷ 3 ∷ 3 ∷ 3 ∷ 4 ∷ 4 ∷ 4 ∷ 4 ∷ 4 ∷ 4 ∷ 5 ∷ 5 ∷ 5 ∷ 5 ∷ 5 ∷ 5 ∷ 5 ∷ 5 ∷ 6 ∷ 6 ∷ 6 ∷ []
-unfolding verdicts withT withBuilt withQuery withArea asked counts lengths query qK transfersK builtK tK time trip every timeOf tripOf windowOf edgeOf countsOk slicesOk tripRuns stopTimeNumbers edgeNumbers stopTimeRanges tripRanges windowRanges edgeRanges edgeRises runsOk numbersOk rangesOk orderOk runIn stopRunsOk rowNumbers rowsOk rowAtStop stopRowsOk atStopsOk listedOk lineRunIn lineRunsOk entriesOk eventsBefore queryQuestion1 readOk writtenOk queryQuestion2 transferRunsOk queryQuestion3 columnBelow lineNumbers queryNumbers queryQuestion4 markRanges transferRanges settingRanges walkRanges queryQuestion5 notEarlier partOrder departureOrder columnRises queryQuestion6 queryVerdict
+    ≡ 0 ∷ 0 ∷ 0 ∷ 0 ∷ 14 ∷ 1 ∷ 1 ∷ 2 ∷ 2 ∷ 2 ∷ 3 ∷ 3 ∷ 3 ∷ 3 ∷ 4 ∷ 4 ∷ 4 ∷ 4 ∷ 4 ∷ 4 ∷ 5 ∷ 5 ∷ 5 ∷ 5 ∷ 5 ∷ 5 ∷ 5 ∷ 5 ∷ 6 ∷ 6 ∷ 6 ∷ []
+unfolding settingsOk verdicts withT withBuilt withQuery withArea asked counts lengths query qK transfersK builtK tK time trip every timeOf tripOf windowOf edgeOf countsOk slicesOk tripRuns stopTimeNumbers edgeNumbers stopTimeRanges tripRanges windowRanges edgeRanges edgeRises runsOk numbersOk rangesOk orderOk runIn stopRunsOk rowNumbers rowsOk rowAtStop stopRowsOk atStopsOk listedOk lineRunIn lineRunsOk entriesOk eventsBefore queryQuestion1 readOk writtenOk queryQuestion2 transferRunsOk queryQuestion3 columnBelow lineNumbers queryNumbers queryQuestion4 markRanges transferRanges queryRanges walkRanges queryQuestion5 notEarlier partOrder departureOrder columnRises queryQuestion6 queryVerdict
 doorK = refl

@@ -16,7 +16,7 @@ use Rattle.departures.proofs.Yes.{listed-yes}
 use Rattle.delay_rows.specs.Door.{delayNumbers, delayRanges, delayOrder}
 use Rattle.query_types.specs.declared.QueryCounts.{QueryCounts}
 use Rattle.query_input.specs.Lent.{delaysOf, stopRuns, departureRows}
-use Rattle.query_door.specs.Door.{lineNumbers, queryNumbers, queryQuestion4, markRanges, transferRanges, settingRanges, walkRanges, queryQuestion5, egressOrder, queryQuestion6}
+use Rattle.query_door.specs.Door.{lineNumbers, queryNumbers, queryQuestion4, markRanges, transferRanges, queryRanges, walkRanges, queryQuestion5, egressOrder, queryQuestion6}
 use Rattle.departure_order.specs.Turn.{InTurn}
 use Rattle.query_door.specs.Once.{queryOk, tablesOk, Passed}
 
@@ -84,7 +84,7 @@ passed-yes t built transfers q n rows h g d =
     let c = n .timetable in
     let a1 = queryNumbers q n in
     let a2 = delayNumbers (c .trips) (delaysOf q n) in
-    let b1 = settingRanges q in
+    let b1 = queryRanges q in
     let b2 = walkRanges q n in
     let b3 = delayRanges (delaysOf q n) in
     let e1 = egressOrder q n in

@@ -10,7 +10,9 @@ use borrow.Author.Tests.{eqb-true, leb-true, ltb-true}
 use Rattle.loops.specs.Iter.{every, first}
 use Rattle.loops.proofs.Iter.{everyIn-at, every-at}
 use Rattle.door.specs.Door.{ask, timeLimit}
+use Rattle.door.specs.Settings.{settingsOk}
 use Rattle.door.proofs.Laws.{ask-yes, ask-later}
+use Rattle.door.proofs.House.{settings-yes}
 use Rattle.tables.specs.Timetable.{Timetable, timetable}
 use Rattle.tables.specs.Door.{countsOk, slicesOk, runsOk, numbersOk, rangesOk, orderOk}
 use Rattle.tables.proofs.Yes.{Two, two, counts-yes, slices-yes, runs-yes, numbers-yes, ranges-yes, order-yes}
@@ -26,7 +28,7 @@ use Rattle.query_types.specs.declared.QueryCounts.{QueryCounts}
 use Rattle.query_types.specs.declared.Lengths.{Lengths}
 use Rattle.query_input.specs.Lent.{marksAt, eventCount, builtSize, originsAt, egressAt, querySize, lineRuns, lineEntries, stopRuns, departureRows, delaysOf, transferRunAt, transferRows, Lent, tablesOf, queryOf}
 use Rattle.departure_order.specs.Order.{notEarlier, partOrder, departureOrder}
-use Rattle.query_door.specs.Door.{queryQuestion1, readOk, writtenOk, queryQuestion2, transferRunsOk, queryQuestion3, columnAt, columnBelow, lineNumbers, queryNumbers, queryQuestion4, markRanges, transferRanges, settingRanges, walkRanges, queryQuestion5, columnRises, egressOrder, queryQuestion6, queryVerdict}
+use Rattle.query_door.specs.Door.{queryQuestion1, readOk, writtenOk, queryQuestion2, transferRunsOk, queryQuestion3, columnAt, columnBelow, lineNumbers, queryNumbers, queryQuestion4, markRanges, transferRanges, queryRanges, walkRanges, queryQuestion5, columnRises, egressOrder, queryQuestion6, queryVerdict}
 use Rattle.query_types.specs.Layout.{workSizeOf}
 use Rattle.query_input.specs.Sane.{Limits, ReadSized, Lengthy, Placed, Numbered, Ranged, Ordered, Admitted}
 use Rattle.query_input.proofs.Parts.{line-runs-size, entries-size, stop-runs-size, rows-size, delay-rows-size, stop-rows-size, marks-room, query-room}
@@ -205,12 +207,12 @@ module _ (t built transfers q : List ℕ) (n : QueryCounts) (rows : ℕ) (h : qu
     delays : delayRanges (delaysOf q n) ≡ true
 
   ranges : Ranges
-  unfolding queryQuestion5 markRanges transferRanges settingRanges walkRanges
+  unfolding queryQuestion5 markRanges transferRanges queryRanges walkRanges
   ranges =
       let a1 = rangesOk t (n .timetable) in
       let a2 = markRanges built n in
       let a3 = transferRanges transfers rows in
-      let b1 = settingRanges q in
+      let b1 = queryRanges q in
       let b2 = walkRanges q n in
       let b3 = delayRanges (delaysOf q n) in
       let x = two (a1 && (a2 && a3)) (b1 && (b2 && b3)) h in
@@ -320,7 +322,10 @@ admitted x l h =
     let l4 = ask 4 q4 l5 in
     let l3 = ask 3 q3 l4 in
     let l2 = ask 2 q2 l3 in
-    let h2 = ask-later 0 q1 l2 h in
+    let q14 = settingsOk (n .settings) in
+    let l14 = ask 14 q14 l2 in
+    let h14 = ask-later 0 q1 l14 h in
+    let h2 = ask-later 13 q14 l2 h14 in
     let h3 = ask-later 1 q2 l3 h2 in
     let h4 = ask-later 2 q3 l4 h3 in
     let h5 = ask-later 3 q4 l5 h4 in
@@ -330,13 +335,14 @@ admitted x l h =
     let y4 = ask-yes 3 q4 l5 h4 in
     let y5 = ask-yes 4 q5 l6 h5 in
     let y6 = ask-yes 5 q6 0 h6 in
-    let m = limits-yes n (ask-yes 0 q1 l2 h) in
+    let m = limits-yes n (ask-yes 0 q1 l14 h) in
     let s = sized-yes (x .t) n (length (x .built)) (length (x .patterns)) (length (x .distances)) (length (x .q)) l y2 in
     let p = placed-yes (x .t) (x .built) n (length (x .q)) rows m s y3 in
     let dr = delay-rows-size (x .q) n (query-room s) in
     let sr = stop-rows-size (x .q) n (query-room s) in
     record {
       limits = m;
+      settings = settings-yes (n .settings) (ask-yes 13 q14 l2 h14);
       sized = s;
       lengthy = lengthy-yes (x .t) n (length (x .built)) (length (x .patterns)) (length (x .distances)) (length (x .q)) l y2;
       placed = p;

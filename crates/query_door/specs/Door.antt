@@ -1,4 +1,5 @@
--- The questions at the door of `run_tbr` and `query` (document 01, "Questions at the door"), 1 to 6. Definitions only.
+-- The questions at the door of `run_tbr` and `query` (document 01, "Questions at the door"), 1 to 6, and 14 (the settings) after 1.
+-- Definitions only.
 use Prim.Native.Nat.{ℕ, _+_, _*_, _-_}
 use mathlib.Core.Bool.{Bool, _&&_}
 use mathlib.Core.List.{List}
@@ -6,6 +7,7 @@ use lib.ListN.{length, getD}
 use lib.Dec.{ltb, leb, eqb}
 use Rattle.loops.specs.Iter.{everyIn}
 use Rattle.door.specs.Door.{ask, timeLimit}
+use Rattle.door.specs.Settings.{settingsOk}
 use Rattle.tables.specs.Timetable.{timetable}
 use Rattle.tables.specs.Door.{countsOk, slicesOk, runsOk, numbersOk, rangesOk, orderOk}
 use Rattle.departures.specs.Listed.{runIn, stopRunsOk, listedOk}
@@ -81,8 +83,8 @@ unfoldable pub transferRanges : List ℕ → ℕ → Bool
 transferRanges transfers rows = columnBelow transfers 2 4 rows (timeLimit + 1)
 
 -- start and change time; modes, seven bits; wheelchair and switch, 0 or 1
-unfoldable pub settingRanges : List ℕ → Bool
-settingRanges q =
+unfoldable pub queryRanges : List ℕ → Bool
+queryRanges q =
     (leb (getD q 0 0) timeLimit && leb (getD q 1 0) timeLimit) && (leb (getD q 4 0) 127 && (leb (getD q 5 0) 1 && leb (getD q 6 0) 1))
 
 -- the durations of origins and egress
@@ -92,7 +94,7 @@ walkRanges q n = columnBelow q (originsAt + 1) 2 (n .origins) (timeLimit + 1) &&
 unfoldable pub queryQuestion5 : List ℕ → List ℕ → List ℕ → List ℕ → QueryCounts → ℕ → Bool
 queryQuestion5 t built transfers q n rows =
     (rangesOk t (n .timetable) && (markRanges built n && transferRanges transfers rows))
-    && (settingRanges q && (walkRanges q n && delayRanges (delaysOf q n)))
+    && (queryRanges q && (walkRanges q n && delayRanges (delaysOf q n)))
 
 -- 6: ARE EDGES, DELAY ROWS, STOP ROWS, EGRESS STOPS (STRICTLY RISING) AND DEPARTURES IN ORDER? Each row against the one before it
 -- (departures: `departure_order` specs/Order). In a column each number is above the one before it
@@ -112,8 +114,9 @@ unfoldable pub queryVerdict : Lent → Lengths → ℕ
 queryVerdict x l =
     let rows = transferRows (x .n) (length (x .transfers)) in
     ask 1 (queryQuestion1 (x .n))
+    (ask 14 (settingsOk (x .n .settings))
     (ask 2 (queryQuestion2 (x .t) (x .n) (length (x .built)) (length (x .patterns)) (length (x .distances)) (length (x .q)) l)
     (ask 3 (queryQuestion3 (x .t) (x .built) (x .n) rows)
     (ask 4 (queryQuestion4 (x .t) (x .built) (x .q) (x .n))
     (ask 5 (queryQuestion5 (x .t) (x .built) (x .transfers) (x .q) (x .n) rows)
-    (ask 6 (queryQuestion6 (x .t) (x .built) (x .q) (x .n)) 0)))))
+    (ask 6 (queryQuestion6 (x .t) (x .built) (x .q) (x .n)) 0))))))

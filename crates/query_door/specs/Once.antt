@@ -9,14 +9,14 @@ use Rattle.tables.specs.Door.{numbersOk, rangesOk, orderOk}
 use Rattle.delay_rows.specs.Door.{delayNumbers, delayRanges, delayOrder}
 use Rattle.query_types.specs.declared.QueryCounts.{QueryCounts}
 use Rattle.query_input.specs.Lent.{delaysOf}
-use Rattle.query_door.specs.Door.{lineNumbers, queryNumbers, queryQuestion4, markRanges, transferRanges, settingRanges, walkRanges}
+use Rattle.query_door.specs.Door.{lineNumbers, queryNumbers, queryQuestion4, markRanges, transferRanges, queryRanges, walkRanges}
 use Rattle.query_door.specs.Door.{queryQuestion5, egressOrder, queryQuestion6}
 
 -- the query's numbers
 unfoldable pub queryOk : List ℕ → QueryCounts → Bool
 queryOk q n =
     (queryNumbers q n && delayNumbers (n .timetable .trips) (delaysOf q n))
-    && ((settingRanges q && (walkRanges q n && delayRanges (delaysOf q n))) && (egressOrder q n && delayOrder (delaysOf q n)))
+    && ((queryRanges q && (walkRanges q n && delayRanges (delaysOf q n))) && (egressOrder q n && delayOrder (delaysOf q n)))
 
 -- the tables but for the departures
 unfoldable pub tablesOk : List ℕ → List ℕ → List ℕ → QueryCounts → ℕ → Bool

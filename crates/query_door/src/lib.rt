@@ -1,4 +1,4 @@
-// query_door: the door of a query: questions 1 to 6 (document 01), in order.
+// query_door: the door of a query: questions 1, 14 and 2 to 6, in order.
 // Place: the search; `query_call` asks it.
 // Specs: each question as a test of the lists, and the verdict (Door, a claim); a column of numbers in a list (Columns, inner); questions 4 to 6
 // asked at once (Once, inner).
@@ -13,7 +13,7 @@ ghost use lib.ListN.{length};
 ghost use Rattle.tables.specs.Sane.{SlicesOk};
 ghost use Rattle.query_input.specs.Lent.{transferRunsAt, builtSize, marksAt, querySize, delaysOf, stopRuns, departureRows, lent};
 ghost use Rattle.query_door.specs.Door.{queryQuestion1, readOk, writtenOk, queryQuestion2, transferRunsOk, queryQuestion3, columnBelow};
-ghost use Rattle.query_door.specs.Door.{columnAt, lineNumbers, queryNumbers, queryQuestion4, markRanges, transferRanges, settingRanges};
+ghost use Rattle.query_door.specs.Door.{columnAt, lineNumbers, queryNumbers, queryQuestion4, markRanges, transferRanges, queryRanges};
 ghost use Rattle.query_door.specs.Door.{walkRanges, queryQuestion5, columnRises, queryQuestion6, queryVerdict};
 ghost use Rattle.query_types.specs.Layout.{workSizeOf};
 ghost use Rattle.query_input.specs.Sane.{Limits, ReadSized, Placed};
@@ -269,10 +269,10 @@ fn transfer_ranges(transfers: &[u32], transfer_rows: usize) -> bool
     bits <= 1048575
 }
 
-// Question 5 of the query's settings.
-fn setting_ranges(query: &[u32]) -> bool
+// Question 5 of start, change time, modes, wheelchair and switch.
+fn query_ranges(query: &[u32]) -> bool
     requires { ⌜ 7 ≤ length (now query) ⌝ }
-    ensures { λ r. ⌜ r ≡ settingRanges (now (query .entry)) ⌝ }
+    ensures { λ r. ⌜ r ≡ queryRanges (now (query .entry)) ⌝ }
 {
     let times = both(
         words::field(query, 0) <= 1048575,
@@ -316,7 +316,7 @@ fn ranges_ok(
     both(
         ranged,
         both(
-            setting_ranges(query),
+            query_ranges(query),
             both(walk_ranges(query, counts), delays_ok(5, query, counts)),
         ),
     )
@@ -377,7 +377,7 @@ fn query_ok(query: &[u32], counts: QueryCounts) -> bool
 {
     let numbers = both(query_numbers(query, counts), delays_ok(4, query, counts));
     let ranges = both(
-        setting_ranges(query),
+        query_ranges(query),
         both(walk_ranges(query, counts), delays_ok(5, query, counts)),
     );
     let order = both(
@@ -451,8 +451,9 @@ pub fn questions(
     ensures { λ r. ⌜ r ≡ queryVerdict (lent counts (now (tables .entry)) (now (built .entry)) (now (transfers .entry)) (now (patterns .entry))
         (now (distances .entry)) (now (query .entry))) l ⌝ }
 {
-    if !counts_ok(counts) {
-        return 1;
+    let v = door::limits(counts_ok(counts), counts.settings);
+    if v != 0 {
+        return v;
     }
     if !sizes_ok(
         tables,

@@ -14,7 +14,7 @@ use Rattle.event_transfers.specs.Transfers.{eventsBefore, transfersAt}
 use Rattle.delay_rows.specs.Delays.{DelayTables}
 use Rattle.delay_rows.specs.Flat.{delayTables}
 use Rattle.arc_flags.specs.Flags.{patternAt}
-use Rattle.model.specs.Tables.{Tables, Origin, Query, rustSettings}
+use Rattle.model.specs.Tables.{Tables, Origin, Query}
 use Rattle.query_types.specs.declared.QueryCounts.{QueryCounts}
 
 -- THE SECTIONS of what the building calls wrote, one after the other: each trip's line (1 number each), the lines' runs (2), the line
@@ -113,7 +113,7 @@ originAt q distances n k =
 abbrev pub egressStop : List ℕ → QueryCounts → ℕ → ℕ × ℕ
 egressStop q n k = (getD q (egressAt n + k * 2) 0, getD q (egressAt n + 1 + k * 2) 0)
 
--- WHAT IS LENT TO BE READ: the counts, the timetable, what the building calls wrote, the transfer area, the patterns' bytes, the
+-- WHAT IS LENT TO BE READ: the counts with the settings, the timetable, what the building calls wrote, the transfer area, the patterns' bytes, the
 -- distances (the walk edges', then the origins'), the query's numbers
 pub record Lent : Type 0 where
   pub n : QueryCounts
@@ -145,7 +145,7 @@ tablesOf x =
       pattern = patternAt (x .patterns);
     }
 
--- THE QUERY that it says, with the four numbers of the Rust
+-- THE QUERY that it says, with the settings that the call received
 abbrev pub queryOf : Lent → Query
 queryOf x =
     record {
@@ -159,5 +159,5 @@ queryOf x =
       transfers = getD (x .q) 3 0;
       delays = delaysOf (x .q) (x .n);
       flagsOff = eqb (getD (x .q) 6 0) 1;
-      settings = rustSettings;
+      settings = x .n .settings;
     }

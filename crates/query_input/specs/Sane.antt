@@ -5,6 +5,7 @@ use mathlib.Core.Path.{_≡_}
 use mathlib.Core.List.{List}
 use lib.ListN.{length, getD}
 use Rattle.door.specs.Door.{timeLimit}
+use Rattle.door.specs.Settings.{SettingsIn}
 use Rattle.tables.specs.Timetable.{timetable}
 use Rattle.tables.specs.Sane.{CountsOk, SlicesOk, RunsOk, NumbersOk, RangesOk, OrderOk}
 use Rattle.departures.specs.Listed.{RunsListed, RowsListed}
@@ -85,6 +86,7 @@ pub record Ordered (t built q : List ℕ) (n : QueryCounts) : Type 0 where
 -- ALL OF THEM: what is lent is as the query's inner functions need it
 pub record Admitted (x : Lent) (l : Lengths) : Type 0 where
   pub limits : Limits (x .n)
+  pub settings : SettingsIn (x .n .settings)
   pub sized : ReadSized (x .t) (x .n) (length (x .built)) (length (x .q))
   pub lengthy : Lengthy (x .n) (length (x .patterns)) (length (x .distances)) l
   pub placed : Placed (x .t) (x .built) (x .n) (transferRows (x .n) (length (x .transfers)))

@@ -35,7 +35,7 @@ pub record AnswerAgrees (T : Tables) (Q : Query) (a : Arrivals) (n : QueryCounts
   pub reached : EarliestAre a (n .timetable .stops) work
   pub labelled : Labelled a (n .timetable .stops) labels labelDistances
   pub egress : Q .egress ≡ egressRows (egressPart q n)
-  pub slack : Q .settings .candidateSlack ≡ 3600
+  pub slack : Q .settings .«candidate_slack» ≡ n .settings .«candidate_slack»
   pub rounds : roundsOf Q ≡ roundCount (getD q 2 0) (getD q 3 0)
 
 -- the best total with its stop, and the candidates, of a query's last state

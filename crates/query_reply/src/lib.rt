@@ -56,7 +56,7 @@ fn reply_of(
         stops,
         egress,
         best.total,
-        3600,
+        counts.settings.candidate_slack,
         rounds,
         candidates,
     );

@@ -9,6 +9,7 @@ ghost use Rattle.query_types.specs.Layout.{stampsAt, reachAt, restAt, po
 ghost use Rattle.query_types.specs.Layout.{boardedDeparturesAt, lineStampsAt, headsAt, linksAt, leastAt, workSize, layFor, Few};
 use cell_bitset::CellBitSet;
 use delay_rows::Found;
+use door::Settings;
 use tables::Counts;
 
 // How many stops, trips and lines, and where the list of reached stops that is being filled and the other one begin.
@@ -64,8 +65,9 @@ pub struct Lined {
     pub fifo: usize,
 }
 
-// How many there are of each.
+// The settings, and how many there are of each.
 pub struct QueryCounts {
+    pub settings: Settings,
     pub timetable: Counts,
     pub cells: usize,
     pub patterns: usize,

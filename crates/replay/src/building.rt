@@ -5,6 +5,7 @@ use crate::words::first_nine;
 use crate::words::part;
 use crate::words::rest;
 use crate::words::same_words;
+use door::Settings;
 
 // The timetable, and the runs of its stops.
 fn tables_of(w: &[u32]) -> &[u32] {
@@ -28,7 +29,7 @@ pub fn copy_words(w: &[u32], to: &mut [u32]) {
     }
 }
 
-fn sorting(w: &[u32]) -> bool {
+fn sorting(settings: Settings, w: &[u32]) -> bool {
     let mut rows = [0u32; 20];
     let mut marks = [7u32; 3];
     let mut work = [7u64; 10];
@@ -36,6 +37,7 @@ fn sorting(w: &[u32]) -> bool {
     copy_words(rows_of(w), &mut rows);
     let n = first_nine(w);
     let code = exports::savoiky_sort_stop_departures(
+        settings,
         n.1,
         n.2,
         n.3,
@@ -55,7 +57,7 @@ fn sorting(w: &[u32]) -> bool {
     )
 }
 
-fn grouping(w: &[u32]) -> bool {
+fn grouping(settings: Settings, w: &[u32]) -> bool {
     let mut lines = [7u32; 5];
     let mut runs = [7u32; 10];
     let mut entries = [7u32; 5];
@@ -63,6 +65,7 @@ fn grouping(w: &[u32]) -> bool {
     let mut other = [7u64; 5];
     let n = first_nine(w);
     let a = exports::savoiky_compute_line_groups(
+        settings,
         n.1,
         n.2,
         n.3,
@@ -86,11 +89,12 @@ fn grouping(w: &[u32]) -> bool {
 }
 
 // The call's numbers are the words from 1 on; 1 to 5 the counts of the timetable, 8 and 9 those of the lines.
-fn laying_out(w: &[u32]) -> bool {
+fn laying_out(settings: Settings, w: &[u32]) -> bool {
     let mut positions = [7u32; 5];
     let mut fifo = [7u32; 3];
     let n = first_nine(rest(w, 1));
     let code = exports::savoiky_line_layout(
+        settings,
         n.0,
         n.1,
         n.2,
@@ -110,11 +114,12 @@ fn laying_out(w: &[u32]) -> bool {
     )
 }
 
-fn transferring(w: &[u32]) -> bool {
+fn transferring(settings: Settings, w: &[u32]) -> bool {
     let mut area = [7u32; 96];
     let mut transfer_runs = [7u32; 30];
     let n = first_nine(w);
     let a = exports::savoiky_compute_trip_transfers(
+        settings,
         n.1,
         n.2,
         n.3,
@@ -139,9 +144,9 @@ fn transferring(w: &[u32]) -> bool {
 }
 
 // Are the answers of all four calls those on the line?
-pub fn built(w: &[u32]) -> bool {
+pub fn built(settings: Settings, w: &[u32]) -> bool {
     both(
-        both(sorting(w), grouping(w)),
-        both(laying_out(w), transferring(w)),
+        both(sorting(settings, w), grouping(settings, w)),
+        both(laying_out(settings, w), transferring(settings, w)),
     )
 }

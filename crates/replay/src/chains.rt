@@ -10,6 +10,7 @@ use crate::words::part;
 use crate::words::rest;
 use crate::words::same_words;
 use door::Answer;
+use door::Settings;
 use sizes::QuerySizes;
 
 // The timetable that the building calls are lent, the runs of its stops and the caller's list.
@@ -43,13 +44,14 @@ fn put_words(piece: &[u32], from: usize, to: &mut [u32])
 }
 
 // Each trip's line, the runs of two lines and the entries stand first in `built`.
-fn group(w: &[u32], built: &mut [u32]) -> Answer {
+fn group(settings: Settings, w: &[u32], built: &mut [u32]) -> Answer {
     let mut lines = [7u32; 5];
     let mut runs = [7u32; 10];
     let mut entries = [7u32; 5];
     let mut work = [7u64; 5];
     let mut other = [7u64; 5];
     let a = exports::savoiky_compute_line_groups(
+        settings,
         3,
         5,
         15,
@@ -69,13 +71,14 @@ fn group(w: &[u32], built: &mut [u32]) -> Answer {
 }
 
 // The stops' runs, the sorted departures and the marks stand next.
-fn sort(w: &[u32], built: &mut [u32]) -> u32 {
+fn sort(settings: Settings, w: &[u32], built: &mut [u32]) -> u32 {
     let mut rows = [0u32; 20];
     let mut marks = [7u32; 3];
     let mut work = [7u64; 10];
     let mut other = [7u64; 10];
     copy_words(list_of(w), &mut rows);
     let code = exports::savoiky_sort_stop_departures(
+        settings,
         3,
         5,
         15,
@@ -96,9 +99,10 @@ fn sort(w: &[u32], built: &mut [u32]) -> u32 {
 }
 
 // The transfer runs stand last; the transfers, made of the caller's list, stand in the area.
-fn link(w: &[u32], lines: u32, area: &mut [u32], built: &mut [u32]) -> Answer {
+fn link(settings: Settings, w: &[u32], lines: u32, area: &mut [u32], built: &mut [u32]) -> Answer {
     let mut transfer_runs = [7u32; 30];
     let a = exports::savoiky_compute_trip_transfers(
+        settings,
         3,
         5,
         15,
@@ -138,7 +142,7 @@ fn sizes(lines: u32, transfers: u32) -> QuerySizes {
 }
 
 // Is the answer of `query` on these tables the one on the line? What is lent to be written holds 7 in every word.
-fn asked(w: &[u32], n: QuerySizes, built: &[u32], area: &[u32]) -> bool {
+fn asked(settings: Settings, w: &[u32], n: QuerySizes, built: &[u32], area: &[u32]) -> bool {
     let mut distances = [0.0f64; 6];
     let mut labels = [7u32; 312];
     let mut label_distances = [7.0f64; 39];
@@ -148,6 +152,7 @@ fn asked(w: &[u32], n: QuerySizes, built: &[u32], area: &[u32]) -> bool {
     let mut candidates = [7u32; 39];
     put_distances(part(w, 349, 6), &mut distances);
     let reply = exports::savoiky_query(
+        settings,
         n,
         part(w, 181, 151),
         built,
@@ -175,17 +180,17 @@ fn asked(w: &[u32], n: QuerySizes, built: &[u32], area: &[u32]) -> bool {
 }
 
 // Are the codes of the building calls those on the line and, where all are 0, is the answer of `query`; else is what they left?
-pub fn chained(w: &[u32]) -> bool {
+pub fn chained(settings: Settings, w: &[u32]) -> bool {
     let mut built = [0u32; 73];
     let mut area = [7u32; 96];
-    let a = group(w, &mut built);
-    let code = sort(w, &mut built);
-    let b = link(w, a.value, &mut area, &mut built);
+    let a = group(settings, w, &mut built);
+    let code = sort(settings, w, &mut built);
+    let b = link(settings, w, a.value, &mut area, &mut built);
     if !same_words(w, 178, &[a.code, code, b.code]) {
         return false;
     }
     if same_words(&[0, 0, 0], 0, &[a.code, code, b.code]) {
-        return asked(w, sizes(a.value, b.value), &built, &area);
+        return asked(settings, w, sizes(a.value, b.value), &built, &area);
     }
     both(same_words(w, 355, &built), all_are(&area, 7))
 }

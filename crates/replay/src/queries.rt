@@ -7,6 +7,7 @@ use crate::words::length_at;
 use crate::words::part;
 use crate::words::rest;
 use crate::words::same_words;
+use door::Settings;
 use query_reply::Reply;
 use sizes::QuerySizes;
 
@@ -250,6 +251,7 @@ pub fn left(
 // Puts the search to `run_tbr` (call 0) or `query`. To read: the line, patterns, distances; to write: labels, their distances, workspace, the
 // queue halves, candidates.
 fn ask(
+    settings: Settings,
     call: u32,
     w: &[u32],
     p: &[u8],
@@ -267,12 +269,13 @@ fn ask(
     let x = section(w, 2);
     let q = section(w, 3);
     if call == 0 {
-        return exports::savoiky_run_tbr(n, t, b, x, p, d, q, l, m, k, u, v, c);
+        return exports::savoiky_run_tbr(settings, n, t, b, x, p, d, q, l, m, k, u, v, c);
     }
-    exports::savoiky_query(n, t, b, x, p, d, q, l, m, k, u, v, c)
+    exports::savoiky_query(settings, n, t, b, x, p, d, q, l, m, k, u, v, c)
 }
 
 fn asked(
+    settings: Settings,
     call: u32,
     w: &[u32],
     p: &[u8],
@@ -284,12 +287,12 @@ fn asked(
     v: &mut [u32],
     c: &mut [u32],
 ) -> bool {
-    let reply = ask(call, w, p, d, l, m, k, u, v, c);
+    let reply = ask(settings, call, w, p, d, l, m, k, u, v, c);
     left(reply, outcome(w, call), l, m, k, u, v, c)
 }
 
 // What is lent to be written holds 7 in every word.
-fn one_call(call: u32, w: &[u32], p: &[u8], d: &[f64]) -> bool {
+fn one_call(settings: Settings, call: u32, w: &[u32], p: &[u8], d: &[f64]) -> bool {
     let mut labels = [7u32; 840];
     let mut distances = [7.0f64; 105];
     let mut work = [7u32; 384];
@@ -297,6 +300,7 @@ fn one_call(call: u32, w: &[u32], p: &[u8], d: &[f64]) -> bool {
     let mut queue_b = [7u32; 128];
     let mut candidates = [7u32; 40];
     asked(
+        settings,
         call,
         w,
         p,
@@ -311,7 +315,7 @@ fn one_call(call: u32, w: &[u32], p: &[u8], d: &[f64]) -> bool {
 }
 
 // Are the answers of both calls those on the line? Patterns and distances are made of their words.
-pub fn searched(w: &[u32]) -> bool {
+pub fn searched(settings: Settings, w: &[u32]) -> bool {
     let mut patterns = [0u8; 256];
     let mut distances = [0.0f64; 64];
     if w.len() < section_at(w, 6) {
@@ -323,5 +327,8 @@ pub fn searched(w: &[u32]) -> bool {
     let m = part_at(w, 20, 64);
     let p = &patterns[..n];
     let d = &distances[..m];
-    both(one_call(0, w, p, d), one_call(1, w, p, d))
+    both(
+        one_call(settings, 0, w, p, d),
+        one_call(settings, 1, w, p, d),
+    )
 }

@@ -29,7 +29,7 @@ use Rattle.query_types.specs.declared.Context.{Context}
 
 -- what of a query boarding goes by
 abbrev pub termsOf : Tables → Query → Terms
-termsOf T Q = record { modes = Q .modes; wheelchair = Q .wheelchair; margin = marginOf T Q; «line_scan» = Q .settings .lineScan }
+termsOf T Q = record { modes = Q .modes; wheelchair = Q .wheelchair; margin = marginOf T Q; «line_scan» = Q .settings .«line_scan» }
 
 -- where the tables stand, and what they are asked
 abbrev pub netOf : Lent → Net

@@ -98,11 +98,6 @@ fn fill_egress(lay: Lay, query: &[u32], first: usize, n: usize, work: &mut [u32]
     put_egresses(lay, query, first, n, work);
 }
 
-// The cap of the delay margin, and how many trips of a line are tried for a transfer.
-const MARGIN_CAP: u32 = 21600;
-
-const LINE_SCAN: u32 = 64;
-
 // The same with the two lists exchanged.
 fn turn(lay: Lay) -> Lay
     ensures { λ r. ⌜ r ≡ turned lay ⌝ }
@@ -132,14 +127,14 @@ pub fn net_of(
     let c = counts.timetable;
     let rows = query_input::delay_rows(query, counts);
     let stop_rows = query_input::stop_rows(query, counts);
-    let margin = delay_lookup::rt_margin(rows, stop_rows, MARGIN_CAP);
+    let margin = delay_lookup::rt_margin(rows, stop_rows, counts.settings.margin_cap);
     let egress = query_input::egress_rows(query, counts);
     let target = arc_flags::target_cells(tables, c, counts.cells as u32, egress);
     let terms = Terms {
         modes: query[4],
         wheelchair: query[5] == 1,
         margin,
-        line_scan: LINE_SCAN,
+        line_scan: counts.settings.line_scan,
     };
     let lined = target_resolving::line_tables(c, counts.lines);
     Net {

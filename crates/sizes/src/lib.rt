@@ -5,6 +5,7 @@
 // Assumes nothing.
 ghost use mathlib.Core.Path.{_≡_};
 ghost use Rattle.sizes.specs.Counts.{countsOf, gathered, queryCountsOf};
+use door::Settings;
 use query_types::QueryCounts;
 use tables::Counts;
 
@@ -41,6 +42,7 @@ pub struct QuerySizes {
 }
 
 fn gather(
+    settings: Settings,
     timetable: Counts,
     cells: u32,
     patterns: u32,
@@ -53,9 +55,10 @@ fn gather(
     origins: u32,
     egress: u32,
 ) -> QueryCounts
-    ensures { λ r. ⌜ r ≡ gathered timetable cells patterns lines entries departures transfers delays «stop_rows» origins egress ⌝ }
+    ensures { λ r. ⌜ r ≡ gathered settings timetable cells patterns lines entries departures transfers delays «stop_rows» origins egress ⌝ }
 {
     QueryCounts {
+        settings: settings,
         timetable: timetable,
         cells: cells as usize,
         patterns: patterns as usize,
@@ -70,11 +73,12 @@ fn gather(
     }
 }
 
-pub fn query_counts(s: QuerySizes) -> QueryCounts
-    ensures { λ r. ⌜ r ≡ queryCountsOf s ⌝ }
+pub fn query_counts(settings: Settings, s: QuerySizes) -> QueryCounts
+    ensures { λ r. ⌜ r ≡ queryCountsOf settings s ⌝ }
 {
     let timetable = counts(s.stops, s.trips, s.times, s.windows, s.edges);
     gather(
+        settings,
         timetable,
         s.cells,
         s.patterns,

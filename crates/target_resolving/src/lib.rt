@@ -200,7 +200,7 @@ fn resolve_alone(
 ) -> Resolved
     requires { ⌜ Ground (now tables) c (now «delay_rows») (now «stop_rows») ⌝ ∗ ⌜ after < 134217728 ⌝ }
     ensures { λ r. ⌜ ((T : Tables) (Q : Query) → Agree T Q (now (tables .entry)) c (now («delay_rows» .entry)) (now («stop_rows» .entry))
-        → Asks Q terms → resolvedOf r ≡ resolveIn T Q «is_fifo» off after best (λ p. target) (min 1 (Q .settings .lineScan)) 0) ⌝ }
+        → Asks Q terms → resolvedOf r ≡ resolveIn T Q «is_fifo» off after best (λ p. target) (min 1 (Q .settings .«line_scan»)) 0) ⌝ }
 {
     if terms.line_scan == 0 {
         return Resolved::Unresolved;

@@ -8,7 +8,9 @@ use lib.Dec.{ltb, leb, eqb}
 use borrow.Author.Tests.{eqb-true, leb-true, ltb-true}
 use Rattle.loops.proofs.Iter.{everyIn-at}
 use Rattle.door.specs.Door.{ask}
-use Rattle.door.proofs.Laws.{ask-later, ask-no, ask-on, ask-yes}
+use Rattle.door.specs.Settings.{settingsOk}
+use Rattle.door.proofs.Laws.{Within, not-within, ask-later, ask-no, ask-on, ask-past, ask-yes}
+use Rattle.door.proofs.House.{settings-yes}
 use Rattle.tables.specs.declared.Counts.{Counts}
 use Rattle.tables.specs.Timetable.{timetable}
 use Rattle.tables.specs.Door.{countsOk, slicesOk, runsOk, numbersOk, rangesOk, orderOk}
@@ -46,9 +48,13 @@ unfolding linesOk
 lines-below lines trips n k e h = record { size = e; few = k; line = λ i u. ltb-true (getD lines i 0) n (everyIn-at (λ j. ltb (getD lines j 0) n) trips i h u) }
 
 -- each question from its tests, as the code joins them
-pub answer1 : (x : TransferLent) {a b r z : Bool} → r ≡ a && b → a ≡ countsOk (x .c) → b ≡ (leb (x .lineCount) 4096 && leb (x .d) 65536) → r ≡ z → transfersQuestion1 x ≡ z
+pub answer1 : (x : TransferLent) {a b r : Bool} → r ≡ a && b → a ≡ countsOk (x .c) → b ≡ (leb (x .lineCount) 4096 && leb (x .d) 65536) → r ≡ transfersQuestion1 x
 unfolding transfersQuestion1
-answer1 x p q s e = sym (ap₂ _&&_ q s) ∙ sym p ∙ e
+answer1 x p q s = p ∙ ap₂ _&&_ q s
+
+-- 1 and 14 are answered yes
+abbrev pub FirstYes : TransferLent → Type 0
+FirstYes x = Within (transfersQuestion1 x) (settingsOk (x .settings))
 
 pub answer2 : (x : TransferLent) (n : ℕ) {r z : Bool} → r ≡ (slicesOk (x .t) (x .c) && transferSizesOk (x .t) (x .c) (x .d) (length (x .lines)) (length (x .runs)) (length (x .rows)) n) → r ≡ z → transfersQuestion2 x n ≡ z
 unfolding transfersQuestion2
@@ -64,42 +70,42 @@ unfolding transfersQuestion4
 answer4 x p q s t n u e =
     sym (ap₂ _&&_ q (s ∙ ap₂ _&&_ (t ∙ ap (λ (m : ℕ). linesOk (x .lines) m (x .lineCount)) n) u)) ∙ sym p ∙ e
 
-pub answer5 : (x : TransferLent) {a b r z : Bool} → r ≡ a && b → a ≡ rangesOk (x .t) (x .c) → b ≡ leb (x .time) 3600 → r ≡ z → transfersQuestion5 x ≡ z
+pub answer5 : (x : TransferLent) {r z : Bool} → r ≡ rangesOk (x .t) (x .c) → r ≡ z → transfersQuestion5 x ≡ z
 unfolding transfersQuestion5
-answer5 x p q s e = sym (ap₂ _&&_ q s) ∙ sym p ∙ e
+answer5 x p e = sym p ∙ e
 
 pub answer6 : (x : TransferLent) {r z : Bool} → r ≡ orderOk (x .t) (x .c) → r ≡ z → transfersQuestion6 x ≡ z
 unfolding transfersQuestion6
 answer6 x p e = sym p ∙ e
 
 -- the verdict
-pub no1 : (x : TransferLent) (n : ℕ) → transfersQuestion1 x ≡ false → 1 ≡ transfersVerdict x n
+pub no1 : (x : TransferLent) (n : ℕ) {v : ℕ} {q : Bool} → v ≡ ask 1 q (ask 14 (settingsOk (x .settings)) 0) → q ≡ transfersQuestion1 x → (v ≡ 0 → ⊥) → v ≡ transfersVerdict x n
 unfolding transfersVerdict
-no1 x n e = ask-no 1 (transfersQuestion1 x) _ e
+no1 x n e f h = not-within (settingsOk (x .settings)) _ e f h
 
-pub no2 : (x : TransferLent) (n : ℕ) → transfersQuestion1 x ≡ true → transfersQuestion2 x n ≡ false → 2 ≡ transfersVerdict x n
+pub no2 : (x : TransferLent) (n : ℕ) → FirstYes x → transfersQuestion2 x n ≡ false → 2 ≡ transfersVerdict x n
 unfolding transfersVerdict
-no2 x n a e = ask-on 1 (transfersQuestion1 x) a (ask-no 2 (transfersQuestion2 x n) _ e)
+no2 x n a e = ask-past a (ask-no 2 (transfersQuestion2 x n) _ e)
 
-pub no3 : (x : TransferLent) (n : ℕ) → transfersQuestion1 x ≡ true → transfersQuestion2 x n ≡ true → transfersQuestion3 x ≡ false → 3 ≡ transfersVerdict x n
+pub no3 : (x : TransferLent) (n : ℕ) → FirstYes x → transfersQuestion2 x n ≡ true → transfersQuestion3 x ≡ false → 3 ≡ transfersVerdict x n
 unfolding transfersVerdict
-no3 x n a b e = ask-on 1 (transfersQuestion1 x) a (ask-on 2 (transfersQuestion2 x n) b (ask-no 3 (transfersQuestion3 x) _ e))
+no3 x n a b e = ask-past a (ask-on 2 (transfersQuestion2 x n) b (ask-no 3 (transfersQuestion3 x) _ e))
 
-pub no4 : (x : TransferLent) (n : ℕ) → transfersQuestion1 x ≡ true → transfersQuestion2 x n ≡ true → transfersQuestion3 x ≡ true → transfersQuestion4 x ≡ false → 4 ≡ transfersVerdict x n
+pub no4 : (x : TransferLent) (n : ℕ) → FirstYes x → transfersQuestion2 x n ≡ true → transfersQuestion3 x ≡ true → transfersQuestion4 x ≡ false → 4 ≡ transfersVerdict x n
 unfolding transfersVerdict
-no4 x n a b c e = ask-on 1 (transfersQuestion1 x) a (ask-on 2 (transfersQuestion2 x n) b (ask-on 3 (transfersQuestion3 x) c (ask-no 4 (transfersQuestion4 x) _ e)))
+no4 x n a b c e = ask-past a (ask-on 2 (transfersQuestion2 x n) b (ask-on 3 (transfersQuestion3 x) c (ask-no 4 (transfersQuestion4 x) _ e)))
 
-pub no5 : (x : TransferLent) (n : ℕ) → transfersQuestion1 x ≡ true → transfersQuestion2 x n ≡ true → transfersQuestion3 x ≡ true → transfersQuestion4 x ≡ true → transfersQuestion5 x ≡ false → 5 ≡ transfersVerdict x n
+pub no5 : (x : TransferLent) (n : ℕ) → FirstYes x → transfersQuestion2 x n ≡ true → transfersQuestion3 x ≡ true → transfersQuestion4 x ≡ true → transfersQuestion5 x ≡ false → 5 ≡ transfersVerdict x n
 unfolding transfersVerdict
-no5 x n a b c d e = ask-on 1 (transfersQuestion1 x) a (ask-on 2 (transfersQuestion2 x n) b (ask-on 3 (transfersQuestion3 x) c (ask-on 4 (transfersQuestion4 x) d (ask-no 5 (transfersQuestion5 x) _ e))))
+no5 x n a b c d e = ask-past a (ask-on 2 (transfersQuestion2 x n) b (ask-on 3 (transfersQuestion3 x) c (ask-on 4 (transfersQuestion4 x) d (ask-no 5 (transfersQuestion5 x) _ e))))
 
-pub no6 : (x : TransferLent) (n : ℕ) → transfersQuestion1 x ≡ true → transfersQuestion2 x n ≡ true → transfersQuestion3 x ≡ true → transfersQuestion4 x ≡ true → transfersQuestion5 x ≡ true → transfersQuestion6 x ≡ false → 6 ≡ transfersVerdict x n
+pub no6 : (x : TransferLent) (n : ℕ) → FirstYes x → transfersQuestion2 x n ≡ true → transfersQuestion3 x ≡ true → transfersQuestion4 x ≡ true → transfersQuestion5 x ≡ true → transfersQuestion6 x ≡ false → 6 ≡ transfersVerdict x n
 unfolding transfersVerdict
-no6 x n a b c d f e = ask-on 1 (transfersQuestion1 x) a (ask-on 2 (transfersQuestion2 x n) b (ask-on 3 (transfersQuestion3 x) c (ask-on 4 (transfersQuestion4 x) d (ask-on 5 (transfersQuestion5 x) f (ask-no 6 (transfersQuestion6 x) _ e)))))
+no6 x n a b c d f e = ask-past a (ask-on 2 (transfersQuestion2 x n) b (ask-on 3 (transfersQuestion3 x) c (ask-on 4 (transfersQuestion4 x) d (ask-on 5 (transfersQuestion5 x) f (ask-no 6 (transfersQuestion6 x) _ e)))))
 
-pub yes : (x : TransferLent) (n : ℕ) → transfersQuestion1 x ≡ true → transfersQuestion2 x n ≡ true → transfersQuestion3 x ≡ true → transfersQuestion4 x ≡ true → transfersQuestion5 x ≡ true → transfersQuestion6 x ≡ true → 0 ≡ transfersVerdict x n
+pub yes : (x : TransferLent) (n : ℕ) → FirstYes x → transfersQuestion2 x n ≡ true → transfersQuestion3 x ≡ true → transfersQuestion4 x ≡ true → transfersQuestion5 x ≡ true → transfersQuestion6 x ≡ true → 0 ≡ transfersVerdict x n
 unfolding transfersVerdict
-yes x n a b c d f e = ask-on 1 (transfersQuestion1 x) a (ask-on 2 (transfersQuestion2 x n) b (ask-on 3 (transfersQuestion3 x) c (ask-on 4 (transfersQuestion4 x) d (ask-on 5 (transfersQuestion5 x) f (ask-on 6 (transfersQuestion6 x) e refl)))))
+yes x n a b c d f e = ask-past a (ask-on 2 (transfersQuestion2 x n) b (ask-on 3 (transfersQuestion3 x) c (ask-on 4 (transfersQuestion4 x) d (ask-on 5 (transfersQuestion5 x) f (ask-on 6 (transfersQuestion6 x) e refl)))))
 
 -- question by question, what a yes gives
 pub record First (x : TransferLent) : Type 0 where
@@ -160,11 +166,13 @@ admitted x n h =
     let l4 = ask 4 q4 l5 in
     let l3 = ask 3 q3 l4 in
     let l2 = ask 2 q2 l3 in
-    let h2 = ask-later 0 q1 l2 h in
+    let l14 = ask 14 (settingsOk (x .settings)) l2 in
+    let h14 = ask-later 0 q1 l14 h in
+    let h2 = ask-later 13 (settingsOk (x .settings)) l2 h14 in
     let h3 = ask-later 1 q2 l3 h2 in
     let h4 = ask-later 2 q3 l4 h3 in
     let h5 = ask-later 3 q4 l5 h4 in
-    let y1 = ask-yes 0 q1 l2 h in
+    let y1 = ask-yes 0 q1 l14 h in
     let y2 = ask-yes 1 q2 l3 h2 in
     let y3 = ask-yes 2 q3 l4 h3 in
     let y4 = ask-yes 3 q4 l5 h4 in
@@ -177,12 +185,11 @@ admitted x n h =
     let a3 = two (runsOk (x .t) (x .c)) (stopRunsOk (x .runs) (x .c) (x .d)) y3 in
     let a4 = two (numbersOk (x .t) (x .c)) (linesOk (x .lines) (x .c .trips) (x .lineCount) && listedOk (x .t) (x .c) (x .runs) (x .rows) (x .d)) y4 in
     let b4 = two (linesOk (x .lines) (x .c .trips) (x .lineCount)) (listedOk (x .t) (x .c) (x .runs) (x .rows) (x .d)) (a4 .two) in
-    let a5 = two (rangesOk (x .t) (x .c)) (leb (x .time) 3600) y5 in
     record {
-      sane = sane (x .t) (x .c) (a1 .one) (a2 .one) (a3 .one) (a4 .one) (a5 .one);
+      sane = sane (x .t) (x .c) (a1 .one) (a2 .one) (a3 .one) (a4 .one) y5;
       listed = rows-listed (x .t) (x .c) (x .runs) (x .rows) (x .d) (t .stops) (s .slices) (t .trips) (s .sizes .rowsIs) (b4 .two);
       lines = lines-below (x .lines) (x .c .trips) (x .lineCount) (f .lines) (s .sizes .linesIs) (b4 .one);
-      time = leb-true (x .time) 3600 (a5 .two);
+      time = settings-yes (x .settings) (ask-yes 13 (settingsOk (x .settings)) l2 h14) .transferTime;
       events = s .sizes .eventsIs;
     }
 

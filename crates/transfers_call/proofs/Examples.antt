@@ -9,6 +9,8 @@ use Rattle.loops.specs.Count.{tabFrom}
 use Rattle.loops.specs.Iter.{every}
 use Rattle.sorts.specs.Sort.{insertBy, sortBy}
 use Rattle.sorts.specs.Orders.{keep}
+use Rattle.door.specs.Settings.{defaultSettings, settingsOk}
+use Rattle.door.proofs.House.{four}
 use Rattle.tables.specs.declared.Counts.{Counts}
 use Rattle.tables.specs.Tables.{edgeOf, timeOf, tripOf, windowOf}
 use Rattle.tables.specs.Door.{countsOk, edgeNumbers, edgeRanges, edgeRises, numbersOk, orderOk, rangesOk, runsOk, slicesOk, stopTimeNumbers, stopTimeRanges, tripRanges, tripRuns, windowRanges}
@@ -57,7 +59,7 @@ countsK = record { stops = 3; trips = 3; times = 8; windows = 0; edges = 0 }
 
 -- lines 0, 0, 1; the departures of stop 0 (T1, T0), of stop 1 (T2, T1, T0), of stop 2 none
 K : ℕ → ℕ → ℕ → TransferLent
-K second dropOff time = transferLent (tableK second dropOff) countsK 2 (0 ∷ 0 ∷ 1 ∷ []) 5 (0 ∷ 2 ∷ 2 ∷ 3 ∷ 5 ∷ 0 ∷ []) (1 ∷ 0 ∷ 0 ∷ 0 ∷ 2 ∷ 0 ∷ 1 ∷ 1 ∷ 0 ∷ 1 ∷ []) time
+K second dropOff time = transferLent (four time 64 3600 21600) (tableK second dropOff) countsK 2 (0 ∷ 0 ∷ 1 ∷ []) 5 (0 ∷ 2 ∷ 2 ∷ 3 ∷ 5 ∷ 0 ∷ []) (1 ∷ 0 ∷ 0 ∷ 0 ∷ 2 ∷ 0 ∷ 1 ∷ 1 ∷ 0 ∷ 1 ∷ [])
 
 -- sixteen words, all 9; and no transfer in eight events, the first transfer in the second event
 nines : List ℕ
@@ -81,11 +83,11 @@ tableL =
     ∷ 0 ∷ 0 ∷ []
 
 L : TransferLent
-L = transferLent tableL (record { stops = 2; trips = 3; times = 6; windows = 0; edges = 0 }) 2 (1 ∷ 1 ∷ 0 ∷ []) 3 (0 ∷ 0 ∷ 0 ∷ 3 ∷ []) (2 ∷ 1 ∷ 1 ∷ 1 ∷ 0 ∷ 1 ∷ []) 120
+L = transferLent defaultSettings tableL (record { stops = 2; trips = 3; times = 6; windows = 0; edges = 0 }) 2 (1 ∷ 1 ∷ 0 ∷ []) 3 (0 ∷ 0 ∷ 0 ∷ 3 ∷ []) (2 ∷ 1 ∷ 1 ∷ 1 ∷ 0 ∷ 1 ∷ [])
 
 -- the same with one line: T1 and T2 depart at 240, T2 listed first; from 231 on it is T2, also for T0 were it not T0's own
 oneLine : TransferLent
-oneLine = transferLent tableL (record { stops = 2; trips = 3; times = 6; windows = 0; edges = 0 }) 1 (0 ∷ 0 ∷ 0 ∷ []) 3 (0 ∷ 0 ∷ 0 ∷ 3 ∷ []) (2 ∷ 1 ∷ 1 ∷ 1 ∷ 0 ∷ 1 ∷ []) 121
+oneLine = transferLent (four 121 64 3600 21600) tableL (record { stops = 2; trips = 3; times = 6; windows = 0; edges = 0 }) 1 (0 ∷ 0 ∷ 0 ∷ []) 3 (0 ∷ 0 ∷ 0 ∷ 3 ∷ []) (2 ∷ 1 ∷ 1 ∷ 1 ∷ 0 ∷ 1 ∷ [])
 
 -- one trip from stop 0 to stop 1, and two walk edges, from stop 1 to 0, then from stop 0 to 1
 tableW : List ℕ
@@ -96,7 +98,7 @@ tableW =
     ∷ 0 ∷ 0 ∷ []
 
 walked : TransferLent
-walked = transferLent tableW (record { stops = 2; trips = 1; times = 2; windows = 0; edges = 2 }) 1 (0 ∷ []) 1 (0 ∷ 1 ∷ 1 ∷ 0 ∷ []) (0 ∷ 0 ∷ []) 120
+walked = transferLent defaultSettings tableW (record { stops = 2; trips = 1; times = 2; windows = 0; edges = 2 }) 1 (0 ∷ []) 1 (0 ∷ 1 ∷ 1 ∷ 0 ∷ []) (0 ∷ 0 ∷ [])
 
 twelve : List ℕ
 twelve = 9 ∷ 9 ∷ 9 ∷ 9 ∷ 9 ∷ 9 ∷ 9 ∷ 9 ∷ 9 ∷ 9 ∷ 9 ∷ 9 ∷ []
@@ -108,7 +110,11 @@ cases =
     ∷ record { given = K 320 1 120; area = 9 ∷ []; transferRuns = nines; code = 0; value = 0; areaOut = 9 ∷ []; runsOut = noRuns }
     ∷ record { given = K 320 2 120; area = 9 ∷ 9 ∷ 9 ∷ 9 ∷ []; transferRuns = nines; code = 0; value = 1; areaOut = 2 ∷ 0 ∷ 120 ∷ 0 ∷ []; runsOut = oneRun }
     ∷ record { given = K 320 0 120; area = 9 ∷ 9 ∷ 9 ∷ []; transferRuns = nines; code = 7; value = 0; areaOut = 9 ∷ 9 ∷ 9 ∷ []; runsOut = nines }
-    ∷ record { given = K 320 0 3601; area = 9 ∷ []; transferRuns = nines; code = 5; value = 0; areaOut = 9 ∷ []; runsOut = nines }
+    ∷ record { given = K 320 0 3601; area = 9 ∷ []; transferRuns = nines; code = 14; value = 0; areaOut = 9 ∷ []; runsOut = nines }
+    -- 14 before 2; the transfer time is the setting: with 121 seconds T0 at stop 1 (arrives at 200) does not reach T2 (leaves at 320)
+    ∷ record { given = K 320 0 3601; area = 9 ∷ []; transferRuns = 9 ∷ []; code = 14; value = 0; areaOut = 9 ∷ []; runsOut = 9 ∷ [] }
+    ∷ record { given = K 320 0 121; area = 9 ∷ []; transferRuns = nines; code = 0; value = 0; areaOut = 9 ∷ []; runsOut = noRuns }
+    ∷ record { given = K 321 0 121; area = 9 ∷ 9 ∷ 9 ∷ 9 ∷ []; transferRuns = nines; code = 0; value = 1; areaOut = 2 ∷ 0 ∷ 121 ∷ 0 ∷ []; runsOut = oneRun }
     ∷ record { given = K 320 0 120; area = 9 ∷ []; transferRuns = 9 ∷ []; code = 2; value = 0; areaOut = 9 ∷ []; runsOut = 9 ∷ [] }
     ∷ record { given = walked; area = 9 ∷ []; transferRuns = 9 ∷ 9 ∷ 9 ∷ 9 ∷ []; code = 6; value = 0; areaOut = 9 ∷ []; runsOut = 9 ∷ 9 ∷ 9 ∷ 9 ∷ [] }
     ∷ record {
@@ -132,5 +138,5 @@ cases =
     ∷ []
 
 pub cases-right : all cases ≡ true
-unfolding countsOk slicesOk runsOk numbersOk rangesOk orderOk edgeRises tripRuns stopTimeNumbers edgeNumbers stopTimeRanges tripRanges windowRanges edgeRanges timeOf tripOf windowOf edgeOf every tabFrom insertBy sortBy keep flatten stopRunsOk runIn listedOk rowsOk rowNumbers atStopsOk stopRowsOk rowAtStop departuresOfLine firstNotBefore transferTo transfersOf eventsOf eventsBefore transferWords runsFrom transferSizesOk linesOk transfersQuestion1 transfersQuestion2 transfersQuestion3 transfersQuestion4 transfersQuestion5 transfersQuestion6 transfersVerdict roomOk areaWith transfersSettled all cases right K countsK tableK nines same oneRun noRuns L tableL twelve oneLine walked tableW
+unfolding settingsOk countsOk slicesOk runsOk numbersOk rangesOk orderOk edgeRises tripRuns stopTimeNumbers edgeNumbers stopTimeRanges tripRanges windowRanges edgeRanges timeOf tripOf windowOf edgeOf every tabFrom insertBy sortBy keep flatten stopRunsOk runIn listedOk rowsOk rowNumbers atStopsOk stopRowsOk rowAtStop departuresOfLine firstNotBefore transferTo transfersOf eventsOf eventsBefore transferWords runsFrom transferSizesOk linesOk transfersQuestion1 transfersQuestion2 transfersQuestion3 transfersQuestion4 transfersQuestion5 transfersQuestion6 transfersVerdict roomOk areaWith transfersSettled all cases right K countsK tableK nines same oneRun noRuns L tableL twelve oneLine walked tableW
 cases-right = refl

@@ -117,7 +117,7 @@ module _ (x : TransferLent) (rows : List DepartureRow) (f : All (RowFits x) rows
 
 -- an event's, a trip's, all of them
 abbrev pub preparedOf : TransferLent → Prepared
-preparedOf x = prepared (x .t) (x .c) (x .runs) (workOf x) (x .time)
+preparedOf x = prepared (x .t) (x .c) (x .runs) (workOf x) (x .settings .«transfer_time»)
 
 cond-map : {A B : Type 0} (f : A → B) (b : Bool) (l : List A) → cond b [] (map f l) ≡ map f (cond b [] l)
 cond-map f true l = refl
@@ -131,10 +131,10 @@ module _ (x : TransferLent) (n : ℕ) (a : TransfersAdmitted x n) where
   unfolding alightKeys transfersOf transferTo firstNotBefore departuresOfLine
   event-keys ti off h k =
       ap (cond (eqb (timeAt (inputOf x .timetable) ti off .«drop_off») 1) [])
-      (ap (λ (v : List ℕ). targets v ti (arrivalOf (x .t) (x .c) ti off + x .time)) (run-is x n a (stopOf (x .t) (x .c) ti off) (event-stop ti off h k))
-      ∙ targets-are x (listedAt (x .runs) (x .rows) (stopOf (x .t) (x .c) ti off)) (rows-fit x n a (stopOf (x .t) (x .c) ti off) (event-stop ti off h k)) ti (arrivalOf (x .t) (x .c) ti off + x .time) (a .lines .few))
+      (ap (λ (v : List ℕ). targets v ti (arrivalOf (x .t) (x .c) ti off + x .settings .«transfer_time»)) (run-is x n a (stopOf (x .t) (x .c) ti off) (event-stop ti off h k))
+      ∙ targets-are x (listedAt (x .runs) (x .rows) (stopOf (x .t) (x .c) ti off)) (rows-fit x n a (stopOf (x .t) (x .c) ti off) (event-stop ti off h k)) ti (arrivalOf (x .t) (x .c) ti off + x .settings .«transfer_time») (a .lines .few))
       ∙ cond-map (packOf x) (eqb (timeAt (inputOf x .timetable) ti off .«drop_off») 1)
-      (flatten (tab (toLineOf (inputOf x) (listedAt (x .runs) (x .rows) (stopOf (x .t) (x .c) ti off)) ti (arrivalOf (x .t) (x .c) ti off + x .time)) (x .lineCount)))
+      (flatten (tab (toLineOf (inputOf x) (listedAt (x .runs) (x .rows) (stopOf (x .t) (x .c) ti off)) ti (arrivalOf (x .t) (x .c) ti off + x .settings .«transfer_time»)) (x .lineCount)))
 
   -- THE EVENTS
   pub all-keys : allKeys (preparedOf x) ≡ map (map (packOf x)) (rowEvents (inputOf x))

@@ -29,12 +29,12 @@ use Rattle.transfers_call.proofs.Runs.{RowFits, numbersOf, packOf, sort
 use Rattle.transfers_call.proofs.Meaning.{all-keys, events-are, preparedOf, rowEvents, all-are, transfers-fit}
 
 -- the words and the runs of numbers
-words-are : (x : TransferLent) (l : List DepartureRow) → All (RowFits x) l → keyWords (x .time) (map (packOf x) l) ≡ transferWords (map (transferOf (x .time)) l)
+words-are : (x : TransferLent) (l : List DepartureRow) → All (RowFits x) l → keyWords (x .settings .«transfer_time») (map (packOf x) l) ≡ transferWords (map (transferOf (x .settings .«transfer_time»)) l)
 unfolding keyWords transferWords
 words-are x [] nil = refl
 words-are x (r ∷ l) (cons k a) =
     ap₂ _∷_ (pack-trip (x .t) (x .c) (x .lines) r (k .fits))
-    (ap₂ _∷_ (pack-offset (x .t) (x .c) (x .lines) r (k .fits)) (ap (λ (m : List ℕ). x .time ∷ 0 ∷ m) (words-are x l a)))
+    (ap₂ _∷_ (pack-offset (x .t) (x .c) (x .lines) r (k .fits)) (ap (λ (m : List ℕ). x .settings .«transfer_time» ∷ 0 ∷ m) (words-are x l a)))
 
 runs-are : {A B : Type 0} (f : A → B) (n : ℕ) (l : List (List A)) → runsFrom n (map (map f) l) ≡ runsFrom n l
 unfolding runsFrom
@@ -96,28 +96,28 @@ module _ (x : TransferLent) (s : TransferAreas) (a : TransfersAdmitted x (length
   counted : length (flatten (allKeys (preparedOf x))) ≡ length (allTransfers (inputOf x))
   counted =
       ap length rows ∙ length-map (packOf x) (flatten (rowEvents (inputOf x)))
-      ∙ sym (ap length (all-are (inputOf x)) ∙ length-map (transferOf (x .time)) (flatten (rowEvents (inputOf x))))
+      ∙ sym (ap length (all-are (inputOf x)) ∙ length-map (transferOf (x .settings .«transfer_time»)) (flatten (rowEvents (inputOf x))))
 
   events : length (allKeys (preparedOf x)) * 2 ≡ length (s .transferRuns)
   events =
-      omega (arith, ap length keys ∙ length-map (map (packOf x)) (rowEvents (inputOf x)), ap length (events-are (inputOf x)) ∙ length-map (map (transferOf (x .time))) (rowEvents (inputOf x)), events-length (inputOf x), a .events)
+      omega (arith, ap length keys ∙ length-map (map (packOf x)) (rowEvents (inputOf x)), ap length (events-are (inputOf x)) ∙ length-map (map (transferOf (x .settings .«transfer_time»))) (rowEvents (inputOf x)), events-length (inputOf x), a .events)
 
-  area-is : length (allTransfers (inputOf x)) ≤ 65536 → length (allTransfers (inputOf x)) * 4 ≤ length (s .area) → layEvents (x .time) 0 (allKeys (preparedOf x)) (areaWalk 0 (s .area) (s .transferRuns)) .area ≡ areaWith (inputOf x) (s .area)
+  area-is : length (allTransfers (inputOf x)) ≤ 65536 → length (allTransfers (inputOf x)) * 4 ≤ length (s .area) → layEvents (x .settings .«transfer_time») 0 (allKeys (preparedOf x)) (areaWalk 0 (s .area) (s .transferRuns)) .area ≡ areaWith (inputOf x) (s .area)
   unfolding areaWith
   area-is few room =
       let e : (0 + length (flatten (allKeys (preparedOf x)))) * 4 ≡ length (allTransfers (inputOf x)) * 4 = omega (arith, counted) in
       ap (λ (w : AreaSoFar). w .area)
-      (events-laid (x .time) 0 (allKeys (preparedOf x)) (areaWalk 0 (s .area) (s .transferRuns))
-      ∙ lay-area (x .time) (flatten (allKeys (preparedOf x))) 0 (s .area) (omega (arith, counted)) (omega (arith, counted)))
-      ∙ within-is (0 * 4) ((0 + length (flatten (allKeys (preparedOf x)))) * 4) (keyWords (x .time) (flatten (allKeys (preparedOf x)))) (s .area)
+      (events-laid (x .settings .«transfer_time») 0 (allKeys (preparedOf x)) (areaWalk 0 (s .area) (s .transferRuns))
+      ∙ lay-area (x .settings .«transfer_time») (flatten (allKeys (preparedOf x))) 0 (s .area) (omega (arith, counted)) (omega (arith, counted)))
+      ∙ within-is (0 * 4) ((0 + length (flatten (allKeys (preparedOf x)))) * 4) (keyWords (x .settings .«transfer_time») (flatten (allKeys (preparedOf x)))) (s .area)
       ∙ ap₂ (λ (l : List ℕ) (m : ℕ). l ++ drop m (s .area))
-      (ap (keyWords (x .time)) rows ∙ words-are x (flatten (rowEvents (inputOf x))) (transfers-fit x (length (s .transferRuns)) a) ∙ ap transferWords (sym (all-are (inputOf x)))) e
+      (ap (keyWords (x .settings .«transfer_time»)) rows ∙ words-are x (flatten (rowEvents (inputOf x))) (transfers-fit x (length (s .transferRuns)) a) ∙ ap transferWords (sym (all-are (inputOf x)))) e
 
-  runs-is : length (allTransfers (inputOf x)) ≤ 65536 → layEvents (x .time) 0 (allKeys (preparedOf x)) (areaWalk 0 (s .area) (s .transferRuns)) .evs ≡ runsFrom 0 (eventsOf (inputOf x))
+  runs-is : length (allTransfers (inputOf x)) ≤ 65536 → layEvents (x .settings .«transfer_time») 0 (allKeys (preparedOf x)) (areaWalk 0 (s .area) (s .transferRuns)) .evs ≡ runsFrom 0 (eventsOf (inputOf x))
   runs-is few =
-      events-runs (x .time) 0 (allKeys (preparedOf x)) (areaWalk 0 (s .area) (s .transferRuns)) (omega (arith, counted)) (omega (arith, events))
+      events-runs (x .settings .«transfer_time») 0 (allKeys (preparedOf x)) (areaWalk 0 (s .area) (s .transferRuns)) (omega (arith, counted)) (omega (arith, events))
       ∙ within-whole ((0 + length (allKeys (preparedOf x))) * 2) (runsFrom 0 (allKeys (preparedOf x))) (s .transferRuns) (omega (arith, events))
-      ∙ ap (runsFrom 0) keys ∙ runs-are (packOf x) 0 (rowEvents (inputOf x)) ∙ sym (ap (runsFrom 0) (events-are (inputOf x)) ∙ runs-are (transferOf (x .time)) 0 (rowEvents (inputOf x)))
+      ∙ ap (runsFrom 0) keys ∙ runs-are (packOf x) 0 (rowEvents (inputOf x)) ∙ sym (ap (runsFrom 0) (events-are (inputOf x)) ∙ runs-are (transferOf (x .settings .«transfer_time»)) 0 (rowEvents (inputOf x)))
 
   pub settled-is : settledKeys (preparedOf x) s ≡ transfersSettled (inputOf x) s
   unfolding settledKeys transfersSettled
@@ -129,7 +129,7 @@ module _ (x : TransferLent) (s : TransferAreas) (a : TransfersAdmitted x (length
       keyed : Bool → TransfersOutcome
       keyed b =
           cond b
-          (transfersOutcomeOf (Rows (min (length (flatten (allKeys (preparedOf x)))) 65537)) (walkAreas (layEvents (x .time) 0 (allKeys (preparedOf x)) (areaWalk 0 (s .area) (s .transferRuns)))))
+          (transfersOutcomeOf (Rows (min (length (flatten (allKeys (preparedOf x)))) 65537)) (walkAreas (layEvents (x .settings .«transfer_time») 0 (allKeys (preparedOf x)) (areaWalk 0 (s .area) (s .transferRuns)))))
           (transfersOutcomeOf (Refused 7) s)
 
       defined : Bool → TransfersOutcome
@@ -173,6 +173,6 @@ sorted-with x n a u w ends p q l =
     rw e (sorted-runs x n a ends (rw e at l))
 
 pub settled-with : (x : TransferLent) (s : TransferAreas) → TransfersAdmitted x (length (s .transferRuns)) → (u w : List ℕ) → u ≡ numbersOf x → w ≡ sortStops hi (x .runs) (x .c .stops) u
-    → settledKeys (prepared (x .t) (x .c) (x .runs) w (x .time)) s ≡ transfersSettled (inputOf x) s
+    → settledKeys (prepared (x .t) (x .c) (x .runs) w (x .settings .«transfer_time»)) s ≡ transfersSettled (inputOf x) s
 settled-with x s a u w p q =
-    ap (λ (v : List ℕ). settledKeys (prepared (x .t) (x .c) (x .runs) v (x .time)) s) (q ∙ ap (sortStops hi (x .runs) (x .c .stops)) p) ∙ settled-is x s a
+    ap (λ (v : List ℕ). settledKeys (prepared (x .t) (x .c) (x .runs) v (x .settings .«transfer_time»)) s) (q ∙ ap (sortStops hi (x .runs) (x .c .stops)) p) ∙ settled-is x s a

@@ -8,6 +8,8 @@ use lib.Dec.{ltb, leb, eqb}
 use Rattle.loops.specs.Iter.{everyIn}
 use Rattle.door.specs.declared.Answer.{Answer}
 use Rattle.door.specs.Door.{ask, refusal, success}
+use Rattle.door.specs.Settings.{settingsOk, transferTimeLimit}
+use Rattle.door.specs.declared.Settings.{Settings}
 use Rattle.tables.specs.declared.Counts.{Counts}
 use Rattle.tables.specs.Timetable.{timetable}
 use Rattle.tables.specs.Door.{countsOk, slicesOk, runsOk, numbersOk, rangesOk, orderOk}
@@ -18,9 +20,10 @@ use Rattle.transfers_call.specs.declared.Built.{Built}
 use Rattle.transfers_call.specs.declared.Built.the-variants.{Refused, Rows}
 use Rattle.event_transfers.specs.Transfers.{Input, allTransfers, eventsOf, eventsBefore, transferWords, runsFrom}
 
--- what is lent: the timetable and its counts, each trip's line and how many lines there are, the listed departures
--- (a run for each stop, d rows), and the transfer time in seconds
+-- what is lent: the settings, the timetable and its counts, each trip's line and how many lines there are, the listed departures
+-- (a run for each stop, d rows)
 pub record TransferLent : Type 0 where
+  pub settings : Settings
   pub t : List ℕ
   pub c : Counts
   pub lineCount : ℕ
@@ -28,12 +31,11 @@ pub record TransferLent : Type 0 where
   pub d : ℕ
   pub runs : List ℕ
   pub rows : List ℕ
-  pub time : ℕ
 
-abbrev pub transferLent : List ℕ → Counts → ℕ → List ℕ → ℕ → List ℕ → List ℕ → ℕ → TransferLent
-transferLent t c n lines d runs rows time = record { t = t; c = c; lineCount = n; lines = lines; d = d; runs = runs; rows = rows; time = time }
+abbrev pub transferLent : Settings → List ℕ → Counts → ℕ → List ℕ → ℕ → List ℕ → List ℕ → TransferLent
+transferLent S t c n lines d runs rows = record { settings = S; t = t; c = c; lineCount = n; lines = lines; d = d; runs = runs; rows = rows }
 
--- what it says
+-- what it says; the transfer time is the setting
 abbrev pub inputOf : TransferLent → Input
 inputOf x =
     record {
@@ -41,7 +43,7 @@ inputOf x =
       lines = x .lineCount;
       lineOf = λ i. getD (x .lines) i 0;
       listed = listedAt (x .runs) (x .rows);
-      time = x .time;
+      time = x .settings .«transfer_time»;
     }
 
 -- the answer as document 01 numbers it: the question answered no, or 0 and how many transfers were written
@@ -84,23 +86,24 @@ unfoldable pub transfersQuestion4 : TransferLent → Bool
 transfersQuestion4 x =
     numbersOk (x .t) (x .c) && (linesOk (x .lines) (x .c .trips) (x .lineCount) && listedOk (x .t) (x .c) (x .runs) (x .rows) (x .d))
 
--- 5: is every time and code in its range? The transfer time is at most 3,600.
+-- 5: is every time and code in its range?
 unfoldable pub transfersQuestion5 : TransferLent → Bool
-transfersQuestion5 x = rangesOk (x .t) (x .c) && leb (x .time) 3600
+transfersQuestion5 x = rangesOk (x .t) (x .c)
 
 -- 6: are the walk edges in order of from-stop? (The departures may come in any order.)
 unfoldable pub transfersQuestion6 : TransferLent → Bool
 transfersQuestion6 x = orderOk (x .t) (x .c)
 
--- the number of the first of 1 to 6 that is answered no, or 0
+-- the number of the first of 1, 14 (is every setting in its range?) and 2 to 6 that is answered no, or 0
 unfoldable pub transfersVerdict : TransferLent → ℕ → ℕ
 transfersVerdict x transferRuns =
     ask 1 (transfersQuestion1 x)
+    (ask 14 (settingsOk (x .settings))
     (ask 2 (transfersQuestion2 x transferRuns)
     (ask 3 (transfersQuestion3 x)
     (ask 4 (transfersQuestion4 x)
     (ask 5 (transfersQuestion5 x)
-    (ask 6 (transfersQuestion6 x) 0)))))
+    (ask 6 (transfersQuestion6 x) 0))))))
 
 -- 7: are there at most 65,536, and does the area hold all of them?
 unfoldable pub roomOk : ℕ → ℕ → Bool
@@ -134,7 +137,7 @@ transfersSettle (suc n) x s = transfersOutcomeOf (Refused (suc n)) s
 abbrev pub transfersOutcome : TransferLent → TransferAreas → TransfersOutcome
 transfersOutcome x s = transfersSettle (transfersVerdict x (length (s .transferRuns))) (inputOf x) s
 
--- what the questions 1 to 6 give where all are answered yes
+-- what the questions 1, 14 and 2 to 6 give where all are answered yes
 pub record LinesBelow (lines : List ℕ) (trips lineCount : ℕ) : Type 0 where
   pub size : length lines ≡ trips
   pub few : lineCount ≤ 4096
@@ -144,5 +147,5 @@ pub record TransfersAdmitted (x : TransferLent) (transferRuns : ℕ) : Type 0 wh
   pub sane : Sane (x .t) (x .c)
   pub listed : RowsListed (x .t) (x .c) (x .runs) (x .rows) (x .d)
   pub lines : LinesBelow (x .lines) (x .c .trips) (x .lineCount)
-  pub time : x .time ≤ 3600
+  pub time : x .settings .«transfer_time» ≤ transferTimeLimit
   pub events : transferRuns ≡ eventsBefore (timetable (x .t) (x .c)) (x .c .trips) * 2

@@ -10,6 +10,7 @@ ghost use mathlib.Core.Bool.{_&&_};
 ghost use Prim.Native.Nat.{_≤_, _<_};
 ghost use lib.ListN.{length, getD};
 ghost use Rattle.loops.specs.Count.{tab};
+ghost use Rattle.door.specs.Settings.{transferTimeLimit};
 ghost use Rattle.tables.specs.Door.{slicesOk};
 ghost use Rattle.tables.specs.Sane.{CountsOk, SlicesOk, Sane};
 ghost use Rattle.departures.specs.Listed.{RunsListed, RowKnown, RowsKnown};
@@ -18,6 +19,7 @@ ghost use Rattle.transfers_call.specs.Settled.{settledKeys};
 ghost use Rattle.transfers_call.specs.Call.{transferLent, inputOf, transferAreas, linesOk, transferSizesOk, transfersVerdict, roomOk};
 ghost use Rattle.transfers_call.specs.Call.{transfersSettled, transfersOutcome, transfersOutcomeOf, TransfersAdmitted, LinesBelow};
 use departures::DepartureRow;
+use door::Settings;
 use tables::Counts;
 
 // What the call answers: the number of the question that was answered no, or how many transfers were written.
@@ -48,7 +50,7 @@ fn settle(
     time: usize,
 ) -> Built
     requires { ⌜ Sane (now tables) c ⌝ ∗ ⌜ RunsListed c (now runs) d ⌝ ∗ ⌜ SortedRuns c (now runs) (now work) (now ends) d ⌝
-        ∗ ⌜ time ≤ 3600 ⌝ }
+        ∗ ⌜ time ≤ transferTimeLimit ⌝ }
     ensures { λ r. ⌜ transfersOutcomeOf r (transferAreas (now (area .exit)) (now («transfer_runs» .exit)))
         ≡ settledKeys (prepared (now (tables .entry)) c (now (runs .entry)) (now (work .entry)) time)
         (transferAreas (now (area .entry)) (now («transfer_runs» .entry))) ⌝ }
@@ -163,8 +165,9 @@ fn lines_ok(lines: &[u32], line_count: usize) -> bool
     true
 }
 
-// The questions 1 to 6: the number of the first that is answered no, or 0.
+// The questions 1, 14 and 2 to 6: the number of the first that is answered no, or 0.
 fn questions(
+    settings: Settings,
     tables: &[u32],
     c: Counts,
     line_count: usize,
@@ -172,17 +175,15 @@ fn questions(
     d: usize,
     runs: &[u32],
     rows: &[u32],
-    time: usize,
     evs: usize,
 ) -> u32
-    ensures { λ r. ⌜ r ≡ transfersVerdict (transferLent (now (tables .entry)) c «line_count» (now (lines .entry)) d (now (runs .entry))
-        (now (rows .entry)) time) evs ⌝ }
+    ensures { λ r. ⌜ r ≡ transfersVerdict (transferLent settings (now (tables .entry)) c «line_count» (now (lines .entry)) d
+        (now (runs .entry)) (now (rows .entry))) evs ⌝ }
 {
-    if !door::both(
-        tables::counts_ok(c),
-        door::both(line_count <= 4096, d <= 65536),
-    ) {
-        return 1;
+    let few = door::both(line_count <= 4096, d <= 65536);
+    let no = door::limits(door::both(tables::counts_ok(c), few), settings);
+    if no != 0 {
+        return no;
     }
     if !lent_ok(tables, c, d, lines.len(), runs.len(), rows.len(), evs) {
         return 2;
@@ -202,7 +203,7 @@ fn questions(
     ) {
         return 4;
     }
-    if !door::both(tables::ranges_ok(tables, c), time <= 3600) {
+    if !tables::ranges_ok(tables, c) {
         return 5;
     }
     if !tables::order_ok(tables, c) {
@@ -213,6 +214,7 @@ fn questions(
 
 // What an admitted call writes. The sort works in `work` and `other`, of d numbers each.
 fn build_in(
+    settings: Settings,
     tables: &[u32],
     c: Counts,
     line_count: usize,
@@ -220,28 +222,29 @@ fn build_in(
     d: usize,
     runs: &[u32],
     rows: &[u32],
-    time: usize,
     area: &mut [u32],
     transfer_runs: &mut [u32],
     work: &mut [u64],
     other: &mut [u64],
 ) -> Built
-    requires { ⌜ TransfersAdmitted (transferLent (now tables) c «line_count» (now lines) d (now runs) (now rows) time)
+    requires { ⌜ TransfersAdmitted (transferLent settings (now tables) c «line_count» (now lines) d (now runs) (now rows))
         (length (now «transfer_runs»)) ⌝
         ∗ ⌜ length (now work) ≡ d ⌝
         ∗ ⌜ length (now other) ≡ d ⌝ }
     ensures { λ r. ⌜ transfersOutcomeOf r (transferAreas (now (area .exit)) (now («transfer_runs» .exit)))
-        ≡ transfersSettled (inputOf (transferLent (now (tables .entry)) c «line_count» (now (lines .entry)) d (now (runs .entry))
-        (now (rows .entry)) time)) (transferAreas (now (area .entry)) (now («transfer_runs» .entry))) ⌝ }
+        ≡ transfersSettled (inputOf (transferLent settings (now (tables .entry)) c «line_count» (now (lines .entry)) d (now (runs .entry))
+        (now (rows .entry)))) (transferAreas (now (area .entry)) (now («transfer_runs» .entry))) ⌝ }
 {
     pack_lines(tables, c, lines, rows, d, line_count, work);
     departures::sort_stops(c, runs, d, work, other);
     event_transfers::line_ends(work, other);
+    let time = settings.transfer_time as usize;
     settle(tables, c, runs, d, work, other, area, transfer_runs, time)
 }
 
 // The same in the first d numbers of two longer slices.
 fn build(
+    settings: Settings,
     tables: &[u32],
     c: Counts,
     line_count: usize,
@@ -249,21 +252,21 @@ fn build(
     d: usize,
     runs: &[u32],
     rows: &[u32],
-    time: usize,
     area: &mut [u32],
     transfer_runs: &mut [u32],
     work: &mut [u64],
     other: &mut [u64],
 ) -> Built
-    requires { ⌜ TransfersAdmitted (transferLent (now tables) c «line_count» (now lines) d (now runs) (now rows) time)
+    requires { ⌜ TransfersAdmitted (transferLent settings (now tables) c «line_count» (now lines) d (now runs) (now rows))
         (length (now «transfer_runs»)) ⌝
         ∗ ⌜ d ≤ length (now work) ⌝
         ∗ ⌜ d ≤ length (now other) ⌝ }
     ensures { λ r. ⌜ transfersOutcomeOf r (transferAreas (now (area .exit)) (now («transfer_runs» .exit)))
-        ≡ transfersSettled (inputOf (transferLent (now (tables .entry)) c «line_count» (now (lines .entry)) d (now (runs .entry))
-        (now (rows .entry)) time)) (transferAreas (now (area .entry)) (now («transfer_runs» .entry))) ⌝ }
+        ≡ transfersSettled (inputOf (transferLent settings (now (tables .entry)) c «line_count» (now (lines .entry)) d (now (runs .entry))
+        (now (rows .entry)))) (transferAreas (now (area .entry)) (now («transfer_runs» .entry))) ⌝ }
 {
     build_in(
+        settings,
         tables,
         c,
         line_count,
@@ -271,7 +274,6 @@ fn build(
         d,
         runs,
         rows,
-        time,
         area,
         transfer_runs,
         &mut work[..d],
@@ -280,10 +282,11 @@ fn build(
 }
 
 // The transfers of every stop event. `lines` is each trip's line, below `line_count`; `runs` and `rows` are the d listed
-// departures, in any order; `transfer_time` is in seconds (120 in the Rust). `area` takes rows of four words (target trip,
-// offset, time, pattern 0) and keeps its words past the last one; `transfer_runs` takes a pair (first, count) for each stop
-// time of each trip, trip by trip. A refusal leaves both as they came.
+// departures, in any order. `area` takes rows of four words (target trip, offset, the setting transfer time, pattern 0) and
+// keeps its words past the last one; `transfer_runs` takes a pair (first, count) for each stop time of each trip, trip by trip.
+// A refusal leaves both as they came.
 pub fn compute_trip_transfers(
+    settings: Settings,
     tables: &[u32],
     c: Counts,
     line_count: usize,
@@ -291,15 +294,15 @@ pub fn compute_trip_transfers(
     d: usize,
     runs: &[u32],
     rows: &[u32],
-    transfer_time: usize,
     area: &mut [u32],
     transfer_runs: &mut [u32],
 ) -> Built
     ensures { λ r. ⌜ transfersOutcomeOf r (transferAreas (now (area .exit)) (now («transfer_runs» .exit)))
-        ≡ transfersOutcome (transferLent (now (tables .entry)) c «line_count» (now (lines .entry)) d (now (runs .entry)) (now (rows .entry))
-        «transfer_time») (transferAreas (now (area .entry)) (now («transfer_runs» .entry))) ⌝ }
+        ≡ transfersOutcome (transferLent settings (now (tables .entry)) c «line_count» (now (lines .entry)) d (now (runs .entry))
+        (now (rows .entry))) (transferAreas (now (area .entry)) (now («transfer_runs» .entry))) ⌝ }
 {
     let v = questions(
+        settings,
         tables,
         c,
         line_count,
@@ -307,7 +310,6 @@ pub fn compute_trip_transfers(
         d,
         runs,
         rows,
-        transfer_time,
         transfer_runs.len(),
     );
     if v != 0 {
@@ -316,6 +318,7 @@ pub fn compute_trip_transfers(
     let mut work = [0u64; 65536];
     let mut other = [0u64; 65536];
     build(
+        settings,
         tables,
         c,
         line_count,
@@ -323,7 +326,6 @@ pub fn compute_trip_transfers(
         d,
         runs,
         rows,
-        transfer_time,
         area,
         transfer_runs,
         &mut work,

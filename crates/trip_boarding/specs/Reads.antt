@@ -45,5 +45,5 @@ pub record Agree (T : Tables) (Q : Query) (t : List ℕ) (c : Counts) (rows stop
 pub record Asks (Q : Query) (w : Terms) : Type 0 where
   pub modes : Q .modes ≡ w .modes
   pub wheelchair : Q .wheelchair ≡ w .wheelchair
-  pub margin : margin (Q .delays) (Q .settings .marginCap) ≡ w .margin
-  pub lineScan : Q .settings .lineScan ≡ w .«line_scan»
+  pub margin : margin (Q .delays) (Q .settings .«margin_cap») ≡ w .margin
+  pub lineScan : Q .settings .«line_scan» ≡ w .«line_scan»

@@ -13,7 +13,8 @@ use borrow.Author.Tests.{eqb-true, eqb-false, ne-eqb, ltb-true}
 use Rattle.cell_bitset.specs.CellSet.{emptySet}
 use Rattle.label.specs.declared.Label.{Label}
 use Rattle.tables.specs.Timetable.{timetable}
-use Rattle.model.specs.Tables.{Tables, Query, rustSettings, isEgress, egressWalk}
+use Rattle.door.specs.Settings.{defaultSettings}
+use Rattle.model.specs.Tables.{Tables, Query, isEgress, egressWalk}
 use Rattle.model.specs.Search.{Arrivals, improve, relax}
 use Rattle.query_types.specs.declared.Lay.{Lay}
 use Rattle.search_state.specs.Places.{EgressTable, egressWord, tableWord, earliestOf, Falls}
@@ -87,7 +88,7 @@ asking es =
       transfers = 0;
       delays = record { delays = 0; delay = λ i. record { trip = 0; delay = 0 }; stopRows = 0; stopRow = λ j. record { row = 0; sequence = 0; «departure_delay» = 0; «arrival_delay» = 0; flags = 0 } };
       flagsOff = false;
-      settings = rustSettings;
+      settings = defaultSettings;
     }
 
 told-table : (lay : Lay) (w : List ℕ) → EgressTable (told (tableWord lay w) 0 (lay .stops)) lay w

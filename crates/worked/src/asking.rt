@@ -9,6 +9,7 @@ use crate::words::refused;
 use crate::words::say;
 use crate::words::tell;
 use crate::words::wide;
+use door::Settings;
 use query_reply::Reply;
 use sizes::QuerySizes;
 
@@ -25,6 +26,7 @@ fn egress(total: u32, stop: u32, reached: u32) {
 
 // The total, and the legs where they join.
 fn candidate(
+    settings: Settings,
     k: u32,
     s: QuerySizes,
     tables: &[u32],
@@ -41,9 +43,9 @@ fn candidate(
         b"  candidate of row #, at stop #, @:\n    ",
         &[row, stop, total],
     );
-    if joined(s, tables, query, labels, distances, stop, row) {
-        legs(27, s, tables, query, labels, distances, stop, row);
-        let found = label_at(s.stops, stop, row, labels, distances);
+    if joined(settings, s, tables, query, labels, distances, stop, row) {
+        legs(settings, 27, s, tables, query, labels, distances, stop, row);
+        let found = label_at(settings, s.stops, stop, row, labels, distances);
         let l = found.label;
         egress(total, stop, arrival(l));
         return;
@@ -52,6 +54,7 @@ fn candidate(
 }
 
 fn show(
+    settings: Settings,
     reply: Reply,
     s: QuerySizes,
     tables: &[u32],
@@ -71,13 +74,14 @@ fn show(
     tell(b"  best @ at stop #\n", &[reply.total, reply.stop]);
     let mut k: u32 = 0;
     while k < reply.candidates {
-        candidate(k, s, tables, query, candidates, labels, distances);
+        candidate(settings, k, s, tables, query, candidates, labels, distances);
         k += 1;
     }
 }
 
-// Asks with these labels and this workspace, and prints. Room for 64 segments in each half of the queue; no patterns.
-fn ask_in(
+// The call, with room for 64 segments in each half of the queue; no patterns.
+fn replied(
+    settings: Settings,
     s: QuerySizes,
     tables: &[u32],
     built: &[u32],
@@ -87,11 +91,12 @@ fn ask_in(
     labels: &mut [u32],
     label_distances: &mut [f64],
     work: &mut [u32],
-) {
+    candidates: &mut [u32],
+) -> Reply {
     let mut queue_a = [0u32; 256];
     let mut queue_b = [0u32; 256];
-    let mut candidates = [0u32; 39];
-    let reply = exports::savoiky_query(
+    exports::savoiky_query(
+        settings,
         s,
         tables,
         built,
@@ -104,9 +109,39 @@ fn ask_in(
         work,
         &mut queue_a,
         &mut queue_b,
+        candidates,
+    )
+}
+
+// Asks with these labels and this workspace, and prints.
+fn ask_in(
+    settings: Settings,
+    s: QuerySizes,
+    tables: &[u32],
+    built: &[u32],
+    area: &[u32],
+    distances: &[f64],
+    query: &[u32],
+    labels: &mut [u32],
+    label_distances: &mut [f64],
+    work: &mut [u32],
+) {
+    let mut candidates = [0u32; 39];
+    let reply = replied(
+        settings,
+        s,
+        tables,
+        built,
+        area,
+        distances,
+        query,
+        labels,
+        label_distances,
+        work,
         &mut candidates,
     );
     show(
+        settings,
         reply,
         s,
         tables,
@@ -119,6 +154,7 @@ fn ask_in(
 
 // Asks and prints. Room for 12 stops and 384 numbers of workspace.
 pub fn ask(
+    settings: Settings,
     s: QuerySizes,
     tables: &[u32],
     built: &[u32],
@@ -131,9 +167,10 @@ pub fn ask(
     let mut work = [0u32; 384];
     let words = part(wide(s.stops) * 104, 1248);
     let records = part(wide(s.stops) * 13, 156);
-    let size = exports::savoiky_work_size(s);
+    let size = exports::savoiky_work_size(settings, s);
     let n = part(wide(size.value), 384);
     ask_in(
+        settings,
         s,
         tables,
         built,

@@ -9,6 +9,7 @@ use crate::words::say_number;
 use crate::words::tell;
 use crate::words::wide;
 use door::Answer;
+use door::Settings;
 use sizes::QuerySizes;
 
 // What was built: the question that refused it, or 0; the counts, of lines, entries and transfers too; how many words of
@@ -54,6 +55,7 @@ fn put_lines(
 }
 
 fn group_in(
+    settings: Settings,
     s: QuerySizes,
     tables: &[u32],
     lines: &mut [u32],
@@ -65,6 +67,7 @@ fn group_in(
     let mut other = [0u64; 12];
     let n = part(wide(s.trips), 12);
     let a = exports::savoiky_compute_line_groups(
+        settings,
         s.stops,
         s.trips,
         s.times,
@@ -80,13 +83,14 @@ fn group_in(
     put_lines(a, s, lines, runs, entries, built)
 }
 
-fn group(s: QuerySizes, tables: &[u32], built: &mut [u32]) -> Made {
+fn group(settings: Settings, s: QuerySizes, tables: &[u32], built: &mut [u32]) -> Made {
     let mut lines = [0u32; 12];
     let mut runs = [0u32; 24];
     let mut entries = [0u32; 12];
     let trips = part(wide(s.trips), 12);
     let pairs = part(wide(s.trips) * 2, 24);
     group_in(
+        settings,
         s,
         tables,
         &mut lines[..trips],
@@ -98,6 +102,7 @@ fn group(s: QuerySizes, tables: &[u32], built: &mut [u32]) -> Made {
 
 // The stops' runs, the sorted departures and the marks stand next.
 fn sort_in(
+    settings: Settings,
     m: Made,
     tables: &[u32],
     stop_runs: &[u32],
@@ -110,6 +115,7 @@ fn sort_in(
     let s = m.sizes;
     let n = part(wide(s.departures), 48);
     let code = exports::savoiky_sort_stop_departures(
+        settings,
         s.stops,
         s.trips,
         s.times,
@@ -128,22 +134,36 @@ fn sort_in(
     }
     let a = put(stop_runs, m.length, built);
     let b = put(rows, a, built);
-    let c = put(marks, b, built);
     Made {
         code: 0,
         sizes: s,
-        length: c,
+        length: put(marks, b, built),
     }
 }
 
-fn sort(m: Made, tables: &[u32], stop_runs: &[u32], rows: &mut [u32], built: &mut [u32]) -> Made {
+fn sort(
+    settings: Settings,
+    m: Made,
+    tables: &[u32],
+    stop_runs: &[u32],
+    rows: &mut [u32],
+    built: &mut [u32],
+) -> Made {
     let mut marks = [0u32; 12];
     if m.code != 0 {
         return m;
     }
     let s = m.sizes;
     let stops = part(wide(s.stops), 12);
-    sort_in(m, tables, stop_runs, rows, &mut marks[..stops], built)
+    sort_in(
+        settings,
+        m,
+        tables,
+        stop_runs,
+        rows,
+        &mut marks[..stops],
+        built,
+    )
 }
 
 // The transfer runs stand last; the transfers stand in the area.
@@ -162,6 +182,7 @@ fn put_transfers(a: Answer, m: Made, transfer_runs: &[u32], built: &mut [u32]) -
 }
 
 fn link_in(
+    settings: Settings,
     m: Made,
     tables: &[u32],
     stop_runs: &[u32],
@@ -173,6 +194,7 @@ fn link_in(
     let s = m.sizes;
     let trips = part(wide(s.trips), built.len());
     let a = exports::savoiky_compute_trip_transfers(
+        settings,
         s.stops,
         s.trips,
         s.times,
@@ -191,6 +213,7 @@ fn link_in(
 }
 
 fn link(
+    settings: Settings,
     m: Made,
     tables: &[u32],
     stop_runs: &[u32],
@@ -205,6 +228,7 @@ fn link(
     let s = m.sizes;
     let events = part(wide(s.times) * 2, 96);
     link_in(
+        settings,
         m,
         tables,
         stop_runs,
@@ -218,6 +242,7 @@ fn link(
 // Builds a timetable: the departures that the caller lists (`rows`, by the stops' runs) are sorted in place. Each stop time
 // belongs to one trip, so that there are as many stop events. Room for 12 stops, 12 trips, 48 stop times, 48 departures.
 pub fn build(
+    settings: Settings,
     s: QuerySizes,
     tables: &[u32],
     stop_runs: &[u32],
@@ -225,9 +250,9 @@ pub fn build(
     area: &mut [u32],
     built: &mut [u32],
 ) -> Made {
-    let grouped = group(s, tables, built);
-    let sorted = sort(grouped, tables, stop_runs, rows, built);
-    link(sorted, tables, stop_runs, rows, area, built)
+    let grouped = group(settings, s, tables, built);
+    let sorted = sort(settings, grouped, tables, stop_runs, rows, built);
+    link(settings, sorted, tables, stop_runs, rows, area, built)
 }
 
 fn line_trips(first: u32, count: u32, entries: &[u32]) {
@@ -258,6 +283,7 @@ fn all_lines(count: u32, runs: &[u32], entries: &[u32], fifo: &[u32]) {
 }
 
 fn lay_out(
+    settings: Settings,
     s: QuerySizes,
     tables: &[u32],
     runs: &[u32],
@@ -266,6 +292,7 @@ fn lay_out(
     fifo: &mut [u32],
 ) {
     let code = exports::savoiky_line_layout(
+        settings,
         s.stops,
         s.trips,
         s.times,
@@ -287,7 +314,7 @@ fn lay_out(
 }
 
 // The lines, their trips in order, their FIFO flags.
-pub fn show_lines(s: QuerySizes, tables: &[u32], built: &[u32]) {
+pub fn show_lines(settings: Settings, s: QuerySizes, tables: &[u32], built: &[u32]) {
     let mut positions = [0u32; 12];
     let mut fifo = [0u32; 12];
     let trips = part(wide(s.trips), 12);
@@ -298,6 +325,7 @@ pub fn show_lines(s: QuerySizes, tables: &[u32], built: &[u32]) {
         return;
     }
     lay_out(
+        settings,
         s,
         tables,
         &built[trips..a],

@@ -1,4 +1,4 @@
-// Timetable K of document 01, built and asked.
+// Timetable K of document 01, built and asked; and built under other settings.
 use crate::asking::ask;
 use crate::building::Made;
 use crate::building::build;
@@ -8,6 +8,7 @@ use crate::words::part;
 use crate::words::refused;
 use crate::words::say;
 use crate::words::tell;
+use door::Settings;
 use sizes::QuerySizes;
 
 // Three stops, three trips, five listed departures, an origin and an egress stop.
@@ -47,60 +48,91 @@ fn timetable(end: u32, begin: u32) -> [u32; 75] {
     ]
 }
 
-fn build_k(tables: &[u32], area: &mut [u32], built: &mut [u32]) -> Made {
+fn build_k(settings: Settings, tables: &[u32], area: &mut [u32], built: &mut [u32]) -> Made {
     let runs = [0u32, 2, 2, 3, 5, 0]; // stop 0 lists two departures, stop 1 three, stop 2 none
     let mut rows = [0u32, 0, 1, 0, 0, 1, 1, 1, 2, 0]; // trip and offset: T0, T1; T0, T1, T2
-    build(sizes(), tables, &runs, &mut rows, area, built)
+    build(settings, sizes(), tables, &runs, &mut rows, area, built)
 }
 
 // A query from stop 0 (10 seconds) to stop 2 (5 seconds).
-fn asked(start: u32, change: u32, s: QuerySizes, tables: &[u32], built: &[u32], area: &[u32]) {
+fn asked(
+    settings: Settings,
+    start: u32,
+    change: u32,
+    s: QuerySizes,
+    tables: &[u32],
+    built: &[u32],
+    area: &[u32],
+) {
     let distances = [12.5f64];
     let query = [start, change, 0, 0, 0, 0, 0, 0, 10, 2, 5];
     tell(b"Start @, change time # s\n", &[start, change]);
-    ask(s, tables, built, area, &distances, &query);
+    ask(settings, s, tables, built, area, &distances, &query);
 }
 
-fn queries(s: QuerySizes, tables: &[u32], built: &[u32], area: &[u32]) {
-    asked(90, 120, s, tables, built, area);
-    asked(90, 121, s, tables, built, area);
-    asked(91, 120, s, tables, built, area);
-    asked(150, 120, s, tables, built, area);
-    asked(151, 120, s, tables, built, area);
+fn queries(settings: Settings, s: QuerySizes, tables: &[u32], built: &[u32], area: &[u32]) {
+    asked(settings, 90, 120, s, tables, built, area);
+    asked(settings, 90, 121, s, tables, built, area);
+    asked(settings, 91, 120, s, tables, built, area);
+    asked(settings, 150, 120, s, tables, built, area);
+    asked(settings, 151, 120, s, tables, built, area);
 }
 
-fn shown(made: Made, tables: &[u32], built: &[u32], area: &[u32], asking: bool) {
+fn shown(
+    settings: Settings,
+    made: Made,
+    tables: &[u32],
+    built: &[u32],
+    area: &[u32],
+    asking: bool,
+) {
     if made.code != 0 {
         refused(made.code);
         return;
     }
     let n = part(made.length, built.len());
-    show_lines(made.sizes, tables, &built[..n]);
+    show_lines(settings, made.sizes, tables, &built[..n]);
     say(b"  transfers of trip 0 at stop 1:\n");
     show_transfers(made.sizes, 1, area, &built[..n]);
     if asking {
-        queries(made.sizes, tables, &built[..n], area);
+        queries(settings, made.sizes, tables, &built[..n], area);
     }
 }
 
-fn day_in(tables: &[u32], area: &mut [u32], built: &mut [u32], asking: bool) {
-    let made = build_k(tables, area, built);
-    shown(made, tables, built, area, asking);
+fn day_in(settings: Settings, tables: &[u32], area: &mut [u32], built: &mut [u32], asking: bool) {
+    let made = build_k(settings, tables, area, built);
+    shown(settings, made, tables, built, area, asking);
 }
 
 // The lines, the transfers of T0 at stop 1 (stop event 1), and the queries where they are wanted.
-fn day(end: u32, begin: u32, asking: bool) {
+fn day(settings: Settings, end: u32, begin: u32, asking: bool) {
     let tables = timetable(end, begin);
     let mut area = [0u32; 256];
     let mut built = [0u32; 288];
-    day_in(&tables, &mut area, &mut built, asking);
+    day_in(settings, &tables, &mut area, &mut built, asking);
 }
 
-pub fn run() {
+pub fn run(settings: Settings) {
     say(b"\nTimetable K, with trip 1 ending at 399\n");
-    day(399, 320, false);
+    day(settings, 399, 320, false);
     say(b"Timetable K, with trip 2 leaving stop 1 at 319\n");
-    day(460, 319, false);
+    day(settings, 460, 319, false);
     say(b"Timetable K\n");
-    day(460, 320, true);
+    day(settings, 460, 320, true);
+}
+
+// T2 leaves stop 1 just 120 seconds after T0 arrives there.
+fn house(settings: Settings, transfer_time: u32) {
+    let mut other = settings;
+    other.transfer_time = transfer_time;
+    tell(b"Transfer time # s\n", &[transfer_time]);
+    day(other, 460, 320, false);
+}
+
+// The same timetable where changes by built transfers take longer, and where a setting is out of its range.
+pub fn houses(settings: Settings) {
+    say(b"\nTimetable K under other settings\n");
+    house(settings, 120);
+    house(settings, 121);
+    house(settings, 3601);
 }

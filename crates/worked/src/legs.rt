@@ -4,6 +4,7 @@ use crate::words::at;
 use crate::words::part;
 use crate::words::tell;
 use crate::words::wide;
+use door::Settings;
 use label::LabelRow;
 use sizes::QuerySizes;
 
@@ -14,17 +15,24 @@ pub struct RowLabel {
 }
 
 // The label of a stop in this row, or in the next lower row that has one.
-pub fn label_at(stops: u32, stop: u32, row: u32, labels: &[u32], distances: &[f64]) -> RowLabel {
+pub fn label_at(
+    settings: Settings,
+    stops: u32,
+    stop: u32,
+    row: u32,
+    labels: &[u32],
+    distances: &[f64],
+) -> RowLabel {
     let mut r = row;
     while 0 < r {
-        let a = exports::savoiky_label_load(stops, stop, r, labels, distances);
+        let a = exports::savoiky_label_load(settings, stops, stop, r, labels, distances);
         let l = a.row;
         if l.kind != 0 {
             return RowLabel { row: r, label: l };
         }
         r -= 1;
     }
-    let last = exports::savoiky_label_load(stops, stop, 0, labels, distances);
+    let last = exports::savoiky_label_load(settings, stops, stop, 0, labels, distances);
     let l = last.row;
     RowLabel { row: 0, label: l }
 }
@@ -38,7 +46,14 @@ pub fn arrival(l: LabelRow) -> u32 {
 }
 
 // The effective departure of a trip's stop time, under the delays at the end of the query.
-fn effective(s: QuerySizes, tables: &[u32], query: &[u32], trip: u32, time: usize) -> u32
+fn effective(
+    settings: Settings,
+    s: QuerySizes,
+    tables: &[u32],
+    query: &[u32],
+    trip: u32,
+    time: usize,
+) -> u32
     requires { ⌜ time < 68719476736 ⌝ }
 {
     let rows = 7 + wide(s.origins) * 2 + wide(s.egress) * 2;
@@ -46,6 +61,7 @@ fn effective(s: QuerySizes, tables: &[u32], query: &[u32], trip: u32, time: usiz
     let a = part(rows, b);
     let sequence = at(tables, time + 3);
     let d = exports::savoiky_delay_at(
+        settings,
         s.trips,
         s.delays,
         s.stop_rows,
@@ -56,6 +72,7 @@ fn effective(s: QuerySizes, tables: &[u32], query: &[u32], trip: u32, time: usiz
     );
     let scheduled = at(tables, time + 2);
     let e = exports::savoiky_effective_departure(
+        settings,
         scheduled,
         d.trip_delay,
         d.flags,
@@ -65,10 +82,10 @@ fn effective(s: QuerySizes, tables: &[u32], query: &[u32], trip: u32, time: usiz
 }
 
 // When a ride leaves: at the effective departure where it was boarded; a frequency trip's run by its shift later.
-fn departure(s: QuerySizes, tables: &[u32], query: &[u32], l: LabelRow) -> u32 {
+fn departure(settings: Settings, s: QuerySizes, tables: &[u32], query: &[u32], l: LabelRow) -> u32 {
     let trip = wide(s.times) * 6 + wide(l.word2) * 8;
     let time = (wide(at(tables, trip)) + wide(l.word4)) * 6;
-    let leaves = effective(s, tables, query, l.word2, time);
+    let leaves = effective(settings, s, tables, query, l.word2, time);
     if at(tables, trip + 5) == 0 {
         return leaves;
     }
@@ -85,13 +102,20 @@ fn change(query: &[u32], row: u32) -> u32 {
 
 // Does a ride or a walk begin no sooner than its stop is reached? A walk begins its duration before it arrives, a ride the
 // change time before it leaves; and a ride does not arrive before it leaves.
-fn joins(s: QuerySizes, tables: &[u32], query: &[u32], reached: u32, found: RowLabel) -> bool {
+fn joins(
+    settings: Settings,
+    s: QuerySizes,
+    tables: &[u32],
+    query: &[u32],
+    reached: u32,
+    found: RowLabel,
+) -> bool {
     let l = found.label;
     let from = wide(reached);
     if l.kind == 3 {
         return from + wide(l.word4) <= wide(l.word1);
     }
-    let leaves = departure(s, tables, query, l);
+    let leaves = departure(settings, s, tables, query, l);
     from + wide(change(query, found.row)) <= wide(leaves) && leaves <= l.word1
 }
 
@@ -105,6 +129,7 @@ fn stop_before(l: LabelRow) -> u32 {
 
 // Do the legs to a stop in a row join, at most 26 after an access walk?
 pub fn joined(
+    settings: Settings,
     s: QuerySizes,
     tables: &[u32],
     query: &[u32],
@@ -113,16 +138,23 @@ pub fn joined(
     stop: u32,
     row: u32,
 ) -> bool {
-    let mut found = label_at(s.stops, stop, row, labels, distances);
+    let mut found = label_at(settings, s.stops, stop, row, labels, distances);
     let mut k: u32 = 0;
     while k < 26 {
         let l = found.label;
         if l.kind < 2 {
             return l.kind == 1;
         }
-        let before = label_at(s.stops, stop_before(l), found.row, labels, distances);
+        let before = label_at(
+            settings,
+            s.stops,
+            stop_before(l),
+            found.row,
+            labels,
+            distances,
+        );
         let reached = before.label;
-        if joins(s, tables, query, arrival(reached), found) == false {
+        if joins(settings, s, tables, query, arrival(reached), found) == false {
             return false;
         }
         found = before;
@@ -136,8 +168,8 @@ fn access(l: LabelRow) {
     tell(b"walk # s to stop #; ", &[l.word3, l.word1]);
 }
 
-fn ride(s: QuerySizes, tables: &[u32], query: &[u32], l: LabelRow, stop: u32) {
-    let leaving = departure(s, tables, query, l);
+fn ride(settings: Settings, s: QuerySizes, tables: &[u32], query: &[u32], l: LabelRow, stop: u32) {
+    let leaving = departure(settings, s, tables, query, l);
     let n = [l.word2, l.word3, leaving, stop, l.word1];
     tell(b"trip # from stop # at @ to stop #, arriving @; ", &n);
 }
@@ -148,9 +180,9 @@ fn walk(l: LabelRow) {
 }
 
 // One leg: a ride or a walk.
-fn leg(s: QuerySizes, tables: &[u32], query: &[u32], l: LabelRow, stop: u32) {
+fn leg(settings: Settings, s: QuerySizes, tables: &[u32], query: &[u32], l: LabelRow, stop: u32) {
     if l.kind == 2 {
-        ride(s, tables, query, l, stop);
+        ride(settings, s, tables, query, l, stop);
         return;
     }
     walk(l);
@@ -159,6 +191,7 @@ fn leg(s: QuerySizes, tables: &[u32], query: &[u32], l: LabelRow, stop: u32) {
 // The legs to a stop in a row, at most so many: those to the stop that the label there came from, then this one. A label leads
 // back to the highest row not above its own, since a round sees its own gains.
 pub fn legs(
+    settings: Settings,
     most: u32,
     s: QuerySizes,
     tables: &[u32],
@@ -171,13 +204,14 @@ pub fn legs(
     if most == 0 {
         return;
     }
-    let found = label_at(s.stops, stop, row, labels, distances);
+    let found = label_at(settings, s.stops, stop, row, labels, distances);
     let l = found.label;
     if l.kind < 2 {
         access(l);
         return;
     }
     legs(
+        settings,
         most - 1,
         s,
         tables,
@@ -187,5 +221,5 @@ pub fn legs(
         stop_before(l),
         found.row,
     );
-    leg(s, tables, query, l, stop);
+    leg(settings, s, tables, query, l, stop);
 }

@@ -1,6 +1,6 @@
 // worked: the program behind ./run. By the exported calls alone it answers the worked examples of document 01's leaves,
 // builds and asks Timetable K (k), a second one (second) and a larger one (town), and prints the answers with their legs for a
-// person to read; the gate holds what it prints to the file `stdout`.
+// person to read; then builds Timetable K under other settings. The gate holds what it prints to the file `stdout`.
 // Place: a program; it has no specs.
 // Proves: that it is safe and ends. Assumes the contracts of the kit's io and libc.
 mod asking;
@@ -12,9 +12,11 @@ mod town;
 mod words;
 
 use crate::words::number;
+use crate::words::refused;
 use crate::words::say;
 use crate::words::say_number;
 use crate::words::tell;
+use door::Settings;
 
 // A value, or the question that refused it.
 fn answer(a: door::Answer) {
@@ -26,18 +28,21 @@ fn answer(a: door::Answer) {
     say(b"\n");
 }
 
-fn rounds(wanted: u32, transfers: u32) {
-    let n = [
-        wanted,
-        transfers,
-        exports::savoiky_max_rounds(wanted, transfers),
-    ];
-    tell(b"  wanted #, transfers #: # rounds\n", &n);
+fn rounds(settings: Settings, wanted: u32, transfers: u32) {
+    let a = exports::savoiky_max_rounds(settings, wanted, transfers);
+    if a.code != 0 {
+        refused(a.code);
+        return;
+    }
+    tell(
+        b"  wanted #, transfers #: # rounds\n",
+        &[wanted, transfers, a.value],
+    );
 }
 
-fn boarding(wanted: u32) {
+fn boarding(settings: Settings, wanted: u32) {
     let windows = [600u32, 1200, 300];
-    let a = exports::savoiky_freq_board(1, &windows, 600, 660, wanted);
+    let a = exports::savoiky_freq_board(settings, 1, &windows, 600, 660, wanted);
     let n = [wanted, a.departure, a.time_shift_s];
     if a.found == 0 {
         tell(b"  wanted #: none\n", &n);
@@ -46,75 +51,78 @@ fn boarding(wanted: u32) {
     tell(b"  wanted #: departs #, shift #\n", &n);
 }
 
-fn walk(name: &[u8], duration: u32, mode: u32, wheelchair: u32) {
+fn walk(settings: Settings, name: &[u8], duration: u32, mode: u32, wheelchair: u32) {
     say(name);
-    answer(exports::savoiky_walk_duration(duration, mode, wheelchair));
+    answer(exports::savoiky_walk_duration(settings, duration, mode, wheelchair));
 }
 
-fn cell(number_of: u32) {
-    let made = exports::savoiky_cell_bitset_new(65);
-    let set = exports::savoiky_cell_bitset_set_bit(made.set, number_of);
+fn cell(settings: Settings, number_of: u32) {
+    let made = exports::savoiky_cell_bitset_new(settings, 65);
+    let with = exports::savoiky_cell_bitset_set_bit(settings, made.set, number_of);
+    let held = exports::savoiky_cell_bitset_get_bit(settings, with.set, number_of);
     say_number(b"  cell ", number_of);
-    if exports::savoiky_cell_bitset_get_bit(set, number_of) {
+    if held.value == 1 {
         say(b" is kept\n");
     } else {
         say(b" is dropped\n");
     }
 }
 
-fn clock(name: &[u8], hour: u32, minute: u32, second: u32) {
+fn clock(settings: Settings, name: &[u8], hour: u32, minute: u32, second: u32) {
     say(name);
-    answer(exports::savoiky_service_second(hour, minute, second));
+    answer(exports::savoiky_service_second(settings, hour, minute, second));
 }
 
-fn query_rounds() {
+fn query_rounds(settings: Settings) {
     say(b"Rounds of a query\n");
-    rounds(0, 0);
-    rounds(0, 3);
-    rounds(20, 0);
+    rounds(settings, 0, 0);
+    rounds(settings, 0, 3);
+    rounds(settings, 20, 0);
 }
 
-fn boardings() {
+fn boardings(settings: Settings) {
     say(b"Frequency boarding: window 600 to 1200 every 300, template from 600, boarding at 660\n");
-    boarding(660);
-    boarding(661);
-    boarding(961);
+    boarding(settings, 660);
+    boarding(settings, 661);
+    boarding(settings, 961);
 }
 
-fn arrival() {
+fn arrival(settings: Settings) {
     say(b"Arrival 200, shift 50, trip delay 10, only a departure delay of 40 given at the stop\n");
     say(b"  arrives at ");
-    answer(exports::savoiky_effective_arrival(200, 50, 10, 1, 0));
+    answer(exports::savoiky_effective_arrival(settings, 200, 50, 10, 1, 0));
 }
 
-fn walks() {
+fn walks(settings: Settings) {
     say(b"Walks of 30 seconds in a wheelchair query\n");
-    walk(b"  stairs: ", 30, 2, 1);
-    walk(b"  moving sidewalk: ", 30, 3, 1);
-    walk(b"  pathway mode 8: ", 30, 8, 1);
+    walk(settings, b"  stairs: ", 30, 2, 1);
+    walk(settings, b"  moving sidewalk: ", 30, 3, 1);
+    walk(settings, b"  pathway mode 8: ", 30, 8, 1);
 }
 
-fn cells() {
+fn cells(settings: Settings) {
     say(b"A set of 65 cells\n");
-    cell(127);
-    cell(128);
+    cell(settings, 127);
+    cell(settings, 128);
 }
 
-fn clocks() {
+fn clocks(settings: Settings) {
     say(b"Service seconds of clock readings\n");
-    clock(b"  25:10:00 is ", 25, 10, 0);
-    clock(b"  48:00:00 is ", 48, 0, 0);
+    clock(settings, b"  25:10:00 is ", 25, 10, 0);
+    clock(settings, b"  48:00:00 is ", 48, 0, 0);
 }
 
 fn main() {
     say(b"Timetable K: worked examples of the leaves\n\n");
-    query_rounds();
-    boardings();
-    arrival();
-    walks();
-    cells();
-    clocks();
-    k::run();
-    second::run();
-    town::run();
+    let settings = door::default_settings();
+    query_rounds(settings);
+    boardings(settings);
+    arrival(settings);
+    walks(settings);
+    cells(settings);
+    clocks(settings);
+    k::run(settings);
+    second::run(settings);
+    town::run(settings);
+    k::houses(settings);
 }

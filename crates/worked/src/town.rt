@@ -6,6 +6,7 @@ use crate::building::show_lines;
 use crate::words::part;
 use crate::words::refused;
 use crate::words::say;
+use door::Settings;
 use sizes::QuerySizes;
 
 fn sizes() -> QuerySizes {
@@ -110,19 +111,34 @@ fn query_delayed(start: u32) -> [u32; 20] {
     ]
 }
 
-fn plain(start: u32, wheelchair: u32, s: QuerySizes, tables: &[u32], built: &[u32], area: &[u32]) {
+fn plain(
+    settings: Settings,
+    start: u32,
+    wheelchair: u32,
+    s: QuerySizes,
+    tables: &[u32],
+    built: &[u32],
+    area: &[u32],
+) {
     let d = distances();
     let q = query(start, wheelchair);
-    ask(s, tables, built, area, &d, &q);
+    ask(settings, s, tables, built, area, &d, &q);
 }
 
-fn delayed(start: u32, s: QuerySizes, tables: &[u32], built: &[u32], area: &[u32]) {
+fn delayed(
+    settings: Settings,
+    start: u32,
+    s: QuerySizes,
+    tables: &[u32],
+    built: &[u32],
+    area: &[u32],
+) {
     let mut n = s;
     n.delays = 1;
     n.stop_rows = 1;
     let d = distances();
     let q = query_delayed(start);
-    ask(n, tables, built, area, &d, &q);
+    ask(settings, n, tables, built, area, &d, &q);
 }
 
 // Metres: the six walk edges, then the origin.
@@ -130,38 +146,44 @@ fn distances() -> [f64; 7] {
     [35.0, 40.0, 620.0, 35.0, 40.0, 80.0, 130.0]
 }
 
-fn queries(s: QuerySizes, tables: &[u32], built: &[u32], area: &[u32]) {
+fn queries(settings: Settings, s: QuerySizes, tables: &[u32], built: &[u32], area: &[u32]) {
     say(b"Start 28600 s (7:56:40)\n");
-    plain(28600, 0, s, tables, built, area);
+    plain(settings, 28600, 0, s, tables, built, area);
     say(b"Start 28600 s (7:56:40), trip 3 late by 300 s, at stop 7 by 240 s\n");
-    delayed(28600, s, tables, built, area);
+    delayed(settings, 28600, s, tables, built, area);
     say(b"Start 28600 s (7:56:40), in a wheelchair\n");
-    plain(28600, 1, s, tables, built, area);
+    plain(settings, 28600, 1, s, tables, built, area);
     say(b"Start 32400 s (9:00:00)\n");
-    plain(32400, 0, s, tables, built, area);
+    plain(settings, 32400, 0, s, tables, built, area);
 }
 
-fn shown(made: Made, tables: &[u32], built: &[u32], area: &[u32]) {
+fn shown(settings: Settings, made: Made, tables: &[u32], built: &[u32], area: &[u32]) {
     if made.code != 0 {
         refused(made.code);
         return;
     }
     let n = part(made.length, built.len());
-    show_lines(made.sizes, tables, &built[..n]);
-    queries(made.sizes, tables, &built[..n], area);
+    show_lines(settings, made.sizes, tables, &built[..n]);
+    queries(settings, made.sizes, tables, &built[..n], area);
 }
 
-fn day_in(tables: &[u32], rows: &mut [u32], area: &mut [u32], built: &mut [u32]) {
+fn day_in(
+    settings: Settings,
+    tables: &[u32],
+    rows: &mut [u32],
+    area: &mut [u32],
+    built: &mut [u32],
+) {
     let runs = runs();
-    let made = build(sizes(), tables, &runs, rows, area, built);
-    shown(made, tables, built, area);
+    let made = build(settings, sizes(), tables, &runs, rows, area, built);
+    shown(settings, made, tables, built, area);
 }
 
-pub fn run() {
+pub fn run(settings: Settings) {
     let tables = timetable();
     let mut rows = listed();
     let mut area = [0u32; 256];
     let mut built = [0u32; 288];
     say(b"\nA larger timetable: ten stops, ten trips, stairs, lifts, a frequency trip\n");
-    day_in(&tables, &mut rows, &mut area, &mut built);
+    day_in(settings, &tables, &mut rows, &mut area, &mut built);
 }

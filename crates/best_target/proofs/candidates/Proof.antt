@@ -18,7 +18,7 @@ use Rattle.best_target.proofs.candidates.Tie as tie
 abbrev Inv-loop : tie.InvT-loop
 Inv-loop labels label-distances stops egress top slack rounds out₀ last₀ m₀ row₀ out last m row =
     (row ≤ rounds + 1) × (m ≤ row) × (length out ≡ 39) × ZeroFrom out m
-    × ((T : Tables) (Q : Query) (a : Arrivals) → Labelled a stops labels label-distances → Q .egress ≡ egressRows egress → Q .settings .candidateSlack ≡ slack → candidatesFrom T Q a top (suc rounds) 0 never ≡ candidatesIn out m ++ rowsAhead T Q a top (suc rounds) row last)
+    × ((T : Tables) (Q : Query) (a : Arrivals) → Labelled a stops labels label-distances → Q .egress ≡ egressRows egress → Q .settings .«candidate_slack» ≡ slack → candidatesFrom T Q a top (suc rounds) 0 never ≡ candidatesIn out m ++ rowsAhead T Q a top (suc rounds) row last)
 
 abbrev μ-loop : tie.MeasureT-loop
 μ-loop labels label-distances stops egress top slack rounds out₀ last₀ m₀ row₀ out last m row = rounds + 1 - row

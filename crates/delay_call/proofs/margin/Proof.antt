@@ -1,7 +1,5 @@
-use Rattle.door.specs.Door.{success}
-use denote.Ref.{now}
-use Rattle.delay_call.proofs.DelayCall.{margin-given, margin-refused}
-use mathlib.Core.Path.{_∙_, ap}
+use Rattle.door.proofs.Laws.{refused-is, given-is}
+use mathlib.Core.Path.{_∙_}
 use borrow.Author.Needs.{needs}
 use Rattle.delay_call.proofs.margin.Statement.{statement}
 use Rattle.delay_call.proofs.margin.Tie as tie
@@ -13,7 +11,7 @@ refused-requires : tie.Need-refused-requires
 refused-requires c κs = search needs
 
 returns : tie.Need-returns
-returns c = let s = c .before .before .before .before .before in c .refused .ensures ∙ margin-refused (s .args .trips) (s .args .delay-row-count) (s .args .stop-row-count) (now (s .args .delay-rows)) (now (s .args .stop-rows)) (s .args .cap) (c .before .before .delays-door .result) (c .before .before .delays-door .ensures) (c .before .if1 .taken)
+returns c = c .refused .ensures ∙ refused-is _ (c .before .before .delays-door .ensures) (c .before .if1 .taken)
 
 rt-margin-requires : tie.Need-rt-margin-requires
 rt-margin-requires c κs = search needs
@@ -22,7 +20,7 @@ given-requires : tie.Need-given-requires
 given-requires c κs = search needs
 
 returns-2 : tie.Need-returns-2
-returns-2 c = let s = c .before .before .before .before .before .before in c .given .ensures ∙ ap success (c .before .rt-margin .ensures) ∙ margin-given (s .args .trips) (s .args .delay-row-count) (s .args .stop-row-count) (now (s .args .delay-rows)) (now (s .args .stop-rows)) (s .args .cap) (c .before .before .before .delays-door .result) (c .before .before .before .delays-door .ensures) (c .before .before .if1 .left)
+returns-2 c = c .given .ensures ∙ given-is (c .before .before .before .delays-door .ensures) (c .before .before .if1 .left) (c .before .rt-margin .ensures)
 
 pub margin-spec : {M : Type 1} → statement M
 margin-spec =

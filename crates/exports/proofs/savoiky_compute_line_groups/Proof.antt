@@ -36,7 +36,7 @@ returns c =
     let c₁ = c .before .before .before .before .before .before .before .before .before .before .before in
     let c₂ = c₁ .before .before .before .before .before .before in
     let c₃ = c₂ .before .before .before .before .before .before .before in
-    shows _ _ _ _ (c .lines-answer .ensures) (c₁ .compute-line-groups .ensures .0 ∙ ap (λ (k : Counts). linesOutcome (now (c₃ .args .tables)) k (lineAreas (now (c₃ .args .lines)) (now (c₃ .args .runs)) (now (c₃ .args .entries)) (now (c₃ .args .work)) (now (c₃ .args .other)))) (c₂ .counts .ensures))
+    shows _ _ _ _ (c .lines-answer .ensures) (c₁ .compute-line-groups .ensures .0 ∙ ap (λ (k : Counts). linesOutcome (c₃ .args .settings) (now (c₃ .args .tables)) k (lineAreas (now (c₃ .args .lines)) (now (c₃ .args .runs)) (now (c₃ .args .entries)) (now (c₃ .args .work)) (now (c₃ .args .other)))) (c₂ .counts .ensures))
 
 pub savoiky-compute-line-groups-spec : {M : Type 1} → statement M
 savoiky-compute-line-groups-spec =

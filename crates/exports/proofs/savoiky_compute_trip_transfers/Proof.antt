@@ -26,7 +26,7 @@ returns : tie.Need-returns
 returns c =
     let c₁ = c .before .before .before .before .before .before .before .before in
     let c₂ = c₁ .before .before .before .before .before .before .before in
-    shows-transfers _ _ _ _ (c .transfers-answer .ensures) (c .before .before .before .before .before .compute-trip-transfers .ensures ∙ ap (λ (k : Counts). transfersOutcome (transferLent (now (c₂ .args .tables)) k (c₂ .args .line-count) (now (c₂ .args .lines)) (c₂ .args .departures) (now (c₂ .args .runs)) (now (c₂ .args .rows)) 120) (transferAreas (now (c₂ .args .area)) (now (c₂ .args .transfer-runs)))) (c₁ .counts .ensures))
+    shows-transfers _ _ _ _ (c .transfers-answer .ensures) (c .before .before .before .before .before .compute-trip-transfers .ensures ∙ ap (λ (k : Counts). transfersOutcome (transferLent (c₂ .args .settings) (now (c₂ .args .tables)) k (c₂ .args .line-count) (now (c₂ .args .lines)) (c₂ .args .departures) (now (c₂ .args .runs)) (now (c₂ .args .rows))) (transferAreas (now (c₂ .args .area)) (now (c₂ .args .transfer-runs)))) (c₁ .counts .ensures))
 
 pub savoiky-compute-trip-transfers-spec : {M : Type 1} → statement M
 savoiky-compute-trip-transfers-spec =

@@ -22,7 +22,7 @@ returns : tie.Need-returns
 returns c =
     let c₁ = c .before .before .before .before .before .before .before in
     let c₂ = c₁ .before .before .before .before .before .before in
-    let a = c₂ .args in c .before .before .before .before .line-layout .ensures ∙ ap (λ (k : Counts). layoutOutcome (now (a .tables)) k (a .lines) (a .entry-count) (now (a .runs)) (now (a .entries)) (layoutAreas (now (a .positions)) (now (a .fifo)))) (c₁ .counts .ensures)
+    let a = c₂ .args in c .before .before .before .before .line-layout .ensures ∙ ap (λ (k : Counts). layoutOutcome (a .settings) (now (a .tables)) k (a .lines) (a .entry-count) (now (a .runs)) (now (a .entries)) (layoutAreas (now (a .positions)) (now (a .fifo)))) (c₁ .counts .ensures)
 
 pub savoiky-line-layout-spec : {M : Type 1} → statement M
 savoiky-line-layout-spec =

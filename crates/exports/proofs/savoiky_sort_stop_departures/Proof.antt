@@ -29,7 +29,7 @@ returns c =
     let c₁ = c .before .before .before .before .before .before .before .before in
     let c₂ = c₁ .before .before .before .before .before in
     let c₃ = c₂ .before .before .before .before .before .before .before in
-    let a = c₃ .args in c₁ .sort-stop-departures .ensures ∙ ap (λ (k : Counts). sortOutcome (now (a .tables)) k (a .departures) (now (a .runs)) (sortAreas (now (a .rows)) (now (a .marks)) (now (a .work)) (now (a .other)))) (c₂ .counts .ensures)
+    let a = c₃ .args in c₁ .sort-stop-departures .ensures ∙ ap (λ (k : Counts). sortOutcome (a .settings) (now (a .tables)) k (a .departures) (now (a .runs)) (sortAreas (now (a .rows)) (now (a .marks)) (now (a .work)) (now (a .other)))) (c₂ .counts .ensures)
 
 pub savoiky-sort-stop-departures-spec : {M : Type 1} → statement M
 savoiky-sort-stop-departures-spec =

@@ -14,8 +14,8 @@ place-requires c κs = search needs
 returns : tie.Need-returns
 returns c =
     let c₁ = c .before .before .before .before .before in
-    let e = store-asked (c₁ .args .stops) (c₁ .args .stop) (c₁ .args .row) (now (c₁ .args .labels)) (now (c₁ .args .label-distances)) (c₁ .args .label) (c .before .place .ensures) (c .before .before .both .ensures) (c₁ .pre) in
-    store-refused (c₁ .args .stops) (c₁ .args .stop) (c₁ .args .row) (now (c₁ .args .labels)) (now (c₁ .args .label-distances)) _ _ e (c .if1 .taken)
+    let e = store-asked (c₁ .args .settings) (c₁ .args .stops) (c₁ .args .stop) (c₁ .args .row) (now (c₁ .args .labels)) (now (c₁ .args .label-distances)) (c₁ .args .label) (c .before .place .ensures) (c .before .before .both .ensures) (c₁ .pre) in
+    store-refused (c₁ .args .settings) (c₁ .args .stops) (c₁ .args .stop) (c₁ .args .row) (now (c₁ .args .labels)) (now (c₁ .args .label-distances)) _ _ e (c .if1 .taken)
 
 record-of-requires : tie.Need-record-of-requires
 record-of-requires c κs = search needs
@@ -23,8 +23,8 @@ record-of-requires c κs = search needs
 store-label-requires : tie.Need-store-label-requires
 store-label-requires c κs =
     let c₁ = c .before .before .before .before .before .before .before .before in
-    let e = store-asked (c₁ .args .stops) (c₁ .args .stop) (c₁ .args .row) (now (c₁ .args .labels)) (now (c₁ .args .label-distances)) (c₁ .args .label) (c .before .before .before .before .place .ensures) (c .before .before .before .before .before .both .ensures) (c₁ .pre) in
-    rw (c .record-of .ensures) (in-table (c₁ .args .stops) (c₁ .args .stop) (c₁ .args .row) (now (c₁ .args .labels)) (now (c₁ .args .label-distances)) (load-admitted (c₁ .args .stops) (c₁ .args .stop) (c₁ .args .row) (now (c₁ .args .labels)) (now (c₁ .args .label-distances)) (c₁ .args .label) (sym e ∙ c .before .before .before .if1 .left)))
+    let e = store-asked (c₁ .args .settings) (c₁ .args .stops) (c₁ .args .stop) (c₁ .args .row) (now (c₁ .args .labels)) (now (c₁ .args .label-distances)) (c₁ .args .label) (c .before .before .before .before .place .ensures) (c .before .before .before .before .before .both .ensures) (c₁ .pre) in
+    rw (c .record-of .ensures) (in-table (c₁ .args .settings) (c₁ .args .stops) (c₁ .args .stop) (c₁ .args .row) (now (c₁ .args .labels)) (now (c₁ .args .label-distances)) (load-admitted (c₁ .args .settings) (c₁ .args .stops) (c₁ .args .stop) (c₁ .args .row) (now (c₁ .args .labels)) (now (c₁ .args .label-distances)) (c₁ .args .label) (sym e ∙ c .before .before .before .if1 .left)))
 
 same-length : tie.Need-same-length
 same-length c = search needs
@@ -39,8 +39,8 @@ returns-2 c =
     let c₃ = c₂ .before in
     let c₄ = c₃ .before in
     let c₅ = c₄ .before .before .before in
-    let e = store-asked (c₅ .args .stops) (c₅ .args .stop) (c₅ .args .row) (now (c₅ .args .labels)) (now (c₅ .args .label-distances)) (c₅ .args .label) (c₃ .place .ensures) (c₄ .both .ensures) (c₅ .pre) in
-    store-made (c₅ .args .stops) (c₅ .args .stop) (c₅ .args .row) (now (c₅ .args .labels)) (now (c₅ .args .label-distances)) _ (sym e ∙ c₂ .if1 .left) _ (c .before .before .before .before .before .record-of .ensures) _ _ (c₁ .store-label .ensures .0) (c₁ .store-label .ensures .1)
+    let e = store-asked (c₅ .args .settings) (c₅ .args .stops) (c₅ .args .stop) (c₅ .args .row) (now (c₅ .args .labels)) (now (c₅ .args .label-distances)) (c₅ .args .label) (c₃ .place .ensures) (c₄ .both .ensures) (c₅ .pre) in
+    store-made (c₅ .args .settings) (c₅ .args .stops) (c₅ .args .stop) (c₅ .args .row) (now (c₅ .args .labels)) (now (c₅ .args .label-distances)) _ (sym e ∙ c₂ .if1 .left) _ (c .before .before .before .before .before .record-of .ensures) _ _ (c₁ .store-label .ensures .0) (c₁ .store-label .ensures .1)
 
 pub store-spec : {M : Type 1} → statement M
 store-spec =

@@ -14,7 +14,7 @@ returns : tie.Need-returns
 returns c = let s = c .before .before .before .before .before .before .before in refused (now (s .args .tables)) (s .args .c) (s .args .lines) (now (s .args .runs)) (now (s .args .entries)) (layoutAreas (now (s .args .positions)) (now (s .args .fifo))) _ _ (c .before .questions .ensures) (λ z. omega (arith, z, c .if1 .taken))
 
 lay-out-requires : tie.Need-lay-out-requires
-lay-out-requires c κs = let s = c .before .before .before .before .before .before .before .before .before in let z : c .before .before .before .questions .result ≡ 0 = omega arith in admitted (now (s .args .tables)) (s .args .c) (s .args .lines) _ (now (s .args .runs)) (now (s .args .entries)) (layoutAreas (now (s .args .positions)) (now (s .args .fifo))) (sym (c .before .before .before .questions .ensures) ∙ z)
+lay-out-requires c κs = let s = c .before .before .before .before .before .before .before .before .before in let z : c .before .before .before .questions .result ≡ 0 = omega arith in admitted (s .args .settings) (now (s .args .tables)) (s .args .c) (s .args .lines) _ (now (s .args .runs)) (now (s .args .entries)) (layoutAreas (now (s .args .positions)) (now (s .args .fifo))) (sym (c .before .before .before .questions .ensures) ∙ z)
 
 same-length : tie.Need-same-length
 same-length c = search needs

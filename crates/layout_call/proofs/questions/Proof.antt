@@ -6,7 +6,8 @@ use lib.Dec.{leb}
 use Rattle.line_layout.specs.Listed.{entriesOk, lineRunsOk}
 use Rattle.tables.specs.Door.{countsOk, numbersOk, rangesOk, runsOk, slicesOk}
 use Rattle.tables.proofs.Yes.{Two, second-no, two}
-use Rattle.door.proofs.Laws.{ask-no, ask-on}
+use Rattle.door.specs.Settings.{settingsOk}
+use Rattle.door.proofs.Laws.{Within, within, not-within, ask-no, ask-on, ask-past}
 use mathlib.Core.Path.{_∙_, _≡_, ap₂, refl, sym}
 use mathlib.Core.Bool.{Bool, _&&_, true}
 use Rattle.line_layout.proofs.Yes.{found-no, found-yes}
@@ -30,28 +31,32 @@ asked4 s = numbersOk (now (s .args .tables)) (s .args .c) && entriesOk (s .args 
 abbrev asked5 : tie.Start → Bool
 asked5 s = rangesOk (now (s .args .tables)) (s .args .c)
 
-q1 : (c : tie.Else1) → asked1 (c .before .before .before .before .before .before .before) ≡ true
-q1 c = found-yes (c .before .both2 .ensures) (c .before .before .before .counts-ok .ensures) (c .before .before .both .ensures) (c .if1 .left)
+abbrev firstYes : tie.Start → Type 0
+firstYes s = Within (asked1 s) (settingsOk (s .args .settings))
+
+q1 : (c : tie.Else1) → firstYes (c .before .before .before .before .before .before .before .before)
+q1 c =
+    within (c .before .limits .ensures) (c .before .before .both2 .ensures ∙ ap₂ _&&_ (c .before .before .before .before .counts-ok .ensures) (c .before .before .before .both .ensures)) (c .if1 .left)
 
 abbrev limitsAt : tie.Start → Type 0
 limitsAt s = Limits (s .args .c) (s .args .lines) (s .args .n)
 
-limits : (c : tie.Else1) → limitsAt (c .before .before .before .before .before .before .before)
-limits c = limits-yes _ _ _ (q1 c)
+limits : (c : tie.Else1) → limitsAt (c .before .before .before .before .before .before .before .before)
+limits c = limits-yes _ _ _ (q1 c .counts-yes)
 
-q2 : (c : tie.Else2) → asked2 (c .before .before .before .before .before .before .before .before .before .before .before) ≡ true
+q2 : (c : tie.Else2) → asked2 (c .before .before .before .before .before .before .before .before .before .before .before .before) ≡ true
 q2 c = found-yes (c .before .both3 .ensures) (c .before .before .before .slices-ok .ensures) (c .before .before .sizes-ok .ensures) (c .if2 .left)
 
 abbrev sizesAt : tie.Start → Type 0
 sizesAt s = Sizes (now (s .args .tables)) (s .args .c) (s .args .lines) (s .args .n) (length (now (s .args .runs))) (length (now (s .args .entries))) (s .args .positions) (s .args .fifo)
 
-sizes : (c : tie.Else2) → sizesAt (c .before .before .before .before .before .before .before .before .before .before .before)
+sizes : (c : tie.Else2) → sizesAt (c .before .before .before .before .before .before .before .before .before .before .before .before)
 sizes c = sizes-yes _ _ _ _ _ _ _ _ (q2 c)
 
-q3 : (c : tie.Else3) → asked3 (c .before .before .before .before .before .before .before .before .before .before .before .before .before .before .before) ≡ true
+q3 : (c : tie.Else3) → asked3 (c .before .before .before .before .before .before .before .before .before .before .before .before .before .before .before .before) ≡ true
 q3 c = found-yes (c .before .both4 .ensures) (c .before .before .before .runs-ok .ensures) (c .before .before .line-runs-ok .ensures) (c .if3 .left)
 
-q4 : (c : tie.Else6) → asked4 (c .before .before .before .before .before .before .before .before .before .before .before .before .before .before .before .before .before .before .before .before .before .before) ≡ true
+q4 : (c : tie.Else6) → asked4 (c .before .before .before .before .before .before .before .before .before .before .before .before .before .before .before .before .before .before .before .before .before .before .before) ≡ true
 q4 c = found-yes (c .before .both6 .ensures) (c .before .before .numbers-ok .ensures) (c .before .before .before .before .before .before .entries-ok .ensures) (c .if6 .left)
 
 counts-ok-requires : tie.Need-counts-ok-requires
@@ -63,9 +68,13 @@ both-requires c κs = search needs
 both-requires-2 : tie.Need-both-requires-2
 both-requires-2 c κs = search needs
 
+limits-requires : tie.Need-limits-requires
+limits-requires c κs = search needs
+
 returns : tie.Need-returns
 unfolding layoutVerdict
-returns c = ask-no 1 _ _ (found-no (c .before .both2 .ensures) (c .before .before .before .counts-ok .ensures) (c .before .before .both .ensures) (c .if1 .taken))
+returns c =
+    not-within (settingsOk (c .before .before .before .before .before .before .before .before .args .settings)) _ (c .before .limits .ensures) (c .before .before .both2 .ensures ∙ ap₂ _&&_ (c .before .before .before .before .counts-ok .ensures) (c .before .before .before .both .ensures)) (c .if1 .taken)
 
 slices-ok-requires : tie.Need-slices-ok-requires
 slices-ok-requires c κs = (limits (c)) .counts
@@ -78,7 +87,7 @@ both-requires-3 c κs = search needs
 
 returns-2 : tie.Need-returns-2
 unfolding layoutVerdict
-returns-2 c = ask-on 1 _ (q1 (c .before .before .before .before)) (ask-no 2 _ _ (found-no (c .before .both3 .ensures) (c .before .before .before .slices-ok .ensures) (c .before .before .sizes-ok .ensures) (c .if2 .taken)))
+returns-2 c = ask-past (q1 (c .before .before .before .before)) (ask-no 2 _ _ (found-no (c .before .both3 .ensures) (c .before .before .before .slices-ok .ensures) (c .before .before .sizes-ok .ensures) (c .if2 .taken)))
 
 runs-ok-requires : tie.Need-runs-ok-requires
 runs-ok-requires c κs = ((limits (c .before .before .before .before)) .counts, (sizes (c)) .slices)
@@ -94,7 +103,7 @@ unfolding layoutVerdict
 returns-3 c =
     let c₁ = c .before .before .before in
     let c₂ = c₁ .before .before .before .before in
-    ask-on 1 _ (q1 (c₂ .before)) (ask-on 2 _ (q2 (c₁ .before)) (ask-no 3 _ _ (found-no (c .before .both4 .ensures) (c₁ .runs-ok .ensures) (c .before .before .line-runs-ok .ensures) (c .if3 .taken))))
+    ask-past (q1 (c₂ .before)) (ask-on 2 _ (q2 (c₁ .before)) (ask-no 3 _ _ (found-no (c .before .both4 .ensures) (c₁ .runs-ok .ensures) (c .before .before .line-runs-ok .ensures) (c .if3 .taken))))
 
 entries-ok-requires : tie.Need-entries-ok-requires
 entries-ok-requires c κs = (sizes (c .before .before .before .before)) .entriesIs
@@ -110,9 +119,9 @@ both-requires-5 c κs = search needs
 abbrev rowsYes : tie.Start → Type 0
 rowsYes s = Two (asked4 s) (asked5 s)
 
-rows-yes : (c : tie.Then4) → rowsYes (c .before .before .before .before .before .before .before .before .before .before .before .before .before .before .before .before .before .before .before)
+rows-yes : (c : tie.Then4) → rowsYes (c .before .before .before .before .before .before .before .before .before .before .before .before .before .before .before .before .before .before .before .before)
 rows-yes c =
-    let s = c .before .before .before .before .before .before .before .before .before .before .before .before .before .before .before .before .before .before .before in
+    let s = c .before .before .before .before .before .before .before .before .before .before .before .before .before .before .before .before .before .before .before .before in
     let n = numbersOk (now (s .args .tables)) (s .args .c) in
     let e = entriesOk (s .args .c) (now (s .args .entries)) (s .args .n) in
     let x = two e (n && asked5 s) (sym (c .before .both5 .ensures ∙ ap₂ _&&_ (c .before .before .before .entries-ok .ensures) (c .before .before .rows-ok .ensures)) ∙ c .if4 .taken) in
@@ -131,7 +140,7 @@ returns-4 c =
     let c₁ = c .before .before .before .before .before .before .before .before .before in
     let c₂ = c₁ .before .before .before .before in
     let e = rows-yes (c .before .before) in
-    ask-on 1 _ (q1 (c₂ .before))
+    ask-past (q1 (c₂ .before))
     (ask-on 2 _ (q2 (c₁ .before))
     (ask-on 3 _ (q3 (c .before .before .before .before .before .before))
     (ask-on 4 _ (e .one)
@@ -144,7 +153,7 @@ returns-5 c =
     let c₁ = c .before .before .before .before .before .before .before .before .before in
     let c₂ = c₁ .before .before .before .before in
     let e = rows-yes (c .before .before) in
-    ask-on 1 _ (q1 (c₂ .before))
+    ask-past (q1 (c₂ .before))
     (ask-on 2 _ (q2 (c₁ .before))
     (ask-on 3 _ (q3 (c .before .before .before .before .before .before))
     (ask-on 4 _ (e .one)
@@ -166,7 +175,7 @@ returns-6 c =
     let c₁ = c .before .before .before .before .before .before in
     let c₂ = c₁ .before .before .before .before in
     let c₃ = c₂ .before .before .before .before in
-    ask-on 1 _ (q1 (c₃ .before))
+    ask-past (q1 (c₃ .before))
     (ask-on 2 _ (q2 (c₂ .before))
     (ask-on 3 _ (q3 (c₁ .before))
     (ask-no 4 _ _ (found-no (c .before .both6 .ensures) (c .before .before .numbers-ok .ensures) (c₁ .entries-ok .ensures) (c .if6 .taken)))))
@@ -177,12 +186,12 @@ returns-7 c =
     let c₁ = c .before .before .before .before .before .before in
     let c₂ = c₁ .before .before .before .before in
     let c₃ = c₂ .before .before .before .before in
-    let s = c₃ .before .before .before .before .before .before .before .before in
+    let s = c₃ .before .before .before .before .before .before .before .before .before in
     let n = numbersOk (now (s .args .tables)) (s .args .c) in
     let e = entriesOk (s .args .c) (now (s .args .entries)) (s .args .n) in
     let x = two n e (q4 c) in
     let y = second-no e (n && asked5 s) (sym (c .before .before .before .before .both5 .ensures ∙ ap₂ _&&_ (c₁ .entries-ok .ensures) (c .before .before .before .before .before .rows-ok .ensures)) ∙ c .before .before .before .if4 .left) (x .two) in
-    ask-on 1 _ (q1 (c₃ .before))
+    ask-past (q1 (c₃ .before))
     (ask-on 2 _ (q2 (c₂ .before))
     (ask-on 3 _ (q3 (c₁ .before))
     (ask-on 4 _ (q4 c)
@@ -195,6 +204,7 @@ questions-spec =
     counts-ok-requires
     both-requires
     both-requires-2
+    limits-requires
     returns
     slices-ok-requires
     sizes-ok-requires

@@ -6,6 +6,7 @@ use mathlib.Core.Path.{_∙_, ap₂}
 use mathlib.Core.Bool.{_&&_}
 use mathlib.Core.List.{List}
 use denote.Ref.{now}
+use Rattle.query_input.proofs.Parts.{query-room}
 use borrow.Author.Needs.{needs}
 use Rattle.query_door.proofs.order_ok.Statement.{statement}
 use Rattle.query_door.proofs.order_ok.Tie as tie
@@ -35,7 +36,9 @@ egress-order-requires : tie.Need-egress-order-requires
 egress-order-requires c κs = search needs
 
 delays-ok-requires : tie.Need-delays-ok-requires
-delays-ok-requires c κs = search needs
+delays-ok-requires c κs =
+    let s = c .before .before .before .before .before .before .before .before .before .before .before in
+    (s .pre .0, query-room (s .pre .1 .0))
 
 both-requires-2 : tie.Need-both-requires-2
 both-requires-2 c κs = search needs

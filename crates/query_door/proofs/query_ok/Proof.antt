@@ -14,8 +14,8 @@ delays-ok-requires c κs = search needs
 both-requires : tie.Need-both-requires
 both-requires c κs = search needs
 
-setting-ranges-requires : tie.Need-setting-ranges-requires
-setting-ranges-requires c κs = search needs
+query-ranges-requires : tie.Need-query-ranges-requires
+query-ranges-requires c κs = search needs
 
 walk-ranges-requires : tie.Need-walk-ranges-requires
 walk-ranges-requires c κs = search needs
@@ -61,7 +61,7 @@ returns c =
     let c₆ = c₅ .before in
     let c₇ = c₆ .before in
     let c₈ = c₇ .before in
-    c .both6 .ensures ∙ ap₂ _&&_ (c₆ .both .ensures ∙ ap₂ _&&_ (c₈ .query-numbers .ensures) (c₇ .delays-ok .ensures)) (c .before .both5 .ensures ∙ ap₂ _&&_ (c₁ .both3 .ensures ∙ ap₂ _&&_ (c₅ .setting-ranges .ensures) (c₂ .both2 .ensures ∙ ap₂ _&&_ (c₄ .walk-ranges .ensures) (c₃ .delays-ok2 .ensures))) (c .before .before .both4 .ensures ∙ ap₂ _&&_ (c .before .before .before .before .egress-order .ensures) (c .before .before .before .delays-ok3 .ensures)))
+    c .both6 .ensures ∙ ap₂ _&&_ (c₆ .both .ensures ∙ ap₂ _&&_ (c₈ .query-numbers .ensures) (c₇ .delays-ok .ensures)) (c .before .both5 .ensures ∙ ap₂ _&&_ (c₁ .both3 .ensures ∙ ap₂ _&&_ (c₅ .query-ranges .ensures) (c₂ .both2 .ensures ∙ ap₂ _&&_ (c₄ .walk-ranges .ensures) (c₃ .delays-ok2 .ensures))) (c .before .before .both4 .ensures ∙ ap₂ _&&_ (c .before .before .before .before .egress-order .ensures) (c .before .before .before .delays-ok3 .ensures)))
 
 pub query-ok-spec : {M : Type 1} → statement M
 query-ok-spec =
@@ -70,7 +70,7 @@ query-ok-spec =
     query-numbers-requires
     delays-ok-requires
     both-requires
-    setting-ranges-requires
+    query-ranges-requires
     walk-ranges-requires
     delays-ok-requires-2
     both-requires-2

@@ -22,8 +22,8 @@ both-requires c κs = search needs
 both-requires-2 : tie.Need-both-requires-2
 both-requires-2 c κs = search needs
 
-setting-ranges-requires : tie.Need-setting-ranges-requires
-setting-ranges-requires c κs = omega (arith, query-room (c .before .before .before .before .before .before .before .before .before .pre .1 .0))
+query-ranges-requires : tie.Need-query-ranges-requires
+query-ranges-requires c κs = omega (arith, query-room (c .before .before .before .before .before .before .before .before .before .pre .1 .0))
 
 walk-ranges-requires : tie.Need-walk-ranges-requires
 walk-ranges-requires c κs =
@@ -52,7 +52,7 @@ returns c =
     let c₃ = c₂ .before in
     let c₄ = c₃ .before in
     let c₅ = c₄ .before in
-    c .both5 .ensures ∙ ap₂ _&&_ (c₁ .both2 .ensures ∙ ap₂ _&&_ (c₅ .ranges-ok .ensures) (c₂ .both .ensures ∙ ap₂ _&&_ (c₄ .mark-ranges .ensures) (c₃ .transfer-ranges .ensures))) (c .before .both4 .ensures ∙ ap₂ _&&_ (c .before .before .before .before .before .setting-ranges .ensures) (c .before .before .both3 .ensures ∙ ap₂ _&&_ (c .before .before .before .before .walk-ranges .ensures) (c .before .before .before .delays-ok .ensures)))
+    c .both5 .ensures ∙ ap₂ _&&_ (c₁ .both2 .ensures ∙ ap₂ _&&_ (c₅ .ranges-ok .ensures) (c₂ .both .ensures ∙ ap₂ _&&_ (c₄ .mark-ranges .ensures) (c₃ .transfer-ranges .ensures))) (c .before .both4 .ensures ∙ ap₂ _&&_ (c .before .before .before .before .before .query-ranges .ensures) (c .before .before .both3 .ensures ∙ ap₂ _&&_ (c .before .before .before .before .walk-ranges .ensures) (c .before .before .before .delays-ok .ensures)))
 
 pub ranges-ok-spec : {M : Type 1} → statement M
 ranges-ok-spec =
@@ -63,7 +63,7 @@ ranges-ok-spec =
     transfer-ranges-requires
     both-requires
     both-requires-2
-    setting-ranges-requires
+    query-ranges-requires
     walk-ranges-requires
     delays-ok-requires
     both-requires-3

@@ -14,7 +14,7 @@ gather-requires c κs = search needs
 returns : tie.Need-returns
 returns c =
     let s = c .before .before .args .s in
-    (c .gather .ensures) ∙ ap (λ (k : Counts). gathered k (s .cells) (s .patterns) (s .lines) (s .entries) (s .departures) (s .transfers) (s .delays) (s .«stop_rows») (s .origins) (s .egress)) (c .before .counts .ensures)
+    (c .gather .ensures) ∙ ap (λ (k : Counts). gathered (c .before .before .args .settings) k (s .cells) (s .patterns) (s .lines) (s .entries) (s .departures) (s .transfers) (s .delays) (s .«stop_rows») (s .origins) (s .egress)) (c .before .counts .ensures)
 
 pub query-counts-spec : {M : Type 1} → statement M
 query-counts-spec = tie.close (tie.spec counts-requires gather-requires returns)

@@ -14,7 +14,7 @@ use Rattle.worked.proofs.legs.+legs.{statement}
 use Rattle.worked.proofs.legs.+legs.Tie.{close}
 
 abbrev μ-legs : Measures 4 legs-kinds.ps ℕ
-μ-legs κs a = a .0
+μ-legs κs a = a .1 .0
 
 abbrev legs-at : ℕ → In 4 legs-kinds.ps
 legs-at t = and 4 legs-kinds.ps (is 4 legs-kinds.ps μ-legs t) legs.Pre

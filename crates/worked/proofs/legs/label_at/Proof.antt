@@ -4,10 +4,10 @@ use Rattle.worked.proofs.legs.label_at.Statement.{statement}
 use Rattle.worked.proofs.legs.label_at.Tie as tie
 
 abbrev Inv-loop : tie.InvT-loop
-Inv-loop stops stop row labels distances r₀ r = r ≤ row
+Inv-loop settings stops stop row labels distances r₀ r = r ≤ row
 
 abbrev μ-loop : tie.MeasureT-loop
-μ-loop stops stop row labels distances r₀ r = r
+μ-loop settings stops stop row labels distances r₀ r = r
 
 loop-holds : tie.Need-loop-holds Inv-loop μ-loop
 loop-holds c = search needs

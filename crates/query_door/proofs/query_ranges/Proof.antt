@@ -1,8 +1,8 @@
 use denote.Ref.{now}
 use Rattle.query_door.proofs.Small.{ranges}
 use borrow.Author.Needs.{needs}
-use Rattle.query_door.proofs.setting_ranges.Statement.{statement}
-use Rattle.query_door.proofs.setting_ranges.Tie as tie
+use Rattle.query_door.proofs.query_ranges.Statement.{statement}
+use Rattle.query_door.proofs.query_ranges.Tie as tie
 
 field-requires : tie.Need-field-requires
 field-requires c κs = search needs
@@ -39,8 +39,8 @@ returns c =
     let c₄ = c₃ .before .before in
     ranges (now (c₄ .args .query)) (c₃ .field .ensures .0) (c₂ .field2 .ensures .0) (c .before .before .field5 .ensures .0) (c .before .before .before .before .before .field3 .ensures .0) (c .before .before .before .before .field4 .ensures .0) (c₁ .both .ensures) (c .before .before .before .both2 .ensures) (c .before .both3 .ensures) (c .both4 .ensures)
 
-pub setting-ranges-spec : {M : Type 1} → statement M
-setting-ranges-spec =
+pub query-ranges-spec : {M : Type 1} → statement M
+query-ranges-spec =
     tie.close
     (tie.spec
     field-requires
