@@ -21,6 +21,12 @@ pub fn under<T>(settings: Settings, f: impl FnOnce() -> T) -> T {
 pub const OWN: Settings = Settings { transfer_time: 120, line_scan: 64, candidate_slack: 3600, margin_cap: 21_600 };
 const RANGES: [(u32, u32, u32); 4] = [(0, 3600, 300), (1, 4096, 3), (0, 21_600, 400), (0, LIMIT, 400)];
 
+impl Default for Settings {
+    fn default() -> Settings {
+        OWN
+    }
+}
+
 impl Settings {
     pub fn of(n: [u32; 4]) -> Settings {
         Settings { transfer_time: n[0], line_scan: n[1], candidate_slack: n[2], margin_cap: n[3] }

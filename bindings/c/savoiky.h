@@ -42,9 +42,9 @@ extern "C" {
  * after 8 the labels, their distances, the workspace and both halves of the queue are zero.
  */
 
-/* SETTINGS OF THE HOUSE: four numbers that every call receives. Most calls only ask whether they are in their ranges (14); transfers are
- * built with transfer_time, the margin is cut at margin_cap, a query reads the other three. Journeys on a plain day keep their guarantee
- * under every setting where the transfers were built with the transfer_time that the query is asked with.
+/* SETTINGS OF THE HOUSE: four numbers that every call receives. Most calls only ask whether they are in their ranges (14). Transfers are
+ * built with transfer_time; the margin is cut at margin_cap; a query reads line_scan, candidate_slack and margin_cap. Journeys on a plain
+ * day keep their guarantee under every setting where the transfers were built with the transfer_time that the query is asked with.
  */
 
 /* The settings of the house, in seconds but for line_scan: the time of a built transfer (at most 3,600), how many trips of a line are

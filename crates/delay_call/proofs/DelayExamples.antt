@@ -7,8 +7,7 @@ use lib.Dec.{eqb}
 use Rattle.loops.specs.Iter.{iter, first, every}
 use Rattle.door.specs.Settings.{defaultSettings, settingsOk}
 use Rattle.door.proofs.House.{noTripTried}
-use Rattle.delay_rows.specs.Delays.{margin, largest}
-use Rattle.delay_call.specs.DelayCall.{delaysDoor, marginOutcome}
+use Rattle.delay_call.specs.DelayCall.{delaysDoor}
 
 -- counts and tables, and the number of the first no
 pub record Entry : Type 0 where

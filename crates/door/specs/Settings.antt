@@ -3,7 +3,7 @@ use Prim.Native.Nat.{ℕ, _≤_}
 use mathlib.Core.Bool.{Bool, _&&_}
 use lib.Dec.{leb}
 use Rattle.door.specs.declared.Settings.{Settings}
-use Rattle.door.specs.Door.{timeLimit}
+use Rattle.door.specs.Door.{ask, timeLimit}
 
 -- the Rust's four numbers
 abbrev pub defaultSettings : Settings
@@ -27,6 +27,13 @@ unfoldable pub settingsOk : Settings → Bool
 settingsOk S =
     (leb (S .«transfer_time») transferTimeLimit && (leb 1 (S .«line_scan») && leb (S .«line_scan») lineScanLimit))
     && (leb (S .«candidate_slack») candidateSlackLimit && leb (S .«margin_cap») marginCapLimit)
+
+-- asked of a call that asks nothing else; and of one that then asks question 5 (is every time and code in its range?)
+abbrev pub settingsAsked : Settings → ℕ
+settingsAsked S = ask 14 (settingsOk S) 0
+
+abbrev pub rangesAsked : Settings → Bool → ℕ
+rangesAsked S ranged = ask 14 (settingsOk S) (ask 5 ranged 0)
 
 -- what a yes gives
 pub record SettingsIn (S : Settings) : Type 0 where

@@ -9,7 +9,7 @@
 ghost use mathlib.Core.Path.{_≡_};
 ghost use mathlib.Core.Bool.{_&&_, _||_};
 ghost use Rattle.door.specs.Door.{ask, refusal, success};
-ghost use Rattle.door.specs.Settings.{defaultSettings, settingsOk};
+ghost use Rattle.door.specs.Settings.{defaultSettings, settingsOk, rangesAsked};
 
 // The largest time, duration, headway or delay size, in seconds.
 pub const TIME_LIMIT: u32 = 1048575;
@@ -73,7 +73,7 @@ pub fn limits(counts: bool, settings: Settings) -> u32
 
 // Questions 14 and 5, of a call that is handed numbers alone: `ranged` says whether every time and code is in its range.
 pub fn ranges(settings: Settings, ranged: bool) -> u32
-    ensures { λ r. ⌜ r ≡ ask 14 (settingsOk settings) (ask 5 ranged 0) ⌝ }
+    ensures { λ r. ⌜ r ≡ rangesAsked settings ranged ⌝ }
 {
     ask(14, settings_ok(settings), ask(5, ranged, 0))
 }

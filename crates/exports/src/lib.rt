@@ -63,9 +63,9 @@ use transfers_call::Built;
 // After a refusal everything lent is as it came, a set that was handed in is handed back, and the other fields of the answer are 0;
 // after 8 the labels, their distances, the workspace and both halves of the queue are zero.
 
-// SETTINGS OF THE HOUSE: four numbers that every call receives. Most calls only ask whether they are in their ranges (14); transfers are
-// built with transfer_time, the margin is cut at margin_cap, a query reads the other three. Journeys on a plain day keep their guarantee
-// under every setting where the transfers were built with the transfer_time that the query is asked with.
+// SETTINGS OF THE HOUSE: four numbers that every call receives. Most calls only ask whether they are in their ranges (14). Transfers are
+// built with transfer_time; the margin is cut at margin_cap; a query reads line_scan, candidate_slack and margin_cap. Journeys on a plain
+// day keep their guarantee under every setting where the transfers were built with the transfer_time that the query is asked with.
 
 // CELL SETS, the arc flags' patterns: a value of 64 bytes and the count of reserved ones, handed in and handed back.
 

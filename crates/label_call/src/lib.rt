@@ -130,7 +130,8 @@ pub fn store_transit(
     label_distances: &mut [f64],
 ) -> u32
     ensures { λ r. ⌜ labelOutcome r (now (labels .exit)) (now («label_distances» .exit))
-        ≡ storeOutcome settings (Label.Transit «arrival_s» «trip_idx» «board_stop» «board_off» «alight_off» «prev_round» «time_shift_s»)
+        ≡ storeOutcome settings
+        (Label.Transit «arrival_s» «trip_idx» «board_stop» «board_off» «alight_off» «prev_round» «time_shift_s»)
         stops stop row (now (labels .entry)) (now («label_distances» .entry)) ⌝ }
 {
     let label = Label::Transit {

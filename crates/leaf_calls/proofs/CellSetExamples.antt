@@ -5,7 +5,7 @@ use lib.Dec.{eqb}
 use Rattle.door.specs.Settings.{defaultSettings, settingsOk}
 use Rattle.door.proofs.House.{noTripTried}
 use Rattle.cell_bitset.specs.CellSet.{emptySet}
-use Rattle.leaf_calls.specs.CellSetCall.{created, resized, withCellAnswer, unionAnswer, heldAnswer, meetsAnswer, emptyAnswer}
+use Rattle.leaf_calls.specs.CellSetCall.{created, resized, withCellAnswer, unionAnswer, emptyAnswer}
 use Rattle.leaf_calls.specs.WalkCall.{walkDuration, roundsAnswer}
 use Rattle.leaf_calls.specs.StopDelayCall.{departureOutcome, arrivalOutcome, skippedOutcome}
 use Rattle.leaf_calls.specs.ClockCall.{serviceSecond}

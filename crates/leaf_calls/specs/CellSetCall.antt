@@ -5,7 +5,7 @@ use mathlib.Core.Bool.{Bool}
 use lib.Dec.{leb}
 use Rattle.loops.specs.Count.{one}
 use Rattle.door.specs.Door.{ask, answer}
-use Rattle.door.specs.Settings.{settingsOk}
+use Rattle.door.specs.Settings.{settingsAsked}
 use Rattle.door.specs.declared.Settings.{Settings}
 use Rattle.door.specs.declared.Answer.{Answer}
 use Rattle.cell_bitset.specs.declared.CellBitSet.{CellBitSet}
@@ -14,11 +14,7 @@ use Rattle.cell_bitset.specs.CellSet.{cellLimit, emptySet, sized, withCell, hel
 
 -- questions 1 (are all counts within the limits?) of a number of cells, and 14: 0 is yes
 abbrev pub countAsked : Settings → ℕ → ℕ
-countAsked S n = ask 1 (leb n cellLimit) (ask 14 (settingsOk S) 0)
-
--- question 14 alone
-abbrev pub settingsAsked : Settings → ℕ
-settingsAsked S = ask 14 (settingsOk S) 0
+countAsked S n = ask 1 (leb n cellLimit) (settingsAsked S)
 
 -- the answer of a call whose questions gave this number: the set that it makes, or the one that a refusal gives back
 abbrev pub setAnswer : ℕ → CellBitSet → CellBitSet → CellSetAnswer

@@ -3,8 +3,8 @@
 use Prim.Native.Nat.{ℕ, _+_, _*_}
 use mathlib.Core.Bool.{Bool, _&&_}
 use lib.Dec.{leb}
-use Rattle.door.specs.Door.{ask, answer}
-use Rattle.door.specs.Settings.{settingsOk}
+use Rattle.door.specs.Door.{answer}
+use Rattle.door.specs.Settings.{rangesAsked}
 use Rattle.door.specs.declared.Settings.{Settings}
 use Rattle.door.specs.declared.Answer.{Answer}
 
@@ -18,4 +18,4 @@ reading h m s = 3600 * h + 60 * m + s
 
 -- the answer: the service second, which is the reading's seconds; 5 for what is no clock reading
 abbrev pub serviceSecond : Settings → ℕ → ℕ → ℕ → Answer
-serviceSecond S h m s = answer (ask 14 (settingsOk S) (ask 5 (clockInRange h m s) 0)) (reading h m s)
+serviceSecond S h m s = answer (rangesAsked S (clockInRange h m s)) (reading h m s)

@@ -4,8 +4,8 @@ use mathlib.Core.Bool.{Bool, _&&_}
 use lib.Dec.{leb}
 use Rattle.loops.specs.Count.{one}
 use Rattle.door.specs.declared.Answer.{Answer}
-use Rattle.door.specs.Door.{ask, answer, timeLimit}
-use Rattle.door.specs.Settings.{settingsOk}
+use Rattle.door.specs.Door.{answer, timeLimit}
+use Rattle.door.specs.Settings.{rangesAsked}
 use Rattle.door.specs.declared.Settings.{Settings}
 use Rattle.stop_delay.specs.Times.{skippedAt, effectiveDeparture, effectiveArrival}
 use Rattle.stop_delay.specs.Door.{sizeOk}
@@ -13,10 +13,6 @@ use Rattle.stop_delay.specs.Door.{sizeOk}
 -- 5, of an effective time: the time, the flags, the trip delay and the stop's own
 abbrev pub timeInRange : (time flags trip own : ℕ) → Bool
 timeInRange time flags trip own = (leb time timeLimit && leb flags 7) && (sizeOk trip && sizeOk own)
-
--- 14, then 5
-abbrev pub rangesAsked : Settings → Bool → ℕ
-rangesAsked S ranged = ask 14 (settingsOk S) (ask 5 ranged 0)
 
 abbrev pub departureOutcome : (S : Settings) (departure trip flags own : ℕ) → Answer
 departureOutcome S departure trip flags own =

@@ -3,8 +3,8 @@
 use Prim.Native.Nat.{ℕ}
 use mathlib.Core.Bool.{Bool, _&&_}
 use lib.Dec.{leb, eqb}
-use Rattle.door.specs.Door.{ask, answer, timeLimit}
-use Rattle.door.specs.Settings.{settingsOk}
+use Rattle.door.specs.Door.{answer, timeLimit}
+use Rattle.door.specs.Settings.{settingsAsked, rangesAsked}
 use Rattle.door.specs.declared.Settings.{Settings}
 use Rattle.door.specs.declared.Answer.{Answer}
 use Rattle.walk_time.specs.Walk.{effectiveDuration, roundCount}
@@ -16,8 +16,8 @@ walkInRange duration mode wheelchair = leb duration timeLimit && leb mode 7 && l
 -- the answer of the walk's call: the duration in a query that is a wheelchair query exactly if `wheelchair` is 1
 abbrev pub walkDuration : Settings → ℕ → ℕ → ℕ → Answer
 walkDuration S duration mode wheelchair =
-    answer (ask 14 (settingsOk S) (ask 5 (walkInRange duration mode wheelchair) 0)) (effectiveDuration duration mode (eqb wheelchair 1))
+    answer (rangesAsked S (walkInRange duration mode wheelchair)) (effectiveDuration duration mode (eqb wheelchair 1))
 
 -- the rounds of a query, of any numbers
 abbrev pub roundsAnswer : Settings → ℕ → ℕ → Answer
-roundsAnswer S wanted transfers = answer (ask 14 (settingsOk S) 0) (roundCount wanted transfers)
+roundsAnswer S wanted transfers = answer (settingsAsked S) (roundCount wanted transfers)

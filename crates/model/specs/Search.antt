@@ -223,7 +223,7 @@ module _ (T : Tables) (Q : Query) where
   unfoldable pub lineTripsAt : ℕ → LineTrips
   lineTripsAt l = elim (ltb l (T .lines)) [ true ↦ T .line l | false ↦ record { count = 0; trip = λ p. never } ]
 
-  -- at most `lineScan` trips: the line's from the target's position on, or the target alone where it does not stand there
+  -- at most `line_scan` trips: the line's from the target's position on, or the target alone where it does not stand there
   unfoldable pub resolve : Transfer → ℕ → ℕ → Option (ℕ × BoardedRun)
   resolve e after best =
       let l : LineTrips = lineTripsAt (lineAt T (e .target)) in

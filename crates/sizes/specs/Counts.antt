@@ -9,7 +9,9 @@ abbrev pub countsOf : (stops trips times windows edges : ℕ) → Counts
 countsOf stops trips times windows edges = record { stops = stops; trips = trips; times = times; windows = windows; edges = edges }
 
 -- the counts of a query: the timetable's, then the others one by one; the settings go with them
-abbrev pub gathered : (S : Settings) (timetable : Counts) (cells patterns lines entries departures transfers delays stopRows origins egress : ℕ) → QueryCounts
+abbrev pub gathered : (S : Settings) (timetable : Counts)
+    (cells patterns lines entries departures transfers delays stopRows origins egress : ℕ)
+    → QueryCounts
 gathered S timetable cells patterns lines entries departures transfers delays stopRows origins egress =
     record {
       settings = S;
