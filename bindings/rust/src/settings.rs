@@ -7,8 +7,8 @@ use crate::sys;
 /// the Rust that this is a port of.
 ///
 /// Tables may be built under some settings and asked under others. Journeys on a plain day (docs/PROMISE.md) keep their guarantee
-/// under every setting where the tables were built with the `transfer_time` that the query is asked with. With another one it is no
-/// plain day while arc flags are in use; with flags put off the answer is the same.
+/// under every setting where the tables were built with the `transfer_time` that the query is asked with. With another one the day is
+/// not a plain one; with arc flags off the answer is the same all the same, since no transfer is read then.
 ///
 /// ```
 /// use savoiky::{max_rounds, Settings};

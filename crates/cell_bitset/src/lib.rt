@@ -1,5 +1,5 @@
 // cell_bitset: the cell set of the arc flags (CellBitSet of the Rust), by value: at most 512 cells, as bytes.
-// Place: a leaf. The calls that ask question 1 of a count: `leaf_calls`.
+// Place: a leaf. The calls that ask question 1 of a count: `cell_set_call`.
 // Specs (claims): when a cell is in a set (`held`), the set with one cell more (`withCell`), that two sets share a cell
 // (`meets`), their union, a set with room for more cells (`sized`).
 // Proves: each method equal to its definition for every value of the struct, also one whose `reserved` is past the 64

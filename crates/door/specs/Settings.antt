@@ -35,7 +35,7 @@ settingsAsked S = ask 14 (settingsOk S) 0
 abbrev pub rangesAsked : Settings → Bool → ℕ
 rangesAsked S ranged = ask 14 (settingsOk S) (ask 5 ranged 0)
 
--- what a yes gives
+-- what a yes to question 14 gives, for the functions behind a door
 pub record SettingsIn (S : Settings) : Type 0 where
   pub transferTime : S .«transfer_time» ≤ transferTimeLimit
   pub someTrip : 1 ≤ S .«line_scan»

@@ -7,7 +7,7 @@
 // Proves: each call's whole outcome is the leaf's definition of it.
 // Assumes nothing.
 ghost use mathlib.Core.Path.{_≡_};
-ghost use Rattle.leaf_calls.specs.CellSetCall.{created, resized, withCellAnswer, heldAnswer, meetsAnswer, unionAnswer, emptyAnswer};
+ghost use Rattle.cell_set_call.specs.CellSetCall.{created, resized, withCellAnswer, heldAnswer, meetsAnswer, unionAnswer, emptyAnswer};
 ghost use Rattle.leaf_calls.specs.WalkCall.{walkDuration, roundsAnswer};
 ghost use Rattle.frequency_call.specs.FrequencyCall.{freqOutcome};
 ghost use Rattle.leaf_calls.specs.StopDelayCall.{departureOutcome, arrivalOutcome, skippedOutcome};
@@ -26,12 +26,12 @@ ghost use Rattle.query_call.specs.Call.{runTbrOutcome, queryOutcome};
 ghost use Rattle.sizes.specs.Counts.{countsOf, queryCountsOf};
 ghost use Rattle.exports.specs.Shown.{shown, shownOf, shownTransfers, shownTransfersOf};
 use cell_bitset::CellBitSet;
+use cell_set_call::CellSetAnswer;
 use delay_call::DelayAt;
 use door::Answer;
 use door::Settings;
 use frequency_call::FreqAnswer;
 use label_call::LabelAnswer;
-use leaf_calls::CellSetAnswer;
 use lines_call::Grouped;
 use query_reply::Reply;
 use sizes::QuerySizes;
@@ -74,7 +74,7 @@ use transfers_call::Built;
 pub extern "C" fn savoiky_cell_bitset_new(settings: Settings, num_cells: u32) -> CellSetAnswer
     ensures { λ r. ⌜ r ≡ created settings «num_cells» ⌝ }
 {
-    leaf_calls::create(settings, num_cells)
+    cell_set_call::create(settings, num_cells)
 }
 
 // The set with at least the groups of so many cells reserved; it holds the same cells. Question 1: at most 512 cells; refused, the
@@ -87,7 +87,7 @@ pub extern "C" fn savoiky_cell_bitset_ensure_sized(
 ) -> CellSetAnswer
     ensures { λ r. ⌜ r ≡ resized settings set «num_cells» ⌝ }
 {
-    leaf_calls::resize(settings, set, num_cells)
+    cell_set_call::resize(settings, set, num_cells)
 }
 
 // The set with this cell; a cell past the reserved groups is dropped. Question 14 alone; refused, the set is as it came.
@@ -99,7 +99,7 @@ pub extern "C" fn savoiky_cell_bitset_set_bit(
 ) -> CellSetAnswer
     ensures { λ r. ⌜ r ≡ withCellAnswer settings set cell ⌝ }
 {
-    leaf_calls::set_bit(settings, set, cell)
+    cell_set_call::set_bit(settings, set, cell)
 }
 
 // Is this cell in the set? The value: 1 for yes, else 0. Question 14 alone.
@@ -111,7 +111,7 @@ pub extern "C" fn savoiky_cell_bitset_get_bit(
 ) -> Answer
     ensures { λ r. ⌜ r ≡ heldAnswer settings set cell ⌝ }
 {
-    leaf_calls::get_bit(settings, set, cell)
+    cell_set_call::get_bit(settings, set, cell)
 }
 
 // Have the sets a cell in common? The value: 1 for yes, else 0. Question 14 alone.
@@ -123,7 +123,7 @@ pub extern "C" fn savoiky_cell_bitset_intersects(
 ) -> Answer
     ensures { λ r. ⌜ r ≡ meetsAnswer settings set other ⌝ }
 {
-    leaf_calls::intersects(settings, set, other)
+    cell_set_call::intersects(settings, set, other)
 }
 
 // The set with the cells of the other, and room for them. Question 14 alone; refused, the set is as it came.
@@ -135,7 +135,7 @@ pub extern "C" fn savoiky_cell_bitset_union_with(
 ) -> CellSetAnswer
     ensures { λ r. ⌜ r ≡ unionAnswer settings set other ⌝ }
 {
-    leaf_calls::union_with(settings, set, other)
+    cell_set_call::union_with(settings, set, other)
 }
 
 // Does the set hold no cell? The value: 1 for yes, else 0. Question 14 alone.
@@ -143,7 +143,7 @@ pub extern "C" fn savoiky_cell_bitset_union_with(
 pub extern "C" fn savoiky_cell_bitset_is_empty(settings: Settings, set: CellBitSet) -> Answer
     ensures { λ r. ⌜ r ≡ emptyAnswer settings set ⌝ }
 {
-    leaf_calls::is_empty(settings, set)
+    cell_set_call::is_empty(settings, set)
 }
 
 // WALKS AND ROUNDS, FREQUENCY TRIPS, DELAYS, CLOCK READINGS: the leaves of a query, for a caller's own reckoning.

@@ -43,10 +43,8 @@ fn questions(
     ensures { λ r. ⌜ r ≡ layoutVerdict settings (now (tables .entry)) c lines n (now (runs .entry)) (now (entries .entry))
         (layoutSizesOk c lines n (length (now (runs .entry))) (length (now (entries .entry))) positions fifo) ⌝ }
 {
-    let no = door::limits(
-        door::both(tables::counts_ok(c), door::both(lines <= 4096, n <= 4096)),
-        settings,
-    );
+    let few = door::both(lines <= 4096, n <= 4096);
+    let no = door::limits(door::both(tables::counts_ok(c), few), settings);
     if no != 0 {
         return no;
     }

@@ -1,4 +1,3 @@
 pub mod ClockCall
-pub mod CellSetCall
 pub mod StopDelayCall
 pub mod WalkCall

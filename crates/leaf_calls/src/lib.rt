@@ -1,124 +1,20 @@
-// leaf_calls: the exported calls of the leaves that take numbers alone (document 01, items 1, 2, 4 and 11): cell sets, walks and rounds,
-// effective times, clock readings. Each asks its questions, 14 (the settings) among them, then hands on to the leaf's own function. The calls of
-// leaves that are lent slices: `frequency_call`, `delay_call`.
+// leaf_calls: the exported calls of the leaves that take numbers alone (document 01, items 2, 4 and 11): walks and rounds, effective times,
+// clock readings. Each asks its questions, 14 (the settings) among them, then hands on to the leaf's own function. The calls of cell sets and of
+// leaves that are lent slices: `cell_set_call`, `frequency_call`, `delay_call`.
 // Place: a call crate; only `exports` and programs use it.
-// Specs (claims): the questions and the outcome of each call (CellSetCall, WalkCall, StopDelayCall, ClockCall). What a leaf computes is defined
-// beside its function, in its own crate.
+// Specs (claims): the questions and the outcome of each call (WalkCall, StopDelayCall, ClockCall). What a leaf computes is defined beside its
+// function, in its own crate.
 // Proves: each call's outcome is the defined one, on every input; of clock readings that none is above 172,799, and that two are equal only if
 // hours, minutes and seconds are; document 01's worked rows (proofs/..Examples).
 // Assumes nothing.
 ghost use mathlib.Core.Path.{_≡_};
-ghost use Rattle.leaf_calls.specs.CellSetCall.{created, resized, withCellAnswer, unionAnswer};
-ghost use Rattle.leaf_calls.specs.CellSetCall.{truthAnswer, heldAnswer, meetsAnswer, emptyAnswer};
 ghost use mathlib.Core.Bool.{true};
 ghost use Rattle.leaf_calls.specs.ClockCall.{clockInRange, reading, serviceSecond};
 ghost use Rattle.leaf_calls.specs.StopDelayCall.{timeInRange, departureOutcome, arrivalOutcome, skippedOutcome};
 ghost use Rattle.leaf_calls.specs.WalkCall.{walkInRange, walkDuration, roundsAnswer};
-use cell_bitset::CellBitSet;
 use door::Answer;
 use door::Settings;
 use stop_delay::StopDelay;
-
-// The most cells that a set has room for.
-const CELL_LIMIT: u32 = 512;
-
-// The answer of a call that gives a set: 0 and the set made, or the number of the first no.
-#[repr(C)]
-pub struct CellSetAnswer {
-    pub code: u32,
-    pub set: CellBitSet,
-}
-
-// A new set, behind questions 1 and 14.
-pub fn create(settings: Settings, num_cells: u32) -> CellSetAnswer
-    ensures { λ r. ⌜ r ≡ created settings «num_cells» ⌝ }
-{
-    let v = door::limits(num_cells <= CELL_LIMIT, settings);
-    if v != 0 {
-        return CellSetAnswer {
-            code: v,
-            set: CellBitSet::new(0),
-        };
-    }
-    CellSetAnswer {
-        code: 0,
-        set: CellBitSet::new(num_cells),
-    }
-}
-
-// A set with room for more cells, behind questions 1 and 14.
-pub fn resize(settings: Settings, set: CellBitSet, num_cells: u32) -> CellSetAnswer
-    ensures { λ r. ⌜ r ≡ resized settings set «num_cells» ⌝ }
-{
-    let v = door::limits(num_cells <= CELL_LIMIT, settings);
-    if v != 0 {
-        return CellSetAnswer { code: v, set: set };
-    }
-    CellSetAnswer {
-        code: 0,
-        set: set.ensure_sized(num_cells),
-    }
-}
-
-// A set with one cell more, behind question 14.
-pub fn set_bit(settings: Settings, set: CellBitSet, cell: u32) -> CellSetAnswer
-    ensures { λ r. ⌜ r ≡ withCellAnswer settings set cell ⌝ }
-{
-    if !door::settings_ok(settings) {
-        return CellSetAnswer { code: 14, set: set };
-    }
-    CellSetAnswer {
-        code: 0,
-        set: set.set_bit(cell),
-    }
-}
-
-// Two sets in one, behind question 14.
-pub fn union_with(settings: Settings, set: CellBitSet, other: CellBitSet) -> CellSetAnswer
-    ensures { λ r. ⌜ r ≡ unionAnswer settings set other ⌝ }
-{
-    if !door::settings_ok(settings) {
-        return CellSetAnswer { code: 14, set: set };
-    }
-    CellSetAnswer {
-        code: 0,
-        set: set.union_with(other),
-    }
-}
-
-// Yes or no as 1 or 0, behind question 14.
-fn truth(settings: Settings, yes: bool) -> Answer
-    ensures { λ r. ⌜ r ≡ truthAnswer settings yes ⌝ }
-{
-    if !door::settings_ok(settings) {
-        return door::refused(14);
-    }
-    if yes {
-        return door::given(1);
-    }
-    door::given(0)
-}
-
-// Is the cell in the set?
-pub fn get_bit(settings: Settings, set: CellBitSet, cell: u32) -> Answer
-    ensures { λ r. ⌜ r ≡ heldAnswer settings set cell ⌝ }
-{
-    truth(settings, set.get_bit(cell))
-}
-
-// Have the sets a cell in common?
-pub fn intersects(settings: Settings, set: CellBitSet, other: CellBitSet) -> Answer
-    ensures { λ r. ⌜ r ≡ meetsAnswer settings set other ⌝ }
-{
-    truth(settings, set.intersects(other))
-}
-
-// Does the set hold no cell?
-pub fn is_empty(settings: Settings, set: CellBitSet) -> Answer
-    ensures { λ r. ⌜ r ≡ emptyAnswer settings set ⌝ }
-{
-    truth(settings, set.is_empty())
-}
 
 // Is this a clock reading?
 fn clock_in_range(hour: u32, minute: u32, second: u32) -> bool

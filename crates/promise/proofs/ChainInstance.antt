@@ -1,5 +1,6 @@
 -- AN INSTANCE of the chain: Timetable K, built from departures that are not sorted, the lines on a day when T1 is not active and T2 is excluded, the
--- rest on a day when all run; then asked about with all trips running (Instance `lentK`). The three calls' outcomes are computed.
+-- rest on a day when all run, each call under settings of its own, the transfer time alone the query's; then asked about with all trips running
+-- (Instance `lentK`). The three calls' outcomes are computed.
 use Prim.Native.Nat.{ℕ, zero, suc}
 use mathlib.Core.Path.{_≡_, refl}
 use mathlib.Core.Bool.{true}
@@ -30,6 +31,7 @@ use Rattle.query_door.proofs.Examples.{tK, builtK, transfersK, qK, query, time,
 use Rattle.query_reply.specs.Outcome.{reply, queryLengths}
 use Rattle.query_call.specs.Call.{queryOutcome}
 use Rattle.model.specs.Promise.{scheduled, effective}
+use Rattle.plain_days.specs.K.{house}
 use Rattle.promise.specs.Claims.{PromiseKept}
 use Rattle.promise.specs.Chain.{SameRides, Chain, TransferChain, DoorElse, TransfersPass}
 use Rattle.promise.specs.Demands.{lentAnswer}
@@ -81,11 +83,11 @@ unfoldable pub chain-K : Chain lentK
 unfolding settingsOk counts tB tK builtK time trip timeOf tripOf windowOf edgeOf every iter first count tabFrom insertBy sortBy within keep flatMap countsOk slicesOk tripRuns stopTimeNumbers edgeNumbers stopTimeRanges tripRanges windowRanges edgeRanges edgeRises runsOk numbersOk rangesOk orderOk flat frequencyListed sortStop runIn stopRunsOk rowNumbers rowsOk rowAtStop stopRowsOk atStopsOk listedOk same leadOf isLead lineOf lineTrips entriesOf lineCount lineFirst runsOf lineSizesOk linesVerdict linesMade sortSizesOk sortVerdict sortedRows
 chain-K =
     record {
-      linesOn = record { settings = defaultSettings; t = tB; c = cB; same = same-K };
+      linesOn = record { settings = house 0 1 0 0; t = tB; c = cB; same = same-K };
       lineAreas = lineAreas (replicate 3 9) (replicate 6 9) (replicate 3 9) (replicate 3 9) (replicate 3 9);
       lines-answered = refl;
       entries-told = refl;
-      sortOn = record { settings = defaultSettings; t = tK; c = cB; same = own-rides tK cB };
+      sortOn = record { settings = house 3600 4096 21600 1048575; t = tK; c = cB; same = own-rides tK cB };
       stopRuns = 0 ∷ 2 ∷ 2 ∷ 3 ∷ 5 ∷ 0 ∷ [];
       sortAreas = sortAreas (1 ∷ 0 ∷ 0 ∷ 0 ∷ 2 ∷ 0 ∷ 1 ∷ 1 ∷ 0 ∷ 1 ∷ []) (replicate 3 9) (replicate 5 9) (replicate 5 9);
       sorting-answered = refl;
@@ -98,7 +100,7 @@ pub transfers-K : TransferChain lentK chain-K
 unfolding settingsOk chain-K counts tB tK transfersK time trip timeOf tripOf windowOf edgeOf every iter first count tabFrom insertBy sortBy within keep flatMap flatten countsOk slicesOk tripRuns stopTimeNumbers edgeNumbers stopTimeRanges tripRanges windowRanges edgeRanges edgeRises runsOk numbersOk rangesOk orderOk flat frequencyListed sortStop runIn stopRunsOk rowNumbers rowsOk rowAtStop stopRowsOk atStopsOk listedOk same leadOf isLead lineOf lineTrips entriesOf lineCount lineFirst runsOf lineSizesOk linesVerdict linesMade sortSizesOk sortVerdict sortedRows departuresOfLine eventsBefore eventsOf firstNotBefore runsFrom transferTo transfersOf transferWords areaWith linesOk transfersQuestion1 transfersQuestion2 transfersQuestion3 transfersQuestion4 transfersQuestion5 transfersQuestion6 roomOk transfersSettled transferSizesOk transfersVerdict
 transfers-K =
     record {
-      on = record { settings = defaultSettings; t = tB; c = cB; same = same-K };
+      on = record { settings = house 120 1 0 0; t = tB; c = cB; same = same-K };
       same-time = refl;
       rows = 1 ∷ 0 ∷ 0 ∷ 0 ∷ 2 ∷ 0 ∷ 1 ∷ 1 ∷ 0 ∷ 1 ∷ [];
       rows-are = inr refl;

@@ -17,7 +17,13 @@ both-requires-4 c κs = search needs
 
 returns : tie.Need-returns
 unfolding settingsOk
-returns c = cc
+returns c =
+    simp (
+      c .both4 .ensures,
+      c .before .both3 .ensures,
+      c .before .before .before .before .both2 .ensures,
+      c .before .before .before .before .before .before .both .ensures,
+    )
 
 pub settings-ok-spec : {M : Type 1} → statement M
 settings-ok-spec = tie.close (tie.spec both-requires both-requires-2 both-requires-3 both-requires-4 returns)

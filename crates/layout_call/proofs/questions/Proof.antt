@@ -36,7 +36,7 @@ firstYes s = Within (asked1 s) (settingsOk (s .args .settings))
 
 q1 : (c : tie.Else1) → firstYes (c .before .before .before .before .before .before .before .before)
 q1 c =
-    within (c .before .limits .ensures) (c .before .before .both2 .ensures ∙ ap₂ _&&_ (c .before .before .before .before .counts-ok .ensures) (c .before .before .before .both .ensures)) (c .if1 .left)
+    within (c .before .limits .ensures) (c .before .before .both2 .ensures ∙ ap₂ _&&_ (c .before .before .before .counts-ok .ensures) (c .before .before .before .before .both .ensures)) (c .if1 .left)
 
 abbrev limitsAt : tie.Start → Type 0
 limitsAt s = Limits (s .args .c) (s .args .lines) (s .args .n)
@@ -59,11 +59,11 @@ q3 c = found-yes (c .before .both4 .ensures) (c .before .before .before .runs-ok
 q4 : (c : tie.Else6) → asked4 (c .before .before .before .before .before .before .before .before .before .before .before .before .before .before .before .before .before .before .before .before .before .before .before) ≡ true
 q4 c = found-yes (c .before .both6 .ensures) (c .before .before .numbers-ok .ensures) (c .before .before .before .before .before .before .entries-ok .ensures) (c .if6 .left)
 
-counts-ok-requires : tie.Need-counts-ok-requires
-counts-ok-requires c κs = search needs
-
 both-requires : tie.Need-both-requires
 both-requires c κs = search needs
+
+counts-ok-requires : tie.Need-counts-ok-requires
+counts-ok-requires c κs = search needs
 
 both-requires-2 : tie.Need-both-requires-2
 both-requires-2 c κs = search needs
@@ -74,7 +74,7 @@ limits-requires c κs = search needs
 returns : tie.Need-returns
 unfolding layoutVerdict
 returns c =
-    not-within (settingsOk (c .before .before .before .before .before .before .before .before .args .settings)) _ (c .before .limits .ensures) (c .before .before .both2 .ensures ∙ ap₂ _&&_ (c .before .before .before .before .counts-ok .ensures) (c .before .before .before .both .ensures)) (c .if1 .taken)
+    not-within (settingsOk (c .before .before .before .before .before .before .before .before .args .settings)) _ (c .before .limits .ensures) (c .before .before .both2 .ensures ∙ ap₂ _&&_ (c .before .before .before .counts-ok .ensures) (c .before .before .before .before .both .ensures)) (c .if1 .taken)
 
 slices-ok-requires : tie.Need-slices-ok-requires
 slices-ok-requires c κs = (limits (c)) .counts
@@ -201,8 +201,8 @@ pub questions-spec : {M : Type 1} → statement M
 questions-spec =
     tie.close
     (tie.spec
-    counts-ok-requires
     both-requires
+    counts-ok-requires
     both-requires-2
     limits-requires
     returns

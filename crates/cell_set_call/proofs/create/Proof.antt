@@ -3,9 +3,9 @@ use borrow.Author.Needs.{needs}
 use mathlib.Core.Path.{refl}
 use Rattle.door.specs.Settings.{settingsOk}
 use Rattle.door.proofs.Laws.{within}
-use Rattle.leaf_calls.proofs.CellSetCall.{set-given, set-refused}
-use Rattle.leaf_calls.proofs.create.Statement.{statement}
-use Rattle.leaf_calls.proofs.create.Tie as tie
+use Rattle.cell_set_call.proofs.CellSetCall.{set-given, set-refused}
+use Rattle.cell_set_call.proofs.create.Statement.{statement}
+use Rattle.cell_set_call.proofs.create.Tie as tie
 
 limits-requires : tie.Need-limits-requires
 limits-requires c κs = search needs

@@ -1,8 +1,8 @@
 use mathlib.Core.Path.{_∙_, ap}
 use borrow.Author.Needs.{needs}
-use Rattle.leaf_calls.specs.CellSetCall.{truthAnswer}
-use Rattle.leaf_calls.proofs.is_empty.Statement.{statement}
-use Rattle.leaf_calls.proofs.is_empty.Tie as tie
+use Rattle.cell_set_call.specs.CellSetCall.{truthAnswer}
+use Rattle.cell_set_call.proofs.is_empty.Statement.{statement}
+use Rattle.cell_set_call.proofs.is_empty.Tie as tie
 
 is-empty-requires : tie.Need-is-empty-requires
 is-empty-requires c κs = search needs

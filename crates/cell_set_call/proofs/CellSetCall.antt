@@ -2,8 +2,8 @@
 use Prim.Native.Nat.{ℕ, zero, suc}
 use mathlib.Core.Path.{_≡_, refl, sym, _∙_, ap}
 use Rattle.cell_bitset.specs.declared.CellBitSet.{CellBitSet}
-use Rattle.leaf_calls.specs.declared.CellSetAnswer.{CellSetAnswer}
-use Rattle.leaf_calls.specs.CellSetCall.{setAnswer}
+use Rattle.cell_set_call.specs.declared.CellSetAnswer.{CellSetAnswer}
+use Rattle.cell_set_call.specs.CellSetCall.{setAnswer}
 
 pub set-given : {v w : ℕ} {x made : CellBitSet} (back : CellBitSet) → v ≡ w → v ≡ 0 → x ≡ made → _≡_ {A = CellSetAnswer} (record { code = 0; set = x }) (setAnswer w made back)
 set-given {v} {w} {x} {made} back e z f =

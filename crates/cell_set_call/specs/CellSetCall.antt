@@ -9,7 +9,7 @@ use Rattle.door.specs.Settings.{settingsAsked}
 use Rattle.door.specs.declared.Settings.{Settings}
 use Rattle.door.specs.declared.Answer.{Answer}
 use Rattle.cell_bitset.specs.declared.CellBitSet.{CellBitSet}
-use Rattle.leaf_calls.specs.declared.CellSetAnswer.{CellSetAnswer}
+use Rattle.cell_set_call.specs.declared.CellSetAnswer.{CellSetAnswer}
 use Rattle.cell_bitset.specs.CellSet.{cellLimit, emptySet, sized, withCell, held, meets, union, holdsNone}
 
 -- questions 1 (are all counts within the limits?) of a number of cells, and 14: 0 is yes

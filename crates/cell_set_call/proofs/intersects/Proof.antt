@@ -1,8 +1,8 @@
 use mathlib.Core.Path.{_∙_, ap}
 use borrow.Author.Needs.{needs}
-use Rattle.leaf_calls.specs.CellSetCall.{truthAnswer}
-use Rattle.leaf_calls.proofs.intersects.Statement.{statement}
-use Rattle.leaf_calls.proofs.intersects.Tie as tie
+use Rattle.cell_set_call.specs.CellSetCall.{truthAnswer}
+use Rattle.cell_set_call.proofs.intersects.Statement.{statement}
+use Rattle.cell_set_call.proofs.intersects.Tie as tie
 
 intersects-requires : tie.Need-intersects-requires
 intersects-requires c κs = search needs

@@ -1,8 +1,8 @@
 use mathlib.Core.Path.{_∙_, ap}
 use borrow.Author.Needs.{needs}
-use Rattle.leaf_calls.specs.CellSetCall.{truthAnswer}
-use Rattle.leaf_calls.proofs.get_bit.Statement.{statement}
-use Rattle.leaf_calls.proofs.get_bit.Tie as tie
+use Rattle.cell_set_call.specs.CellSetCall.{truthAnswer}
+use Rattle.cell_set_call.proofs.get_bit.Statement.{statement}
+use Rattle.cell_set_call.proofs.get_bit.Tie as tie
 
 get-bit-requires : tie.Need-get-bit-requires
 get-bit-requires c κs = search needs

@@ -1,8 +1,8 @@
 use borrow.Author.Needs.{needs}
 use borrow.Author.Tests.{not-false, not-true}
 use mathlib.Core.Path.{_∙_, sym}
-use Rattle.leaf_calls.proofs.truth.Statement.{statement}
-use Rattle.leaf_calls.proofs.truth.Tie as tie
+use Rattle.cell_set_call.proofs.truth.Statement.{statement}
+use Rattle.cell_set_call.proofs.truth.Tie as tie
 
 settings-ok-requires : tie.Need-settings-ok-requires
 settings-ok-requires c κs = search needs

@@ -1,0 +1,2 @@
+pub mod CellSetCall
+pub mod Examples
