@@ -48,16 +48,12 @@ fn questions(
     if no != 0 {
         return no;
     }
-    if !door::both(
-        tables::slices_ok(tables, c),
-        sizes_ok(c, lines, n, runs.len(), entries.len(), positions, fifo),
-    ) {
+    let sized = sizes_ok(c, lines, n, runs.len(), entries.len(), positions, fifo);
+    if !door::both(tables::slices_ok(tables, c), sized) {
         return 2;
     }
-    if !door::both(
-        tables::runs_ok(tables, c),
-        line_layout::line_runs_ok(runs, lines, n),
-    ) {
+    let within = line_layout::line_runs_ok(runs, lines, n);
+    if !door::both(tables::runs_ok(tables, c), within) {
         return 3;
     }
     let known = line_layout::entries_ok(c, entries, n);

@@ -188,19 +188,13 @@ fn questions(
     if !lent_ok(tables, c, d, lines.len(), runs.len(), rows.len(), evs) {
         return 2;
     }
-    if !door::both(
-        tables::runs_ok(tables, c),
-        departures::stop_runs_ok(runs, c, d),
-    ) {
+    let within = departures::stop_runs_ok(runs, c, d);
+    if !door::both(tables::runs_ok(tables, c), within) {
         return 3;
     }
-    if !door::both(
-        tables::numbers_ok(tables, c),
-        door::both(
-            lines_ok(lines, line_count),
-            departures::listed_ok(tables, c, runs, rows, d),
-        ),
-    ) {
+    let listed = departures::listed_ok(tables, c, runs, rows, d);
+    let known = door::both(lines_ok(lines, line_count), listed);
+    if !door::both(tables::numbers_ok(tables, c), known) {
         return 4;
     }
     if !tables::ranges_ok(tables, c) {

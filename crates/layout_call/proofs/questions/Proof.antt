@@ -45,7 +45,7 @@ limits : (c : tie.Else1) → limitsAt (c .before .before .before .before .before
 limits c = limits-yes _ _ _ (q1 c .counts-yes)
 
 q2 : (c : tie.Else2) → asked2 (c .before .before .before .before .before .before .before .before .before .before .before .before) ≡ true
-q2 c = found-yes (c .before .both3 .ensures) (c .before .before .before .slices-ok .ensures) (c .before .before .sizes-ok .ensures) (c .if2 .left)
+q2 c = found-yes (c .before .both3 .ensures) (c .before .before .slices-ok .ensures) (c .before .before .before .sizes-ok .ensures) (c .if2 .left)
 
 abbrev sizesAt : tie.Start → Type 0
 sizesAt s = Sizes (now (s .args .tables)) (s .args .c) (s .args .lines) (s .args .n) (length (now (s .args .runs))) (length (now (s .args .entries))) (s .args .positions) (s .args .fifo)
@@ -54,7 +54,7 @@ sizes : (c : tie.Else2) → sizesAt (c .before .before .before .before .before .
 sizes c = sizes-yes _ _ _ _ _ _ _ _ (q2 c)
 
 q3 : (c : tie.Else3) → asked3 (c .before .before .before .before .before .before .before .before .before .before .before .before .before .before .before .before) ≡ true
-q3 c = found-yes (c .before .both4 .ensures) (c .before .before .before .runs-ok .ensures) (c .before .before .line-runs-ok .ensures) (c .if3 .left)
+q3 c = found-yes (c .before .both4 .ensures) (c .before .before .runs-ok .ensures) (c .before .before .before .line-runs-ok .ensures) (c .if3 .left)
 
 q4 : (c : tie.Else6) → asked4 (c .before .before .before .before .before .before .before .before .before .before .before .before .before .before .before .before .before .before .before .before .before .before .before) ≡ true
 q4 c = found-yes (c .before .both6 .ensures) (c .before .before .numbers-ok .ensures) (c .before .before .before .before .before .before .entries-ok .ensures) (c .if6 .left)
@@ -76,24 +76,24 @@ unfolding layoutVerdict
 returns c =
     not-within (settingsOk (c .before .before .before .before .before .before .before .before .args .settings)) _ (c .before .limits .ensures) (c .before .before .both2 .ensures ∙ ap₂ _&&_ (c .before .before .before .counts-ok .ensures) (c .before .before .before .before .both .ensures)) (c .if1 .taken)
 
-slices-ok-requires : tie.Need-slices-ok-requires
-slices-ok-requires c κs = (limits (c)) .counts
-
 sizes-ok-requires : tie.Need-sizes-ok-requires
-sizes-ok-requires c κs = (limits (c .before)) .fewLines
+sizes-ok-requires c κs = (limits (c)) .fewLines
+
+slices-ok-requires : tie.Need-slices-ok-requires
+slices-ok-requires c κs = (limits (c .before)) .counts
 
 both-requires-3 : tie.Need-both-requires-3
 both-requires-3 c κs = search needs
 
 returns-2 : tie.Need-returns-2
 unfolding layoutVerdict
-returns-2 c = ask-past (q1 (c .before .before .before .before)) (ask-no 2 _ _ (found-no (c .before .both3 .ensures) (c .before .before .before .slices-ok .ensures) (c .before .before .sizes-ok .ensures) (c .if2 .taken)))
-
-runs-ok-requires : tie.Need-runs-ok-requires
-runs-ok-requires c κs = ((limits (c .before .before .before .before)) .counts, (sizes (c)) .slices)
+returns-2 c = ask-past (q1 (c .before .before .before .before)) (ask-no 2 _ _ (found-no (c .before .both3 .ensures) (c .before .before .slices-ok .ensures) (c .before .before .before .sizes-ok .ensures) (c .if2 .taken)))
 
 line-runs-ok-requires : tie.Need-line-runs-ok-requires
-line-runs-ok-requires c κs = (sizes (c .before)) .runsIs
+line-runs-ok-requires c κs = (sizes (c)) .runsIs
+
+runs-ok-requires : tie.Need-runs-ok-requires
+runs-ok-requires c κs = ((limits (c .before .before .before .before .before)) .counts, (sizes (c .before)) .slices)
 
 both-requires-4 : tie.Need-both-requires-4
 both-requires-4 c κs = search needs
@@ -103,7 +103,7 @@ unfolding layoutVerdict
 returns-3 c =
     let c₁ = c .before .before .before in
     let c₂ = c₁ .before .before .before .before in
-    ask-past (q1 (c₂ .before)) (ask-on 2 _ (q2 (c₁ .before)) (ask-no 3 _ _ (found-no (c .before .both4 .ensures) (c₁ .runs-ok .ensures) (c .before .before .line-runs-ok .ensures) (c .if3 .taken))))
+    ask-past (q1 (c₂ .before)) (ask-on 2 _ (q2 (c₁ .before)) (ask-no 3 _ _ (found-no (c .before .both4 .ensures) (c .before .before .runs-ok .ensures) (c₁ .line-runs-ok .ensures) (c .if3 .taken))))
 
 entries-ok-requires : tie.Need-entries-ok-requires
 entries-ok-requires c κs = (sizes (c .before .before .before .before)) .entriesIs
@@ -206,12 +206,12 @@ questions-spec =
     both-requires-2
     limits-requires
     returns
-    slices-ok-requires
     sizes-ok-requires
+    slices-ok-requires
     both-requires-3
     returns-2
-    runs-ok-requires
     line-runs-ok-requires
+    runs-ok-requires
     both-requires-4
     returns-3
     entries-ok-requires

@@ -21,7 +21,7 @@ q2 : (c : tie.Else2) → transfersQuestion2 (lentAt (c .before .before .before .
 q2 c = answer2 _ _ (c .before .lent-ok .ensures) (not-false _ (c .if2 .left))
 
 q3 : (c : tie.Else3) → transfersQuestion3 (lentAt (c .before .before .before .before .before .before .before .before .before .before .before .before .before .before .before)) ≡ true
-q3 c = answer3 _ (c .before .both3 .ensures) (c .before .before .before .runs-ok .ensures) (c .before .before .stop-runs-ok .ensures) (not-false _ (c .if3 .left))
+q3 c = answer3 _ (c .before .both3 .ensures) (c .before .before .runs-ok .ensures) (c .before .before .before .stop-runs-ok .ensures) (not-false _ (c .if3 .left))
 
 q4 : (c : tie.Else4) → transfersQuestion4 (lentAt (c .before .before .before .before .before .before .before .before .before .before .before .before .before .before .before .before .before .before .before .before .before)) ≡ true
 q4 c =
@@ -29,7 +29,7 @@ q4 c =
     let c₂ = c₁ .before .before .before .before .before .before .before .before .before .before in
     let c₃ = c₂ .before .before in
     let size = second (lentAt (c₂ .before .before)) (c₃ .args .evs) (q2 (c₁ .before)) .sizes .linesIs in
-    answer4 _ (c .before .both5 .ensures) (c .before .before .before .before .before .numbers-ok .ensures) (c .before .before .both4 .ensures) (c .before .before .before .before .lines-ok .ensures) size (c .before .before .before .listed-ok .ensures) (not-false _ (c .if4 .left))
+    answer4 _ (c .before .both5 .ensures) (c .before .before .numbers-ok .ensures) (c .before .before .before .both4 .ensures) (c .before .before .before .before .lines-ok .ensures) size (c .before .before .before .before .before .listed-ok .ensures) (not-false _ (c .if4 .left))
 
 q5 : (c : tie.Else5) → transfersQuestion5 (lentAt (c .before .before .before .before .before .before .before .before .before .before .before .before .before .before .before .before .before .before .before .before .before .before .before)) ≡ true
 q5 c = answer5 _ (c .before .ranges-ok .ensures) (not-false _ (c .if5 .left))
@@ -57,17 +57,15 @@ lent-ok-requires c κs = need2 (lentAt (c .before .before .before .before .befor
 returns-2 : tie.Need-returns-2
 returns-2 c = no2 _ _ (q1 (c .before .before)) (answer2 _ _ (c .before .lent-ok .ensures) (not-true _ (c .if2 .taken)))
 
-runs-ok-requires : tie.Need-runs-ok-requires
-runs-ok-requires c κs =
-    let c₁ = c .before .before .before .before .before .before .before .before .before in
-    let c₂ = c₁ .before .before in
-    need3 (lentAt (c₁ .before .before)) (c₂ .args .evs) (q1 (c .before .before) .counts-yes) (q2 c)
-
 stop-runs-ok-requires : tie.Need-stop-runs-ok-requires
 stop-runs-ok-requires c κs =
-    let c₁ = c .before .before .before .before .before .before .before .before .before .before in
-    let c₂ = c₁ .before .before in
-    second (lentAt (c₁ .before .before)) (c₂ .args .evs) (q2 (c .before)) .sizes .runsIs
+    let s = c .before .before .before .before .before .before .before .before .before .before .before in
+    second (lentAt s) (s .args .evs) (q2 c) .sizes .runsIs
+
+runs-ok-requires : tie.Need-runs-ok-requires
+runs-ok-requires c κs =
+    let s = c .before .before .before .before .before .before .before .before .before .before .before .before in
+    need3 (lentAt s) (s .args .evs) (q1 (c .before .before .before) .counts-yes) (q2 (c .before))
 
 both-requires-3 : tie.Need-both-requires-3
 both-requires-3 c κs = search needs
@@ -75,26 +73,23 @@ both-requires-3 c κs = search needs
 returns-3 : tie.Need-returns-3
 returns-3 c =
     let c₁ = c .before .before .before in
-    no3 _ _ (q1 (c .before .before .before .before .before .before)) (q2 (c₁ .before)) (answer3 _ (c .before .both3 .ensures) (c₁ .runs-ok .ensures) (c .before .before .stop-runs-ok .ensures) (not-true _ (c .if3 .taken)))
+    no3 _ _ (q1 (c .before .before .before .before .before .before)) (q2 (c₁ .before)) (answer3 _ (c .before .both3 .ensures) (c .before .before .runs-ok .ensures) (c₁ .stop-runs-ok .ensures) (not-true _ (c .if3 .taken)))
 
-numbers-ok-requires : tie.Need-numbers-ok-requires
-numbers-ok-requires c κs =
-    let c₁ = c .before .before .before .before .before .before .before .before .before .before .before .before .before in
-    let c₂ = c₁ .before .before in
-    need3 (lentAt (c₁ .before .before)) (c₂ .args .evs) (q1 (c .before .before .before .before .before .before) .counts-yes) (q2 (c .before .before .before .before))
+listed-ok-requires : tie.Need-listed-ok-requires
+listed-ok-requires c κs =
+    let s = c .before .before .before .before .before .before .before .before .before .before .before .before .before .before .before in
+    need4 (lentAt s) (s .args .evs) (q1 (c .before .before .before .before .before .before) .counts-yes) (q2 (c .before .before .before .before)) (q3 c)
 
 lines-ok-requires : tie.Need-lines-ok-requires
 lines-ok-requires c κs = search needs
 
-listed-ok-requires : tie.Need-listed-ok-requires
-listed-ok-requires c κs =
-    let c₁ = c .before .before .before .before .before .before .before in
-    let c₂ = c₁ .before .before .before .before .before .before .before .before in
-    let c₃ = c₂ .before .before in
-    need4 (lentAt (c₂ .before .before)) (c₃ .args .evs) (q1 (c₁ .before) .counts-yes) (q2 (c .before .before .before .before .before .before)) (q3 (c .before .before))
-
 both-requires-4 : tie.Need-both-requires-4
 both-requires-4 c κs = search needs
+
+numbers-ok-requires : tie.Need-numbers-ok-requires
+numbers-ok-requires c κs =
+    let s = c .before .before .before .before .before .before .before .before .before .before .before .before .before .before .before .before .before .before in
+    need3 (lentAt s) (s .args .evs) (q1 (c .before .before .before .before .before .before .before .before .before) .counts-yes) (q2 (c .before .before .before .before .before .before .before))
 
 both-requires-5 : tie.Need-both-requires-5
 both-requires-5 c κs = search needs
@@ -108,7 +103,7 @@ returns-4 c =
     let c₅ = c₄ .before .before in
     let size = second (lentAt (c₄ .before .before)) (c₅ .args .evs) (q2 (c₂ .before)) .sizes .linesIs in
     no4 _ _ (q1 (c₃ .before)) (q2 (c₂ .before)) (q3 (c₁ .before))
-    (answer4 _ (c .before .both5 .ensures) (c₁ .numbers-ok .ensures) (c .before .before .both4 .ensures) (c .before .before .before .before .lines-ok .ensures) size (c .before .before .before .listed-ok .ensures) (not-true _ (c .if4 .taken)))
+    (answer4 _ (c .before .both5 .ensures) (c .before .before .numbers-ok .ensures) (c .before .before .before .both4 .ensures) (c .before .before .before .before .lines-ok .ensures) size (c₁ .listed-ok .ensures) (not-true _ (c .if4 .taken)))
 
 ranges-ok-requires : tie.Need-ranges-ok-requires
 ranges-ok-requires c κs =
@@ -158,14 +153,14 @@ questions-spec =
     returns
     lent-ok-requires
     returns-2
-    runs-ok-requires
     stop-runs-ok-requires
+    runs-ok-requires
     both-requires-3
     returns-3
-    numbers-ok-requires
-    lines-ok-requires
     listed-ok-requires
+    lines-ok-requires
     both-requires-4
+    numbers-ok-requires
     both-requires-5
     returns-4
     ranges-ok-requires
