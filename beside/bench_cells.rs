@@ -1,8 +1,10 @@
 // Cell sets in cache, timed beside the Rust changing a set in place: nanoseconds a call (least of 201 passes), at 64 and at 512 cells.
-// `copy` is the call that only hands settings and sets in and an answer out, by value through C; `by value` is the Rust's work on a set handed in and out so.
+// `copy` is the call that only hands a tally's address, screen, settings and sets in and an answer out, by value through C; `by value` is the Rust's
+// work on a set handed in and out so.
 #![allow(dead_code, unused)]
 include!(concat!(env!("ORACLE"), "/oracle.rs"));
 include!(concat!(env!("BESIDE"), "/ffi.rs"));
+include!(concat!(env!("BESIDE"), "/tally.rs"));
 include!(concat!(env!("BESIDE"), "/random.rs"));
 include!(concat!(env!("BESIDE"), "/settings.rs"));
 use gtfs::cell_bitset::CellBitSet as Oracle;
@@ -51,19 +53,19 @@ fn rust_empty(a: &Oracle) -> bool {
 
 // Sets handed in, and out.
 #[inline(never)]
-extern "C" fn in_one(h: Settings, a: CellBitSet, c: u32) -> Answer {
+extern "C" fn in_one(t: *mut sys::Tally, screen: u32, h: Settings, a: CellBitSet, c: u32) -> Answer {
     Answer { code: h.line_scan, value: (a.reserved == c) as u32 }
 }
 #[inline(never)]
-extern "C" fn in_two(h: Settings, a: CellBitSet, b: CellBitSet) -> Answer {
+extern "C" fn in_two(t: *mut sys::Tally, screen: u32, h: Settings, a: CellBitSet, b: CellBitSet) -> Answer {
     Answer { code: h.line_scan, value: (a.reserved == b.reserved) as u32 }
 }
 #[inline(never)]
-extern "C" fn through(h: Settings, a: CellBitSet, c: u32) -> CellSetAnswer {
+extern "C" fn through(t: *mut sys::Tally, screen: u32, h: Settings, a: CellBitSet, c: u32) -> CellSetAnswer {
     CellSetAnswer { code: h.line_scan, set: a }
 }
 #[inline(never)]
-extern "C" fn through_two(h: Settings, a: CellBitSet, b: CellBitSet) -> CellSetAnswer {
+extern "C" fn through_two(t: *mut sys::Tally, screen: u32, h: Settings, a: CellBitSet, b: CellBitSet) -> CellSetAnswer {
     CellSetAnswer { code: h.line_scan, set: CellBitSet { bytes: a.bytes, reserved: b.reserved } }
 }
 
@@ -111,6 +113,7 @@ fn row(name: &str, cells: u32, ours: f64, rust: f64, copy: f64, value: f64) {
 }
 
 fn main() {
+    let tally = std::ptr::addr_of_mut!(TIMED_TALLY);
     for cells in [64u32, 512] {
         let fresh = |c: u32| {
             let (mut s, mut o) = (unsafe { savoiky_cell_bitset_new(OWN, cells) }.set, Oracle::new(cells));
@@ -126,35 +129,35 @@ fn main() {
         let get = (
             least(|i| { black_box(unsafe { savoiky_cell_bitset_get_bit(OWN, black_box(a[i]), c[i]) }); }),
             least(|i| { black_box(rust_get(black_box(&oa[i]), c[i] as usize)); }),
-            least(|i| { black_box(in_one(OWN, black_box(a[i]), c[i])); }),
+            least(|i| { black_box(in_one(tally, TIMED, OWN, black_box(a[i]), c[i])); }),
             least(|i| { black_box(value_get(black_box(a[i]), c[i])); }),
         );
         row("get_bit", cells, get.0, get.1, get.2, get.3);
         let set = (
             least(|i| a[i] = unsafe { savoiky_cell_bitset_set_bit(OWN, a[i], c[i]) }.set),
             least(|i| rust_set(&mut oa[i], c[i] as usize)),
-            least(|i| a[i] = through(OWN, a[i], c[i]).set),
+            least(|i| a[i] = through(tally, TIMED, OWN, a[i], c[i]).set),
             least(|i| a[i] = value_set(a[i], c[i])),
         );
         row("set_bit", cells, set.0, set.1, set.2, set.3);
         let meets = (
             least(|i| { black_box(unsafe { savoiky_cell_bitset_intersects(OWN, black_box(a[i]), black_box(b[i])) }); }),
             least(|i| { black_box(rust_meets(black_box(&oa[i]), black_box(&ob[i]))); }),
-            least(|i| { black_box(in_two(OWN, black_box(a[i]), black_box(b[i]))); }),
+            least(|i| { black_box(in_two(tally, TIMED, OWN, black_box(a[i]), black_box(b[i]))); }),
             least(|i| { black_box(value_meets(black_box(a[i]), black_box(b[i]))); }),
         );
         row("intersects", cells, meets.0, meets.1, meets.2, meets.3);
         let union = (
             least(|i| a[i] = unsafe { savoiky_cell_bitset_union_with(OWN, a[i], b[i]) }.set),
             least(|i| rust_union(&mut oa[i], &ob[i])),
-            least(|i| a[i] = through_two(OWN, a[i], b[i]).set),
+            least(|i| a[i] = through_two(tally, TIMED, OWN, a[i], b[i]).set),
             least(|i| a[i] = value_union(a[i], b[i])),
         );
         row("union_with", cells, union.0, union.1, union.2, union.3);
         let empty = (
             least(|i| { black_box(unsafe { savoiky_cell_bitset_is_empty(OWN, black_box(e[i])) }); }),
             least(|i| { black_box(rust_empty(black_box(&oe[i]))); }),
-            least(|i| { black_box(in_one(OWN, black_box(e[i]), 3)); }),
+            least(|i| { black_box(in_one(tally, TIMED, OWN, black_box(e[i]), 3)); }),
             least(|i| { black_box(value_empty(black_box(e[i]))); }),
         );
         row("is_empty", cells, empty.0, empty.1, empty.2, empty.3);

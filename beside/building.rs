@@ -1,7 +1,8 @@
 // building [COUNT]: the building calls beside the Rust: COUNT random tables, damaged ones among them, every limit; random settings, one in twenty out of
 // range, and each end of their ranges; every word of every slice compared, after refusals too. It prints how many were compared, how many
 // differed, how many must be refused for the order of walk edges and how many for a setting, and of a sample how many were built with another
-// transfer time than 120 and how many of them have other targets; status 1 where any differed, or where a code or such a table was never met.
+// transfer time than 120 and how many of them have other targets; status 1 where any differed, tallies too (tally.rs), or where a code or such a table
+// was never met.
 #![allow(dead_code, unused)]
 include!(concat!(env!("BESIDE"), "/parts.rs"));
 include!(concat!(env!("BESIDE"), "/rows.rs"));
@@ -60,7 +61,7 @@ fn random_tables(r: &mut Random, tables: u64, tallies: &mut [Tally; 4]) -> [u64;
             x.damage(r);
         }
         compare(tallies, &x);
-        if first && tallies.iter().any(|t| t.differed > 0) {
+        if first && (tally_differed() > 0 || tallies.iter().any(|t| t.differed > 0)) {
             println!("first difference after {} tables", i + 1);
             std::process::exit(1);
         }
@@ -94,7 +95,7 @@ fn main() {
     println!("transfers, of {} tables: {} built with another time than 120, {} of them with other targets", tables / 8, others[0], others[1]);
     // a comparison that never met one of the codes shows too little
     let met = |t: &Tally| !t.codes[..7].contains(&0) && t.codes[14] > 0;
-    if others.contains(&0) || tallies.iter().any(|t| t.differed > 0 || !met(t)) || tallies[3].codes[7] == 0 {
+    if !tally_fine() || others.contains(&0) || tallies.iter().any(|t| t.differed > 0 || !met(t)) || tallies[3].codes[7] == 0 {
         std::process::exit(1);
     }
 }

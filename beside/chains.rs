@@ -244,7 +244,7 @@ fn answer_before(r: &mut Random, m: &Made, x: &mut Lent) -> (u32, u32) {
     (before.total, before.stop)
 }
 
-// STAND-INS for the building calls (`--cfg mock`), which leave what these must leave; MUTANT=13 to 16 makes them wrong in one way each.
+// STAND-INS for the building calls (`--cfg mock`), which leave what these must leave, with no tally; MUTANT=13 to 16 makes them wrong in one way each.
 
 // the last row of each run of at least two becomes the one before it
 #[cfg(mock)]

@@ -2,8 +2,9 @@
 // right or wrong; settings at the ends of their ranges and one past each in turn, then random ones, some out of range. Each must answer as the
 // independent doors here say, or as the Rust where all is well, and leave every word so. Every slice is an allocation of its own, exactly as
 // long as it says, so that a memory checker sees an access past its end. For every ten of them a search that is answered more often
-// (drawn.rs) is put to `run_tbr` and `query` besides. It prints for each call how many were made, how many were refused, how many
-// of them by 14, and how many differed; status 1 where any did, or where a call never refused by 14 or never answered.
+// (drawn.rs) is put to `run_tbr` and `query` besides. All are for random screens, some above 63 (tally.rs). It prints for each call how many
+// were made, how many were refused, how many of them by 14, and how many differed, tallies too; status 1 where any did, or where a call never
+// refused by 14 or by 15 or never answered.
 #![allow(dead_code, unused)]
 include!(concat!(env!("BESIDE"), "/query_parts.rs"));
 include!(concat!(env!("BESIDE"), "/timetables.rs"));
@@ -248,5 +249,5 @@ fn main() {
         fine = fine && n[3] == 0 && n[2] > 0 && n[1] < n[0];
     }
     println!("{} calls in all, {} differed", t.iter().map(|n| n[0]).sum::<u64>(), t.iter().map(|n| n[3]).sum::<u64>());
-    std::process::exit(!fine as i32);
+    std::process::exit(!(tally_fine() && fine) as i32);
 }

@@ -1,6 +1,7 @@
 // The leaves beside the Rust: the same inputs to the exported calls and to docs/src, every answer compared.
 // Each input has settings of its own, one in twenty of them out of range; besides, each call is made at all ends of the ranges and one past each.
-// It prints only how many inputs of each leaf were compared, how many must be refused by 14 and how many differed; status 1 where any did.
+// It prints only how many inputs of each leaf were compared, how many must be refused by 14 and how many differed, tallies too (tally.rs); status 1
+// where any did.
 #![allow(dead_code, unused)]
 include!(concat!(env!("BESIDE"), "/parts.rs"));
 include!(concat!(env!("BESIDE"), "/ours.rs"));
@@ -273,7 +274,7 @@ fn main() {
         println!("{}: {} compared ({} refused by 14), {} differed", t.name, t.inputs, t.refused, t.differed);
     }
     let ends_wrong = range_ends().iter().any(|(s, code)| s.code(0) != *code);
-    if ends_wrong || tallies.iter().any(|t| t.differed > 0 || t.inputs < RANDOM || t.refused == 0) {
+    if !tally_fine() || ends_wrong || tallies.iter().any(|t| t.differed > 0 || t.inputs < RANDOM || t.refused == 0) {
         std::process::exit(1);
     }
 }

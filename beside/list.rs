@@ -1,7 +1,9 @@
 // The fixed list of the oracle's answers that crates/replay replays: a case a line, numbers in decimal, kind first.
-// Only the Rust of docs/src is asked (and, for refusals and the clock, cases.rs's own reading of document 01). After the kind stand the four
-// settings (transfer_time, line_scan, candidate_slack, margin_cap), some of them out of range, so that every call answers 14; then:
-//   1 cells: n, k, k cells set, m, j, j cells set, probe; then: code, probe held, empty, intersects, probe held by the union, union's bytes reserved
+// Only the Rust of docs/src is asked (and, for refusals and the clock, cases.rs's own reading of document 01). After the kind stand the screen that
+// the line's calls are for, one in 16 above 63, so that every call answers 15 and leaves everything as it came, and the four settings
+// (transfer_time, line_scan, candidate_slack, margin_cap), some of them out of range, so that every call answers 14; then:
+//   1 cells: the screen that the sets are made for and the union is looked into; n, k, k cells set, m, j, j cells set, probe; then: code, code of
+//      looking into the union, probe held, empty, intersects, probe held by the union, union's bytes reserved
 //   2 walk: duration, mode, wheelchair; then code, value          3 rounds: wanted, transfers; then code, value
 //   4 frequency: count, length, words, base, departure, wanted; then code, found, departure, shift
 //   5 departure: time, trip delay, flags, own; then code, value   6 arrival: time, shift, trip delay, flags, own; then code, value
@@ -12,10 +14,15 @@
 //      counts, departures, line count, lines, entries; timetable (141), runs (6), rows (20), each trip's line (5), line runs (6),
 //      entries (6); then sorting: code, rows (20), marks (3); lines: code, count, lines (5), runs (10), entries (5); layout: code,
 //      positions (5), FIFO (3); transfers: code, count, area (96), runs (30). What is lent to be written holds 7 in every word.
-//   10 label: kind, seven fields, distance (a whole number), stop, row of three stops; then the codes of storing and of reading, the record's eight
-//      words and its distance
+//   10 label: kind, seven fields, distance (a whole number), stop, row of three stops, the screen that it is read for; then the codes of storing and
+//      of reading, the record's eight words and its distance
 //   12 a search put to run_tbr and query: list_queries.rs says what it holds
 //   13 a timetable put to the building calls, and a query on what they wrote: list_chains.rs says what it holds
+// Two kinds have 128 words and no more, answered calls of screens 0 to 63 and refused ones:
+//   14 the tally is set to these words                           15 the tally must hold these words
+// The program has one tally for the whole list, zero at first. Every call that it makes of a line counts, by the screen that it is for and by whether
+// its expected code is 0: in 1 two sets made, each of their cells set and five calls; four in 8 and 11; two in 10 and 12; in 13 three, and where
+// these answer 0 the query; else one.
 #![allow(dead_code, unused)]
 include!(concat!(env!("BESIDE"), "/query_parts.rs"));
 include!(concat!(env!("BESIDE"), "/timetables.rs"));
@@ -34,10 +41,56 @@ const CHAINS: u32 = 18 * 9;
 // The program reads the list in blocks of so many bytes; a line that would go from one into the next begins with that one, after empty lines.
 const BLOCK: usize = 262_144;
 
-fn line(kind: u32, settings: Settings, words: &[u32]) {
+// a comparison of the tally after so many lines of calls, and after so many such comparisons another tally
+const COMPARED: u32 = 100;
+const SET: u32 = 4;
+
+// the screens that lines are for, drawn apart from all else; the tally as this list counts it, and how many lines of calls there were
+struct Screens {
+    draw: Random,
+    tally: [u32; 128],
+    lines: u32,
+}
+
+impl Screens {
+    // most often one of the 64
+    fn any(&mut self) -> u32 {
+        match self.draw.below(16) {
+            0 => [64, 65, 128, u32::MAX, (self.draw.next() as u32).max(64)][self.draw.below(5) as usize],
+            _ => self.draw.below(64),
+        }
+    }
+    // a call for each of these codes
+    fn count(&mut self, screen: u32, codes: &[u32]) {
+        for code in codes.iter().filter(|_| screen < 64) {
+            let n = &mut self.tally[(if *code == 0 { screen } else { 64 + screen }) as usize];
+            *n = n.saturating_add(1);
+        }
+    }
+    // the greatest count, the one below it, one near them; more often zero or any
+    fn set(&mut self) {
+        let r = &mut self.draw;
+        self.tally = [0; 128].map(|_: u32| match r.below(8) {
+            n @ 0..2 => u32::MAX - n,
+            2 => u32::MAX - r.below(40),
+            3 | 4 => 0,
+            _ => r.any(),
+        });
+    }
+    fn compared(&self) {
+        put(15, &self.tally);
+    }
+}
+
+// what a call for this screen answers, which answers so where there is such a screen
+fn for_screen<T>(screen: u32, refused: T, answer: T) -> T {
+    if screen > 63 { refused } else { answer }
+}
+
+fn put(kind: u32, words: &[u32]) {
     static BYTES: std::sync::atomic::AtomicUsize = std::sync::atomic::AtomicUsize::new(0);
     let mut s = kind.to_string();
-    for w in settings.numbers().iter().chain(words) {
+    for w in words {
         s += " ";
         s += &w.to_string();
     }
@@ -51,6 +104,27 @@ fn line(kind: u32, settings: Settings, words: &[u32]) {
     print!("{s}");
 }
 
+// a line whose calls, all for this screen, have these codes where there is such a screen
+fn line(s: &mut Screens, kind: u32, screen: u32, settings: Settings, words: &[u32], codes: &[u32]) {
+    put(kind, &[&[screen][..], &settings.numbers(), words].concat());
+    s.count(screen, codes);
+    s.lines += 1;
+    if s.lines % COMPARED == 0 {
+        s.compared();
+    }
+    if s.lines % (COMPARED * SET) == 0 {
+        s.set();
+        put(14, &s.tally);
+    }
+}
+
+// a line of one call, which answers so where there is such a screen
+fn answer_line(s: &mut Screens, kind: u32, settings: Settings, words: &[u32], answer: Answer) {
+    let screen = s.any();
+    let a = for_screen(screen, refused(15), answer);
+    line(s, kind, screen, settings, &[words, &[a.code, a.value]].concat(), &[a.code]);
+}
+
 fn some_cells(r: &mut Random) -> (u32, Vec<u32>, Oracle) {
     let n = [0, 1, 63, 64, 65, 128, 500, 512][r.below(8) as usize];
     let cells: Vec<u32> = (0..r.below(4)).map(|_| r.below(n + 70)).collect();
@@ -61,25 +135,34 @@ fn some_cells(r: &mut Random) -> (u32, Vec<u32>, Oracle) {
     (n, cells, o)
 }
 
-fn cells(r: &mut Random, h: Settings) {
-    let (n, a, oa) = some_cells(r);
-    let (m, b, ob) = some_cells(r);
+fn cells(r: &mut Random, h: Settings, s: &mut Screens) {
+    let (n, a, mut oa) = some_cells(r);
+    let (m, b, mut ob) = some_cells(r);
     let probe = match (a.first(), b.first()) {
         (Some(&c), _) if r.below(2) == 0 => c,
         (_, Some(&c)) if r.below(2) == 0 => c,
         _ => r.below(520),
     };
+    let (screen, making) = (s.any(), s.any());
+    let (code, made) = (for_screen(screen, 15, h.code(0)), for_screen(making, 15, h.code(0)));
+    if made != 0 {
+        (oa, ob) = (Oracle::new(0), Oracle::new(0));
+    }
     let mut u = oa.clone();
-    u.union_with(&ob);
-    let mut w = vec![n, a.len() as u32];
+    if code == 0 {
+        u.union_with(&ob);
+    }
+    let mut w = vec![making, n, a.len() as u32];
     w.extend(&a);
     w.extend([m, b.len() as u32]);
     w.extend(&b);
     let p = probe as usize;
-    let values = [oa.get_bit(p) as u32, oa.is_empty() as u32, oa.intersects(&ob) as u32, u.get_bit(p) as u32, 8 * u.words().len() as u32];
-    w.extend([probe, h.code(0)]);
-    w.extend(if h.in_range() { values } else { [0; 5] });
-    line(1, h, &w);
+    let values = [oa.get_bit(p) as u32, oa.is_empty() as u32, oa.intersects(&ob) as u32];
+    w.extend([probe, code, made]);
+    w.extend(if code == 0 { values } else { [0; 3] });
+    w.extend([(made == 0 && u.get_bit(p)) as u32, 8 * u.words().len() as u32]);
+    s.count(making, &vec![made; 3 + a.len() + b.len()]);
+    line(s, 1, screen, h, &w, &[code; 4]);
 }
 
 fn tables(d: &Delays) -> Vec<u32> {
@@ -90,14 +173,13 @@ fn tables(d: &Delays) -> Vec<u32> {
     w
 }
 
-fn delays(r: &mut Random) {
+fn delays(r: &mut Random, s: &mut Screens) {
     let d = random_delays(r);
-    let mut w = tables(&d);
-    match d.door() {
-        0 => w.extend([0, d.oracle_margin()]),
-        n => w.extend([n, 0]),
-    }
-    line(7, d.settings, &w);
+    let a = match d.door() {
+        0 => given(d.oracle_margin()),
+        n => refused(n),
+    };
+    answer_line(s, 7, d.settings, &tables(&d), a);
     let (mut d, h) = (random_delays(r), r.any_settings());
     while !(Delays { settings: OWN, ..d.clone() }.door() == 0 && d.trips > 0) {
         d = random_delays(r);
@@ -112,9 +194,11 @@ fn delays(r: &mut Random) {
     let st = stop_time(time, sequence);
     let skipped = adj.map(|a| a.is_skipped(sequence)).unwrap_or(false);
     let values = [skipped as u32, routing::effective_dep(adj, &st), routing::effective_arr(adj, &st, shift)];
-    w.extend([trip, sequence, time, shift as u32, h.code(0)]);
-    w.extend(if h.in_range() { values } else { [0; 3] });
-    line(8, h, &w);
+    let screen = s.any();
+    let code = for_screen(screen, 15, h.code(0));
+    w.extend([trip, sequence, time, shift as u32, code]);
+    w.extend(if code == 0 { values } else { [0; 3] });
+    line(s, 8, screen, h, &w, &[code; 4]);
 }
 
 // A timetable of the fixed shape, damaged in one word or count now and then.
@@ -168,30 +252,30 @@ fn fixed_timetable(r: &mut Random) -> Timetable {
     x
 }
 
-fn building(r: &mut Random) {
-    let x = fixed_timetable(r);
+fn building(r: &mut Random, s: &mut Screens) {
+    let (x, screen) = (fixed_timetable(r), s.any());
     let mut w = x.counts.to_vec();
     w.extend([x.departures, x.line_count, x.lines, x.entry_count]);
     for part in [&x.tables, &x.runs, &x.rows, &x.lines_of, &x.line_runs, &x.entries] {
         w.extend(part);
     }
-    let (code, z) = sorting_outcome(&x);
-    w.push(code);
+    let (sorted, z) = for_screen(screen, (15, x.clone()), sorting_outcome(&x));
+    w.push(sorted);
     w.extend(z.rows.iter().chain(&z.marks));
-    let (a, z) = lines_outcome(&x);
-    w.extend([a.code, a.value]);
+    let (grouped, z) = for_screen(screen, (refused(15), x.clone()), lines_outcome(&x));
+    w.extend([grouped.code, grouped.value]);
     w.extend(z.line_of.iter().chain(&z.made_runs).chain(&z.made_entries));
-    let (code, z) = layout_outcome(&x);
-    w.push(code);
+    let (laid, z) = for_screen(screen, (15, x.clone()), layout_outcome(&x));
+    w.push(laid);
     w.extend(z.positions.iter().chain(&z.fifo));
-    let (a, z) = transfers_outcome(&x);
-    w.extend([a.code, a.value]);
+    let (moved, z) = for_screen(screen, (refused(15), x.clone()), transfers_outcome(&x));
+    w.extend([moved.code, moved.value]);
     w.extend(z.area.iter().chain(&z.transfer_runs));
-    line(11, x.settings, &w);
+    line(s, 11, screen, x.settings, &w, &[sorted, grouped.code, laid, moved.code]);
 }
 
 // the label's own stops most often below the count; where one is not, nothing is stored
-fn label(r: &mut Random, h: Settings, apart: &mut Random) {
+fn label(r: &mut Random, h: Settings, apart: &mut Random, s: &mut Screens) {
     let kind = 1 + r.below(3);
     let mut f = [0u32; 7];
     for x in f.iter_mut() {
@@ -200,51 +284,52 @@ fn label(r: &mut Random, h: Settings, apart: &mut Random) {
     f[if kind == 2 { 5 } else { 4 }] = if kind == 1 { 0 } else { r.below(13) };
     stop_fields(kind).iter().for_each(|k| f[*k] = apart.stop_number(3));
     let d = r.below(100_000);
-    let code = h.code(if stop_fields(kind).iter().any(|k| f[*k] > 2) { 4 } else { 0 });
-    let (words, bits) = if code != 0 { ([0; 8], 0) } else { routing::tbr::label_words(kind, f, d as f64) };
+    let (screen, reading) = (s.any(), s.any());
+    let code = for_screen(screen, 15, h.code(if stop_fields(kind).iter().any(|k| f[*k] > 2) { 4 } else { 0 }));
+    let read = for_screen(reading, 15, h.code(0));
+    let (words, bits) = if code != 0 || read != 0 { ([0; 8], 0) } else { routing::tbr::label_words(kind, f, d as f64) };
     let mut all = vec![kind];
     all.extend(f);
-    all.extend([d, r.below(3), r.below(13), code, h.code(0)]);
+    all.extend([d, r.below(3), r.below(13), reading, code, read]);
     all.extend(words);
     all.push(f64::from_bits(bits) as u32);
-    line(10, h, &all);
+    s.count(reading, &[read]);
+    line(s, 10, screen, h, &all, &[code]);
 }
 
 // the calls that take numbers only, and frequency boarding
-fn numbers(r: &mut Random) {
+fn numbers(r: &mut Random, s: &mut Screens) {
     let (h, d, m, w) = (r.any_settings(), r.time(), r.below(9), r.below(3));
-    let a = walk_outcome(h, d, m, w);
-    line(2, h, &[d, m, w, a.code, a.value]);
+    answer_line(s, 2, h, &[d, m, w], walk_outcome(h, d, m, w));
     let (h, x, y) = (r.any_settings(), r.any(), r.any());
-    let a = rounds_outcome(h, x, y);
-    line(3, h, &[x, y, a.code, a.value]);
-    let (h, (count, w, base, dep, after)) = (r.any_settings(), random_windows(r));
-    let f = freq_outcome(h, count, &w, base, dep, after);
+    answer_line(s, 3, h, &[x, y], rounds_outcome(h, x, y));
+    let (h, (count, w, base, dep, after), screen) = (r.any_settings(), random_windows(r), s.any());
+    let no = FreqAnswer { code: 15, found: 0, departure: 0, time_shift_s: 0 };
+    let f = for_screen(screen, no, freq_outcome(h, count, &w, base, dep, after));
     let all = [&[count, w.len() as u32][..], &w, &[base, dep, after, f.code, f.found, f.departure, f.time_shift_s]].concat();
-    line(4, h, &all);
+    line(s, 4, screen, h, &all, &[f.code]);
     let (h, time, trip, flags, own, shift) = (r.any_settings(), r.time(), r.signed(), r.below(9), r.signed(), r.signed());
-    let a = oracle_departure(h, time, trip, flags, own);
-    line(5, h, &[time, trip, flags, own, a.code, a.value]);
-    let a = oracle_arrival(h, time, shift, trip, flags, own);
-    line(6, h, &[time, shift, trip, flags, own, a.code, a.value]);
-    let (set, h, m, s) = (r.any_settings(), r.below(50), r.below(62), r.below(62));
-    let a = clock_outcome(set, h, m, s);
-    line(9, set, &[h, m, s, a.code, a.value]);
+    answer_line(s, 5, h, &[time, trip, flags, own], oracle_departure(h, time, trip, flags, own));
+    answer_line(s, 6, h, &[time, shift, trip, flags, own], oracle_arrival(h, time, shift, trip, flags, own));
+    let (set, h, m, x) = (r.any_settings(), r.below(50), r.below(62), r.below(62));
+    answer_line(s, 9, set, &[h, m, x], clock_outcome(set, h, m, x));
 }
 
 fn main() {
     let mut r = Random(2026);
     // for the labels' stops and the chains, and for settings
     let (mut apart, mut house) = (Random(13), Random(14));
+    let mut s = Screens { draw: Random(15), tally: [0; 128], lines: 0 };
     for _ in 0..EACH {
-        numbers(&mut r);
-        cells(&mut r, house.any_settings());
-        delays(&mut r);
-        label(&mut r, house.any_settings(), &mut apart);
+        numbers(&mut r, &mut s);
+        cells(&mut r, house.any_settings(), &mut s);
+        delays(&mut r, &mut s);
+        label(&mut r, house.any_settings(), &mut apart, &mut s);
     }
     for _ in 0..160 {
-        building(&mut r);
+        building(&mut r, &mut s);
     }
-    stored_queries(&mut r, QUERIES);
-    stored_chains(&mut apart, CHAINS);
+    stored_queries(&mut r, QUERIES, &mut s);
+    stored_chains(&mut apart, CHAINS, &mut s);
+    s.compared();
 }

@@ -1,6 +1,6 @@
 // Stored chains, for crates/replay: a timetable put to the building calls, and a plain day's query on what they wrote. All have one shape: 3 stops, 5
 // trips of 3 stop times in two lines, 15 stop times, a window that no trip has, 3 walk edges, 10 listed departures; 3 origins, 2 egress stops. A
-// line, of kind 13, after the settings, which all four calls have:
+// line, of kind 13, after the screen and the settings, which all four calls have:
 //   the timetable as the building calls are lent it (151), the stops' runs (6), the caller's list (20); what the calls for lines, departures and
 //   transfers must answer (3 codes); the timetable (151) and the query (17) as `query` is lent them, distances of edges and origins (6).
 //   Then, where all three answer 0, what `query` must answer, as in a line of kind 12; where one does not, the words of each trip's line, line
@@ -99,7 +99,8 @@ fn building_outcome(r: &mut Random, c: &Case, falling: bool) -> (Timetable, Time
     (x, last, [lines.code, sorted, moved.code])
 }
 
-fn chain_words(r: &mut Random, wanted: u32) -> Option<(Settings, Vec<u32>)> {
+// a line for this screen: its settings, its words, the codes of its calls
+fn chain_words(r: &mut Random, wanted: u32, screen: u32) -> Option<(Settings, Vec<u32>, Vec<u32>)> {
     let mut c = fixed_day(r);
     if wanted == 14 {
         c.settings = r.settings_outside();
@@ -114,17 +115,23 @@ fn chain_words(r: &mut Random, wanted: u32) -> Option<(Settings, Vec<u32>)> {
     if !(asked.sizes.lines == 2 && walks_complete(&c) && schedule_rises(&c.e) && (wanted == 6 || wanted == 14 || rides(&o) == wanted)) {
         return None;
     }
+    // what the calls must write is what the query is asked on
+    let right = || left.area[..asked.transfers.len()] == asked.transfers && by_brute_force(&c, &o);
+    assert!(codes != [0; 3] || built_words(&left) == asked.built && right());
+    let (codes, left) = for_screen(screen, ([15; 3], &x), (codes, &left));
     let mut w = [&x.tables[..], &x.runs, &x.rows, &codes, &asked.tables, &asked.query].concat();
     w.extend(asked.distances.iter().map(|d| whole(*d)));
-    let built = [&left.line_of[..], &left.made_runs[..4], &left.made_entries, &left.runs, &left.rows, &left.marks, &left.transfer_runs].concat();
     if codes != [0; 3] {
-        w.extend(built);
-        return Some((c.settings, w));
+        w.extend(built_words(left));
+        return Some((c.settings, w, codes.to_vec()));
     }
-    // what the calls must write is what the query is asked on
-    assert!(built == asked.built && left.area[..asked.transfers.len()] == asked.transfers && by_brute_force(&c, &o));
     w.extend(outcome_words(&o));
-    Some((c.settings, w))
+    Some((c.settings, w, [&codes[..], &[o.reply.code]].concat()))
+}
+
+// each trip's line, line runs, entries, stops' runs, departures, marks and transfer runs
+fn built_words(t: &Timetable) -> Vec<u32> {
+    [&t.line_of[..], &t.made_runs[..4], &t.made_entries, &t.runs, &t.rows, &t.marks, &t.transfer_runs].concat()
 }
 
 // is this what demand 3 asks of the timetable and the caller's list, and the total the earliest of all journeys?
@@ -135,9 +142,10 @@ fn by_brute_force(c: &Case, o: &Outcome) -> bool {
     journeys(&c).into_iter().min() == Some(o.reply.total) && demand_3(&c, &scans, &o.reply, &o.areas.candidates)
 }
 
-fn stored_chains(r: &mut Random, rows: u32) {
+fn stored_chains(r: &mut Random, rows: u32, s: &mut Screens) {
     for i in 0..rows {
-        let (settings, words) = std::iter::repeat_with(|| chain_words(r, RIDES[i as usize % 9])).flatten().next().unwrap();
-        line(13, settings, &words);
+        let screen = s.any();
+        let (settings, words, codes) = std::iter::repeat_with(|| chain_words(r, RIDES[i as usize % 9], screen)).flatten().next().unwrap();
+        line(s, 13, screen, settings, &words, &codes);
     }
 }

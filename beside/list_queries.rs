@@ -1,4 +1,4 @@
-// Stored answers of `run_tbr` and `query`, for crates/replay. A line, of kind 12, after the settings:
+// Stored answers of `run_tbr` and `query`, for crates/replay. A line, of kind 12, after the screen and the settings:
 //   the 15 counts; the lengths of the 12 slices lent (timetable, built, transfers, patterns, distances, query; labels, their distances,
 //   workspace, the two queue halves, candidates); the words of timetable, built, transfers, query, then the patterns (a byte a word) and
 //   the distances (whole numbers). Then for `run_tbr`, and again for `query`: code, total, stop, number of candidates, their words (3 each),
@@ -83,24 +83,26 @@ fn drawn_small(r: &mut Random, kind: u32, wanted: u32) -> (Lent, Areas) {
     (x, a)
 }
 
-fn stored_query(r: &mut Random, kind: u32, wanted: u32) {
+fn stored_query(r: &mut Random, kind: u32, wanted: u32, s: &mut Screens) {
     loop {
         let (x, a) = drawn_small(r, if wanted == 8 { kind | 4 } else { kind }, wanted);
         if !fits(&x, &a) {
             continue;
         }
         let (one, two) = (outcome(Call::RunTbr, &x, &a), outcome(Call::Query, &x, &a));
-        let mut w = search_words(&x, &a);
-        w.extend(outcome_words(&one));
-        w.extend(outcome_words(&two));
-        if w.len() < ROOM[0] && met(&one) == wanted {
-            return line(12, x.settings, &w);
+        let lent = search_words(&x, &a);
+        let answers = [outcome_words(&one), outcome_words(&two)].concat();
+        if lent.len() + answers.len() < ROOM[0] && met(&one) == wanted {
+            let screen = s.any();
+            let no = outcome_words(&refusal(15, &a));
+            let w = [lent, for_screen(screen, [&no[..], &no].concat(), answers)].concat();
+            return line(s, 12, screen, x.settings, &w, &[one.reply.code, two.reply.code]);
         }
     }
 }
 
-fn stored_queries(r: &mut Random, rows: u32) {
+fn stored_queries(r: &mut Random, rows: u32, s: &mut Screens) {
     for i in 0..rows {
-        stored_query(r, i % 16, WANTED[i as usize % 18]);
+        stored_query(r, i % 16, WANTED[i as usize % 18], s);
     }
 }

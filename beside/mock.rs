@@ -1,4 +1,5 @@
-// Stand-ins for the calls (`--cfg mock`), to try the comparison itself: they give what it expects. MUTANT=1.. makes them wrong in one way each.
+// Stand-ins for the calls (`--cfg mock`), to try the comparison itself and the metering (tally.rs), which goes over them: they give what it expects.
+// MUTANT=1.. makes them wrong in one way each.
 fn mutant() -> u32 {
     static N: std::sync::OnceLock<u32> = std::sync::OnceLock::new();
     *N.get_or_init(|| std::env::var("MUTANT").map(|m| m.parse().unwrap()).unwrap_or(0))
@@ -64,12 +65,56 @@ unsafe fn words<T: Clone>(p: *const T, n: usize) -> Vec<T> {
     std::slice::from_raw_parts(p, n).to_vec()
 }
 
+// The code of a call for a screen above 63, else none; `code` is what the call gives for another.
+fn barred(t: &mut sys::Tally, screen: u32, code: u32) -> Option<u32> {
+    let last = match mutant() {
+        // screen 64 is let in, and counted nowhere
+        31 => 64,
+        // screen 63 is refused
+        32 => 62,
+        _ => 63,
+    };
+    if screen <= last {
+        return None;
+    }
+    match mutant() {
+        // it is counted
+        23 => t.refused[screen as usize % 64] = t.refused[screen as usize % 64].saturating_add(1),
+        // question 1 before question 15
+        28 if code == 1 => return Some(1),
+        // question 14 before it
+        30 if code == 14 => return Some(14),
+        _ => {}
+    }
+    Some(15)
+}
+
+// one more call for this screen in the tally
+fn tallied(t: &mut sys::Tally, screen: u32, code: u32, no_way: bool) {
+    let screen = match mutant() {
+        // the next screen's count
+        27 => (screen as usize + 1) % 64,
+        31 if screen > 63 => return,
+        _ => screen as usize,
+    };
+    let answered = match mutant() {
+        // a refusal is answered
+        24 => true,
+        // no way is refused
+        25 => code == 0 && !no_way,
+        _ => code == 0,
+    };
+    let n = if answered { &mut t.answered[screen] } else { &mut t.refused[screen] };
+    // 0 after the greatest count
+    *n = if mutant() == 26 { n.wrapping_add(1) } else { n.saturating_add(1) };
+}
+
 macro_rules! stand_in {
     ($name:ident, $call:expr) => {
         pub unsafe extern "C" fn $name(
-            settings: Settings, sizes: QuerySizes, t: *const u32, tn: usize, b: *const u32, bn: usize, x: *const u32, xn: usize, p: *const u8, pn: usize,
-            d: *const f64, dn: usize, q: *const u32, qn: usize, l: *mut u32, ln: usize, ld: *mut f64, ldn: usize, w: *mut u32, wn: usize, qa: *mut u32,
-            qan: usize, qb: *mut u32, qbn: usize, c: *mut u32, cn: usize,
+            tally: *mut sys::Tally, screen: u32, settings: Settings, sizes: QuerySizes, t: *const u32, tn: usize, b: *const u32, bn: usize, x: *const u32,
+            xn: usize, p: *const u8, pn: usize, d: *const f64, dn: usize, q: *const u32, qn: usize, l: *mut u32, ln: usize, ld: *mut f64, ldn: usize,
+            w: *mut u32, wn: usize, qa: *mut u32, qan: usize, qb: *mut u32, qbn: usize, c: *mut u32, cn: usize,
         ) -> Reply {
             let lent = Lent {
                 settings, sizes, tables: words(t, tn), built: words(b, bn), transfers: words(x, xn), patterns: words(p, pn),
@@ -81,17 +126,38 @@ macro_rules! stand_in {
             };
             let mut o = outcome($call, &lent, &a);
             wrong($call, &lent, &a, &mut o);
+            if let Some(code) = barred(&mut *tally, screen, o.reply.code) {
+                // 15 that has written to the workspace
+                if mutant() == 29 && wn > 0 {
+                    *w = !*w;
+                }
+                // the total of no way beside 15
+                return reply(code, if mutant() == 33 { u32::MAX } else { 0 }, 0, 0);
+            }
             for (to, from) in [(l, &o.areas.labels), (w, &o.areas.work), (qa, &o.areas.queue_a), (qb, &o.areas.queue_b), (c, &o.areas.candidates)] {
                 std::ptr::copy_nonoverlapping(from.as_ptr(), to, from.len());
             }
             std::ptr::copy_nonoverlapping(o.areas.label_distances.as_ptr(), ld as *mut u64, ldn);
+            tallied(&mut *tally, screen, o.reply.code, o.reply.total == u32::MAX);
             o.reply
         }
     };
 }
-stand_in!(savoiky_run_tbr, Call::RunTbr);
-stand_in!(savoiky_query, Call::Query);
 
-pub unsafe extern "C" fn savoiky_work_size(settings: Settings, n: QuerySizes) -> Answer {
-    work_outcome(settings, &n)
+// what tally.rs calls: the stand-ins, which come before the library's by the same names (those are not linked)
+mod exported {
+    pub use super::sys::*;
+    use super::{barred, mutant, outcome, refused, reply, sys, tallied, work_outcome, words, wrong, Areas, Call, Lent};
+
+    stand_in!(savoiky_run_tbr, Call::RunTbr);
+    stand_in!(savoiky_query, Call::Query);
+
+    pub unsafe extern "C" fn savoiky_work_size(tally: *mut sys::Tally, screen: u32, settings: Settings, n: QuerySizes) -> Answer {
+        let a = work_outcome(settings, &n);
+        if let Some(code) = barred(&mut *tally, screen, a.code) {
+            return refused(code);
+        }
+        tallied(&mut *tally, screen, a.code, false);
+        a
+    }
 }

@@ -5,7 +5,7 @@
 // a steady day broken, where the same test must find answers that are not what demand 3 asks. JOBS threads share them, each with a seed of its
 // own. Every word of every area is compared, after a refusal too; one instance is one call with all that it could have written. It prints how
 // many were compared, by the code expected, what was met in the answered ones (met.rs), on steady days (steady.rs) and in chains, and how many
-// differed; status 1 where any did, where a code or a thing was never met, or where a broken condition was never found.
+// differed, tallies too (tally.rs); status 1 where any did, where a code or a thing was never met, or where a broken condition was never found.
 #![allow(dead_code, unused)]
 include!(concat!(env!("BESIDE"), "/query_parts.rs"));
 include!(concat!(env!("BESIDE"), "/timetables.rs"));
@@ -102,7 +102,7 @@ impl Tallies {
     }
     fn differed(&self) -> bool {
         let days = [&self.plain, &self.steady, &self.chains[0], &self.chains[1]];
-        self.calls.iter().any(|c| c.differed > 0) || days.iter().any(|d| d.differed > 0) || self.sizes_differed > 0
+        self.calls.iter().any(|c| c.differed > 0) || days.iter().any(|d| d.differed > 0) || self.sizes_differed > 0 || tally_differed() > 0
     }
     fn fine(&self) -> bool {
         let calls = self.calls.iter().all(|c| c.met_all());
@@ -332,5 +332,5 @@ fn main() {
     let mut t = Tallies::default();
     in_jobs(COUNT, 0x9E7A, job).iter().for_each(|other| t.join(other));
     t.print();
-    std::process::exit(!t.fine() as i32);
+    std::process::exit(!(tally_fine() && t.fine()) as i32);
 }

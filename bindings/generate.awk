@@ -163,6 +163,16 @@ function whole(    sig, p) {
 }
 
 # WRITING
+# An array that is lent whole is the numbers of a record of the box: the struct of the parameter's name, which has its size.
+function record_of(name, t,    record) {
+    record = toupper(substr(name, 1, 1)) substr(name, 2)
+    need(record)
+    sub(/^&mut /, "", t)
+    sub(/; /, "@", t)
+    if (laid(record) != size_of(t)) fail("struct " record " has another size than " name)
+    return record
+}
+
 # the parameters of call i, in the language asked for
 function parameters(i,    n, p, k, name, t, mut, out) {
     n = split(takes[i], p, /, /)
@@ -179,6 +189,9 @@ function parameters(i,    n, p, k, name, t, mut, out) {
             if (!number(t)) fail("a slice of " t)
             if (to == "c") out = out (mut ? "" : "const ") c_type(t) " *" name ", size_t " name "_len"
             else out = out name ": *" (mut ? "mut " : "const ") t ", " name "_len: usize"
+        } else if (t ~ /^&mut \[[a-z0-9]+; [0-9]+\]$/) {
+            t = record_of(name, t)
+            out = out (to == "c" ? c_name(t) " *" name : name ": *mut " t)
         } else {
             if (to == "c") out = out c_type(t) " " name
             else out = out name ": " rust_type(t)
@@ -224,7 +237,21 @@ function c_struct(name,    i, n, f, t, field, note) {
     }
     print "} " c_name(name) ";"
     printf "SAVOIKY_SIZE(%s, %d);\n", c_name(name), laid(name)
+    if (name == "Tally") c_tally()
     if (name == "Settings") print "\n/* " THEIRS " */\nstatic const SavoikySettings SAVOIKY_DEFAULT_SETTINGS = {" defaults() "};"
+}
+
+# what the box reads of its tally
+function c_tally() {
+    print "\n/* A screen's answered and refused calls (of a screen above 63 none are counted), and the sum over all screens. */"
+    print "static inline uint32_t savoiky_tally_answered(const SavoikyTally *tally, uint32_t screen) {"
+    print "    return screen < 64 ? tally->answered[screen] : 0;\n}"
+    print "static inline uint32_t savoiky_tally_refused(const SavoikyTally *tally, uint32_t screen) {"
+    print "    return screen < 64 ? tally->refused[screen] : 0;\n}"
+    print "static inline uint64_t savoiky_tally_total(const SavoikyTally *tally) {"
+    print "    uint64_t total = 0;"
+    print "    for (uint32_t screen = 0; screen < 64; screen++) total += (uint64_t)tally->answered[screen] + tally->refused[screen];"
+    print "    return total;\n}"
 }
 
 # The numbers of default_settings, in the order of the fields: named for Rust.

@@ -15,9 +15,10 @@ extern "C" {
 #endif
 
 /* RULES OF EVERY CALL. A slice is lent as a pointer to its first element and the number of its elements. The pointer is not
- * null and is aligned for its elements, also where the number is 0 (then nothing is read or written through it). A slice
- * that is written overlaps no other lent one, and nothing else touches lent memory during the call. A call keeps no pointer,
- * allocates nothing and has no state, so calls on different memory may run at the same time.
+ * null and is aligned for its elements, also where the number is 0 (then nothing is read or written through it). The tally is
+ * lent as a pointer to the box's record. What is written overlaps nothing else that is lent, and nothing else touches lent
+ * memory during the call. A call keeps no pointer, allocates nothing and has no state, so calls on different memory (each with
+ * a tally of its own) may run at the same time.
  * A word is a u32 (uint32_t), a distance an f64 (double). Times and durations are seconds, from 0 to 1,048,575. Signed numbers
  * (delays, time_shift_s) are the bits of an i32. Stops, trips, lines and rows are numbered from 0; an offset counts a trip's stop
  * times from 0. A run is two words: its first row and its length; runs may overlap, leave gaps and stand in any order. What is
@@ -26,6 +27,7 @@ extern "C" {
 
 /* CODES. A call answers 0, or the number of the first of its questions that is answered no:
  *   0  none: success
+ *  15  Is the screen one of 0 to 63? Every call asks this before all else; where not, nothing is touched, the tally neither.
  *   1  Are all counts within the limits? (4,096 stops, trips, lines, line entries, patterns, delay rows and stop rows; 65,536
  *      stop times, walk edges, departures, windows and transfers; 512 cells; 64 origins; 64 egress stops)
  *  14  Is every setting in its range? Every call asks this, after 1 and before 2.
@@ -38,9 +40,36 @@ extern "C" {
  *   6  Are walk edges, delay rows, stop rows, egress stops and, for a query, departures in order?
  *   7  Building transfers: are there at most 65,536, and does the area hold all of them?
  *   8  Query: does a half of the segment queue hold every round's segments?
- * After a refusal everything lent is as it came, a set that was handed in is handed back, and the other fields of the answer are 0;
- * after 8 the labels, their distances, the workspace and both halves of the queue are zero.
+ * After a refusal everything lent is as it came, the tally aside, a set that was handed in is handed back, and the other fields of
+ * the answer are 0; after 8 the labels, their distances, the workspace and both halves of the queue are zero. What is said below of a
+ * call's questions leaves 15 out.
  */
+
+/* TALLY: the box owns one record of the answered and refused calls of each screen, 0 to 63, zero at first, and lends it to every call
+ * with the number of the screen that the call is made for. The call adds one to that screen: to answered where its code is 0 ("no way"
+ * is answered), else to refused. A count at 4,294,967,295 stays there. A screen above 63 is refused by 15 and counts nowhere. What a
+ * call answers does not depend on the tally, and what a screen's tally shows does not depend on the calls of other screens.
+ */
+
+/* The box's record: the answered and refused calls of screens 0 to 63. It is lent to every call, which sees its 128 numbers. */
+typedef struct SavoikyTally {
+    uint32_t answered[64];
+    uint32_t refused[64];
+} SavoikyTally;
+SAVOIKY_SIZE(SavoikyTally, 512);
+
+/* A screen's answered and refused calls (of a screen above 63 none are counted), and the sum over all screens. */
+static inline uint32_t savoiky_tally_answered(const SavoikyTally *tally, uint32_t screen) {
+    return screen < 64 ? tally->answered[screen] : 0;
+}
+static inline uint32_t savoiky_tally_refused(const SavoikyTally *tally, uint32_t screen) {
+    return screen < 64 ? tally->refused[screen] : 0;
+}
+static inline uint64_t savoiky_tally_total(const SavoikyTally *tally) {
+    uint64_t total = 0;
+    for (uint32_t screen = 0; screen < 64; screen++) total += (uint64_t)tally->answered[screen] + tally->refused[screen];
+    return total;
+}
 
 /* SETTINGS OF THE HOUSE: four numbers that every call receives. Most calls only ask whether they are in their ranges (14). Transfers are
  * built with transfer_time; the margin is cut at margin_cap; a query reads line_scan, candidate_slack and margin_cap. Journeys on a plain
@@ -80,15 +109,17 @@ typedef struct SavoikyCellSetAnswer {
 SAVOIKY_SIZE(SavoikyCellSetAnswer, 72);
 
 /* An empty set for so many cells: whole groups of 64 are reserved. Question 1: at most 512 cells. */
-SavoikyCellSetAnswer savoiky_cell_bitset_new(SavoikySettings settings, uint32_t num_cells);
+SavoikyCellSetAnswer savoiky_cell_bitset_new(SavoikyTally *tally, uint32_t screen, SavoikySettings settings, uint32_t num_cells);
 
 /* The set with at least the groups of so many cells reserved; it holds the same cells. Question 1: at most 512 cells; refused, the
  * set is as it came.
  */
-SavoikyCellSetAnswer savoiky_cell_bitset_ensure_sized(SavoikySettings settings, SavoikyCellBitSet set, uint32_t num_cells);
+SavoikyCellSetAnswer savoiky_cell_bitset_ensure_sized(SavoikyTally *tally, uint32_t screen, SavoikySettings settings,
+    SavoikyCellBitSet set, uint32_t num_cells);
 
 /* The set with this cell; a cell past the reserved groups is dropped. Question 14 alone; refused, the set is as it came. */
-SavoikyCellSetAnswer savoiky_cell_bitset_set_bit(SavoikySettings settings, SavoikyCellBitSet set, uint32_t cell);
+SavoikyCellSetAnswer savoiky_cell_bitset_set_bit(SavoikyTally *tally, uint32_t screen, SavoikySettings settings,
+    SavoikyCellBitSet set, uint32_t cell);
 
 /* An outcome: code 0 with a value, or the number of the first no with value 0. */
 typedef struct SavoikyAnswer {
@@ -98,26 +129,32 @@ typedef struct SavoikyAnswer {
 SAVOIKY_SIZE(SavoikyAnswer, 8);
 
 /* Is this cell in the set? The value: 1 for yes, else 0. Question 14 alone. */
-SavoikyAnswer savoiky_cell_bitset_get_bit(SavoikySettings settings, SavoikyCellBitSet set, uint32_t cell);
+SavoikyAnswer savoiky_cell_bitset_get_bit(SavoikyTally *tally, uint32_t screen, SavoikySettings settings, SavoikyCellBitSet set,
+    uint32_t cell);
 
 /* Have the sets a cell in common? The value: 1 for yes, else 0. Question 14 alone. */
-SavoikyAnswer savoiky_cell_bitset_intersects(SavoikySettings settings, SavoikyCellBitSet set, SavoikyCellBitSet other);
+SavoikyAnswer savoiky_cell_bitset_intersects(SavoikyTally *tally, uint32_t screen, SavoikySettings settings,
+    SavoikyCellBitSet set, SavoikyCellBitSet other);
 
 /* The set with the cells of the other, and room for them. Question 14 alone; refused, the set is as it came. */
-SavoikyCellSetAnswer savoiky_cell_bitset_union_with(SavoikySettings settings, SavoikyCellBitSet set, SavoikyCellBitSet other);
+SavoikyCellSetAnswer savoiky_cell_bitset_union_with(SavoikyTally *tally, uint32_t screen, SavoikySettings settings,
+    SavoikyCellBitSet set, SavoikyCellBitSet other);
 
 /* Does the set hold no cell? The value: 1 for yes, else 0. Question 14 alone. */
-SavoikyAnswer savoiky_cell_bitset_is_empty(SavoikySettings settings, SavoikyCellBitSet set);
+SavoikyAnswer savoiky_cell_bitset_is_empty(SavoikyTally *tally, uint32_t screen, SavoikySettings settings,
+    SavoikyCellBitSet set);
 
 /* WALKS AND ROUNDS, FREQUENCY TRIPS, DELAYS, CLOCK READINGS: the leaves of a query, for a caller's own reckoning. */
 
 /* How long a walk takes: for a wheelchair query (1) stairs and escalators (pathway modes 2 and 4) take 100 times as long.
  * Question 5: duration at most 1,048,575, pathway mode at most 7, wheelchair at most 1.
  */
-SavoikyAnswer savoiky_walk_duration(SavoikySettings settings, uint32_t duration, uint32_t pathway_mode, uint32_t wheelchair);
+SavoikyAnswer savoiky_walk_duration(SavoikyTally *tally, uint32_t screen, SavoikySettings settings, uint32_t duration,
+    uint32_t pathway_mode, uint32_t wheelchair);
 
 /* The rounds of a query: min(12, max(wanted, transfers + 2, 4)). Any numbers; question 14 alone. */
-SavoikyAnswer savoiky_max_rounds(SavoikySettings settings, uint32_t wanted, uint32_t transfers);
+SavoikyAnswer savoiky_max_rounds(SavoikyTally *tally, uint32_t screen, SavoikySettings settings, uint32_t wanted,
+    uint32_t transfers);
 
 /* What the entry answers: the code; then found 1 with the departure and the shift, or found 0 and zeros. */
 typedef struct SavoikyFreqAnswer {
@@ -133,30 +170,31 @@ SAVOIKY_SIZE(SavoikyFreqAnswer, 16);
  * start, start + headway and so on, before end. Found 0: none. Questions 1 (at most 65,536 windows), 2 (three words for each),
  * 5 (every number at most 1,048,575).
  */
-SavoikyFreqAnswer savoiky_freq_board(SavoikySettings settings, uint32_t count, const uint32_t *windows, size_t windows_len,
-    uint32_t base, uint32_t dep, uint32_t after);
+SavoikyFreqAnswer savoiky_freq_board(SavoikyTally *tally, uint32_t screen, SavoikySettings settings, uint32_t count,
+    const uint32_t *windows, size_t windows_len, uint32_t base, uint32_t dep, uint32_t after);
 
 /* The departure under delays: flags 1 departure given at the stop, 2 arrival given, 4 skipped, added. By its own delay where
  * one is given, else by the trip's; at least 0. Question 5: times and sizes of delays at most 1,048,575, flags at most 7.
  */
-SavoikyAnswer savoiky_effective_departure(SavoikySettings settings, uint32_t departure, uint32_t trip_delay, uint32_t flags,
-    uint32_t departure_delay);
+SavoikyAnswer savoiky_effective_departure(SavoikyTally *tally, uint32_t screen, SavoikySettings settings, uint32_t departure,
+    uint32_t trip_delay, uint32_t flags, uint32_t departure_delay);
 
 /* The arrival under delays: where the stop has either time given, by its own delay, else the trip's, and no shift; where not,
  * by the shift alone; at least 0. Question 5, as above.
  */
-SavoikyAnswer savoiky_effective_arrival(SavoikySettings settings, uint32_t arrival, uint32_t time_shift_s, uint32_t trip_delay,
-    uint32_t flags, uint32_t arrival_delay);
+SavoikyAnswer savoiky_effective_arrival(SavoikyTally *tally, uint32_t screen, SavoikySettings settings, uint32_t arrival,
+    uint32_t time_shift_s, uint32_t trip_delay, uint32_t flags, uint32_t arrival_delay);
 
 /* 1 where the flags say skipped, else 0. Question 5: flags at most 7. */
-SavoikyAnswer savoiky_skipped(SavoikySettings settings, uint32_t flags);
+SavoikyAnswer savoiky_skipped(SavoikyTally *tally, uint32_t screen, SavoikySettings settings, uint32_t flags);
 
 /* The delay margin: the largest size among trip delays and given stop delays, at most margin_cap. Delay rows of two words (trip,
  * delay), the trips strictly rising; 4,294,967,295 is an unknown trip, which may repeat at the end. Stop rows of five (delay row,
  * sequence, flags as above, departure delay, arrival delay), strictly rising by delay row, then sequence. Questions 1, 2, 4, 5, 6.
  */
-SavoikyAnswer savoiky_margin(SavoikySettings settings, uint32_t trips, uint32_t delay_row_count, uint32_t stop_row_count,
-    const uint32_t *delay_rows, size_t delay_rows_len, const uint32_t *stop_rows, size_t stop_rows_len);
+SavoikyAnswer savoiky_margin(SavoikyTally *tally, uint32_t screen, SavoikySettings settings, uint32_t trips,
+    uint32_t delay_row_count, uint32_t stop_row_count, const uint32_t *delay_rows, size_t delay_rows_len,
+    const uint32_t *stop_rows, size_t stop_rows_len);
 
 /* The answer of delay_at: code 0, and known 1 where the trip has a delay row; or the number of the first no, the rest 0. */
 typedef struct SavoikyDelayAt {
@@ -172,14 +210,15 @@ SAVOIKY_SIZE(SavoikyDelayAt, 24);
 /* What the delay tables say of the stop time of a trip with this sequence number: known 1 where the trip has a delay row. The
  * same questions, and 4 for a trip not below the count.
  */
-SavoikyDelayAt savoiky_delay_at(SavoikySettings settings, uint32_t trips, uint32_t delay_row_count, uint32_t stop_row_count,
-    const uint32_t *delay_rows, size_t delay_rows_len, const uint32_t *stop_rows, size_t stop_rows_len, uint32_t trip,
-    uint32_t sequence);
+SavoikyDelayAt savoiky_delay_at(SavoikyTally *tally, uint32_t screen, SavoikySettings settings, uint32_t trips,
+    uint32_t delay_row_count, uint32_t stop_row_count, const uint32_t *delay_rows, size_t delay_rows_len,
+    const uint32_t *stop_rows, size_t stop_rows_len, uint32_t trip, uint32_t sequence);
 
 /* The service second of a clock reading: 3600 hour + 60 minute + second. Question 5: hour at most 47, minute and second at
  * most 59.
  */
-SavoikyAnswer savoiky_service_second(SavoikySettings settings, uint32_t hour, uint32_t minute, uint32_t second);
+SavoikyAnswer savoiky_service_second(SavoikyTally *tally, uint32_t screen, SavoikySettings settings, uint32_t hour,
+    uint32_t minute, uint32_t second);
 
 /* LABELS: when and how a stop was reached in a round. A stop has 13 rows: row 0 is its access walk, round k writes row k + 1. The
  * label of stop s, row r is record 13 s + r: eight words from 8 (13 s + r) on in `labels` and one f64 at 13 s + r in
@@ -199,19 +238,20 @@ SavoikyAnswer savoiky_service_second(SavoikySettings settings, uint32_t hour, ui
  */
 
 /* Stores an Access label. Question 4: stop and stop_idx below the count of stops. */
-uint32_t savoiky_label_store_access(SavoikySettings settings, uint32_t stops, uint32_t stop, uint32_t row, uint32_t stop_idx,
-    uint32_t arrival_s, uint32_t walk_duration, double walk_distance, uint32_t *labels, size_t labels_len,
-    double *label_distances, size_t label_distances_len);
+uint32_t savoiky_label_store_access(SavoikyTally *tally, uint32_t screen, SavoikySettings settings, uint32_t stops, uint32_t stop,
+    uint32_t row, uint32_t stop_idx, uint32_t arrival_s, uint32_t walk_duration, double walk_distance, uint32_t *labels,
+    size_t labels_len, double *label_distances, size_t label_distances_len);
 
 /* Stores a Transit label. Question 4: stop and board_stop below the count of stops. */
-uint32_t savoiky_label_store_transit(SavoikySettings settings, uint32_t stops, uint32_t stop, uint32_t row, uint32_t arrival_s,
-    uint32_t trip_idx, uint32_t board_stop, uint32_t board_off, uint32_t alight_off, uint32_t prev_round, uint32_t time_shift_s,
-    uint32_t *labels, size_t labels_len, double *label_distances, size_t label_distances_len);
+uint32_t savoiky_label_store_transit(SavoikyTally *tally, uint32_t screen, SavoikySettings settings, uint32_t stops,
+    uint32_t stop, uint32_t row, uint32_t arrival_s, uint32_t trip_idx, uint32_t board_stop, uint32_t board_off,
+    uint32_t alight_off, uint32_t prev_round, uint32_t time_shift_s, uint32_t *labels, size_t labels_len, double *label_distances,
+    size_t label_distances_len);
 
 /* Stores a Walk label. Question 4: stop, from_stop and to_stop below the count of stops. */
-uint32_t savoiky_label_store_walk(SavoikySettings settings, uint32_t stops, uint32_t stop, uint32_t row, uint32_t arrival_s,
-    uint32_t from_stop, uint32_t to_stop, uint32_t duration_s, double distance_m, uint32_t prev_round, uint32_t *labels,
-    size_t labels_len, double *label_distances, size_t label_distances_len);
+uint32_t savoiky_label_store_walk(SavoikyTally *tally, uint32_t screen, SavoikySettings settings, uint32_t stops, uint32_t stop,
+    uint32_t row, uint32_t arrival_s, uint32_t from_stop, uint32_t to_stop, uint32_t duration_s, double distance_m,
+    uint32_t prev_round, uint32_t *labels, size_t labels_len, double *label_distances, size_t label_distances_len);
 
 /* A label as the tables hold it: the kind, its fields in their order, unused ones 0, and the distance. */
 typedef struct SavoikyLabelRow {
@@ -235,8 +275,9 @@ typedef struct SavoikyLabelAnswer {
 SAVOIKY_SIZE(SavoikyLabelAnswer, 48);
 
 /* Reads a label. Question 4: stop below the count of stops; the label's own numbers are given as they stand. */
-SavoikyLabelAnswer savoiky_label_load(SavoikySettings settings, uint32_t stops, uint32_t stop, uint32_t row,
-    const uint32_t *labels, size_t labels_len, const double *label_distances, size_t label_distances_len);
+SavoikyLabelAnswer savoiky_label_load(SavoikyTally *tally, uint32_t screen, SavoikySettings settings, uint32_t stops,
+    uint32_t stop, uint32_t row, const uint32_t *labels, size_t labels_len, const double *label_distances,
+    size_t label_distances_len);
 
 /* THE TIMETABLE, `tables`, is one slice of 6 times + 8 trips + 3 windows + 5 edges + stops words, in this order:
  *   stop times, six words: stop, arrival, departure, sequence (any number), pickup, drop-off (0 to 3; only 1 bars)
@@ -256,28 +297,28 @@ SavoikyLabelAnswer savoiky_label_load(SavoikySettings settings, uint32_t stops, 
  * where a trip with windows is listed). runs: of the stops; rows: the departures. work, other: `departures` u64 each, zero
  * afterwards. Questions 1 to 6; 6 is of the walk edges alone, the departures may come in any order.
  */
-uint32_t savoiky_sort_stop_departures(SavoikySettings settings, uint32_t stops, uint32_t trips, uint32_t times, uint32_t windows,
-    uint32_t edges, uint32_t departures, const uint32_t *tables, size_t tables_len, const uint32_t *runs, size_t runs_len,
-    uint32_t *rows, size_t rows_len, uint32_t *marks, size_t marks_len, uint64_t *work, size_t work_len, uint64_t *other,
-    size_t other_len);
+uint32_t savoiky_sort_stop_departures(SavoikyTally *tally, uint32_t screen, SavoikySettings settings, uint32_t stops,
+    uint32_t trips, uint32_t times, uint32_t windows, uint32_t edges, uint32_t departures, const uint32_t *tables,
+    size_t tables_len, const uint32_t *runs, size_t runs_len, uint32_t *rows, size_t rows_len, uint32_t *marks, size_t marks_len,
+    uint64_t *work, size_t work_len, uint64_t *other, size_t other_len);
 
 /* Groups the trips into lines: trips with the same stops in the same order, by first departure. The value says how many lines.
  * lines: each trip's line; runs: each line's run of entries, space for as many lines as trips (2 trips words; those past the lines
  * keep their content); entries: trip numbers, as many as trips. work, other: `trips` u64 each, zero afterwards. Questions 1 to 6.
  */
-SavoikyAnswer savoiky_compute_line_groups(SavoikySettings settings, uint32_t stops, uint32_t trips, uint32_t times,
-    uint32_t windows, uint32_t edges, const uint32_t *tables, size_t tables_len, uint32_t *lines, size_t lines_len,
-    uint32_t *runs, size_t runs_len, uint32_t *entries, size_t entries_len, uint64_t *work, size_t work_len, uint64_t *other,
-    size_t other_len);
+SavoikyAnswer savoiky_compute_line_groups(SavoikyTally *tally, uint32_t screen, SavoikySettings settings, uint32_t stops,
+    uint32_t trips, uint32_t times, uint32_t windows, uint32_t edges, const uint32_t *tables, size_t tables_len, uint32_t *lines,
+    size_t lines_len, uint32_t *runs, size_t runs_len, uint32_t *entries, size_t entries_len, uint64_t *work, size_t work_len,
+    uint64_t *other, size_t other_len);
 
 /* Each trip's position in its line (4,294,967,295: in none) and each line's FIFO flag (1: no trip overtakes another), of any
  * lines. runs: each line's run of entries (2 lines words); entries: `entry_count` trip numbers; positions: a word a trip; fifo: a
  * word a line. Questions 1 to 6. No query needs this call.
  */
-uint32_t savoiky_line_layout(SavoikySettings settings, uint32_t stops, uint32_t trips, uint32_t times, uint32_t windows,
-    uint32_t edges, uint32_t lines, uint32_t entry_count, const uint32_t *tables, size_t tables_len, const uint32_t *runs,
-    size_t runs_len, const uint32_t *entries, size_t entries_len, uint32_t *positions, size_t positions_len, uint32_t *fifo,
-    size_t fifo_len);
+uint32_t savoiky_line_layout(SavoikyTally *tally, uint32_t screen, SavoikySettings settings, uint32_t stops, uint32_t trips,
+    uint32_t times, uint32_t windows, uint32_t edges, uint32_t lines, uint32_t entry_count, const uint32_t *tables,
+    size_t tables_len, const uint32_t *runs, size_t runs_len, const uint32_t *entries, size_t entries_len, uint32_t *positions,
+    size_t positions_len, uint32_t *fifo, size_t fifo_len);
 
 /* Builds the transfers of every stop event (each stop time of each trip, trip by trip). The value says how many.
  * lines: each trip's line, of `line_count` lines; runs and rows: the listed departures, in any order. area: rows of four words
@@ -285,10 +326,10 @@ uint32_t savoiky_line_layout(SavoikySettings settings, uint32_t stops, uint32_t 
  * transfer_runs: a run for each event, so 2 words for each stop time of each trip. Questions 1 to 7. The call needs about 1 MiB
  * of stack.
  */
-SavoikyAnswer savoiky_compute_trip_transfers(SavoikySettings settings, uint32_t stops, uint32_t trips, uint32_t times,
-    uint32_t windows, uint32_t edges, uint32_t line_count, uint32_t departures, const uint32_t *tables, size_t tables_len,
-    const uint32_t *lines, size_t lines_len, const uint32_t *runs, size_t runs_len, const uint32_t *rows, size_t rows_len,
-    uint32_t *area, size_t area_len, uint32_t *transfer_runs, size_t transfer_runs_len);
+SavoikyAnswer savoiky_compute_trip_transfers(SavoikyTally *tally, uint32_t screen, SavoikySettings settings, uint32_t stops,
+    uint32_t trips, uint32_t times, uint32_t windows, uint32_t edges, uint32_t line_count, uint32_t departures,
+    const uint32_t *tables, size_t tables_len, const uint32_t *lines, size_t lines_len, const uint32_t *runs, size_t runs_len,
+    const uint32_t *rows, size_t rows_len, uint32_t *area, size_t area_len, uint32_t *transfer_runs, size_t transfer_runs_len);
 
 /* The counts of a query: entries are line entries, delays the delay rows, egress the egress stops. */
 typedef struct SavoikyQuerySizes {
@@ -311,7 +352,7 @@ typedef struct SavoikyQuerySizes {
 SAVOIKY_SIZE(SavoikyQuerySizes, 60);
 
 /* How many words of workspace a query needs: 5 stops + 8 trips + 3 lines + 128. Question 1. */
-SavoikyAnswer savoiky_work_size(SavoikySettings settings, SavoikyQuerySizes sizes);
+SavoikyAnswer savoiky_work_size(SavoikyTally *tally, uint32_t screen, SavoikySettings settings, SavoikyQuerySizes sizes);
 
 /* A QUERY. Lent to be read:
  *   tables: the timetable
@@ -346,20 +387,22 @@ typedef struct SavoikyReply {
 SAVOIKY_SIZE(SavoikyReply, 16);
 
 /* As the Rust answers: run_tbr. */
-SavoikyReply savoiky_run_tbr(SavoikySettings settings, SavoikyQuerySizes sizes, const uint32_t *tables, size_t tables_len,
-    const uint32_t *built, size_t built_len, const uint32_t *transfers, size_t transfers_len, const uint8_t *patterns,
-    size_t patterns_len, const double *distances, size_t distances_len, const uint32_t *query, size_t query_len, uint32_t *labels,
-    size_t labels_len, double *label_distances, size_t label_distances_len, uint32_t *work, size_t work_len, uint32_t *queue_a,
-    size_t queue_a_len, uint32_t *queue_b, size_t queue_b_len, uint32_t *candidates, size_t candidates_len);
+SavoikyReply savoiky_run_tbr(SavoikyTally *tally, uint32_t screen, SavoikySettings settings, SavoikyQuerySizes sizes,
+    const uint32_t *tables, size_t tables_len, const uint32_t *built, size_t built_len, const uint32_t *transfers,
+    size_t transfers_len, const uint8_t *patterns, size_t patterns_len, const double *distances, size_t distances_len,
+    const uint32_t *query, size_t query_len, uint32_t *labels, size_t labels_len, double *label_distances,
+    size_t label_distances_len, uint32_t *work, size_t work_len, uint32_t *queue_a, size_t queue_a_len, uint32_t *queue_b,
+    size_t queue_b_len, uint32_t *candidates, size_t candidates_len);
 
 /* What a board asks: run_tbr with arc flags put off where they would skip nothing. On a plain day no journey beats its answer; on a steady day,
  * which has delays (docs/PROMISE.md), none does by effective times.
  */
-SavoikyReply savoiky_query(SavoikySettings settings, SavoikyQuerySizes sizes, const uint32_t *tables, size_t tables_len,
-    const uint32_t *built, size_t built_len, const uint32_t *transfers, size_t transfers_len, const uint8_t *patterns,
-    size_t patterns_len, const double *distances, size_t distances_len, const uint32_t *query, size_t query_len, uint32_t *labels,
-    size_t labels_len, double *label_distances, size_t label_distances_len, uint32_t *work, size_t work_len, uint32_t *queue_a,
-    size_t queue_a_len, uint32_t *queue_b, size_t queue_b_len, uint32_t *candidates, size_t candidates_len);
+SavoikyReply savoiky_query(SavoikyTally *tally, uint32_t screen, SavoikySettings settings, SavoikyQuerySizes sizes,
+    const uint32_t *tables, size_t tables_len, const uint32_t *built, size_t built_len, const uint32_t *transfers,
+    size_t transfers_len, const uint8_t *patterns, size_t patterns_len, const double *distances, size_t distances_len,
+    const uint32_t *query, size_t query_len, uint32_t *labels, size_t labels_len, double *label_distances,
+    size_t label_distances_len, uint32_t *work, size_t work_len, uint32_t *queue_a, size_t queue_a_len, uint32_t *queue_b,
+    size_t queue_b_len, uint32_t *candidates, size_t candidates_len);
 
 #ifdef __cplusplus
 }

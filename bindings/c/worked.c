@@ -1,5 +1,5 @@
-/* worked.c: Timetable K of document 01 and a second one, laid out, built, asked and answered in words; Timetable K under other settings.
-   An example to copy from; savoiky.h has the layouts. */
+/* worked.c: Timetable K of document 01 and a second one, laid out, built, asked and answered in words; Timetable K under other
+   settings; and what the box's tally shows then. An example to copy from; savoiky.h has the layouts. */
 #include <stdbool.h>
 #include <stdio.h>
 #include <stdlib.h>
@@ -16,6 +16,10 @@ enum { AREA_ROWS = 16 };  /* space for so many transfers */
 enum { SEGMENTS = EVENTS }; /* in a half of the queue: enough without frequency trips */
 enum { MOST_LEGS = 27 };  /* of a card: an access walk and 26 more */
 static const uint32_t NEVER = UINT32_MAX;
+
+/* the box's record of the calls of all its screens, zero at first; every call is lent it, and the number of its screen */
+static SavoikyTally tally;
+enum { SCREENS = LENGTH(tally.answered) };
 
 typedef struct {
     /* the counts; those of lines, entries and transfers are known when it is built */
@@ -108,16 +112,16 @@ static void print_transfers(const Timetable *t, const uint32_t *runs) {
 }
 
 /* the lines, each trip's position and each line's FIFO flag */
-static void build_lines(SavoikySettings settings, Timetable *t, uint32_t *lines) {
+static void build_lines(uint32_t screen, SavoikySettings settings, Timetable *t, uint32_t *lines) {
     SavoikyQuerySizes n = t->sizes;
     uint32_t runs[2 * TRIPS], entries[TRIPS], positions[TRIPS], fifo[TRIPS];
     uint64_t work[TRIPS], other[TRIPS];
-    SavoikyAnswer grouped = savoiky_compute_line_groups(settings, n.stops, n.trips, n.times, 0, 0, t->tables, tables_len(n), lines, n.trips,
-        runs, 2 * n.trips, entries, n.trips, work, n.trips, other, n.trips);
+    SavoikyAnswer grouped = savoiky_compute_line_groups(&tally, screen, settings, n.stops, n.trips, n.times, 0, 0, t->tables,
+        tables_len(n), lines, n.trips, runs, 2 * n.trips, entries, n.trips, work, n.trips, other, n.trips);
     check("compute_line_groups", grouped.code);
     uint32_t count = grouped.value;
-    check("line_layout", savoiky_line_layout(settings, n.stops, n.trips, n.times, 0, 0, count, n.trips, t->tables, tables_len(n), runs,
-        2 * count, entries, n.trips, positions, n.trips, fifo, count));
+    check("line_layout", savoiky_line_layout(&tally, screen, settings, n.stops, n.trips, n.times, 0, 0, count, n.trips, t->tables,
+        tables_len(n), runs, 2 * count, entries, n.trips, positions, n.trips, fifo, count));
     print_lines(count, runs, entries, fifo);
     append(t, lines, n.trips);
     append(t, runs, 2 * count);
@@ -126,39 +130,40 @@ static void build_lines(SavoikySettings settings, Timetable *t, uint32_t *lines)
     t->sizes.entries = n.trips;
 }
 
-static void sort_departures(SavoikySettings settings, Timetable *t) {
+static void sort_departures(uint32_t screen, SavoikySettings settings, Timetable *t) {
     SavoikyQuerySizes n = t->sizes;
     uint32_t marks[STOPS];
     uint64_t work[DEPARTURES], other[DEPARTURES];
-    check("sort_stop_departures", savoiky_sort_stop_departures(settings, n.stops, n.trips, n.times, 0, 0, n.departures, t->tables,
-        tables_len(n), t->stop_runs, 2 * n.stops, t->departures, 2 * n.departures, marks, n.stops, work, n.departures, other,
-        n.departures));
+    check("sort_stop_departures", savoiky_sort_stop_departures(&tally, screen, settings, n.stops, n.trips, n.times, 0, 0,
+        n.departures, t->tables, tables_len(n), t->stop_runs, 2 * n.stops, t->departures, 2 * n.departures, marks, n.stops, work,
+        n.departures, other, n.departures));
     append(t, t->stop_runs, 2 * n.stops);
     append(t, t->departures, 2 * n.departures);
     append(t, marks, n.stops);
 }
 
-static void build_transfers(SavoikySettings settings, Timetable *t, const uint32_t *lines) {
+static void build_transfers(uint32_t screen, SavoikySettings settings, Timetable *t, const uint32_t *lines) {
     SavoikyQuerySizes n = t->sizes;
     uint32_t runs[2 * EVENTS];
-    SavoikyAnswer made = savoiky_compute_trip_transfers(settings, n.stops, n.trips, n.times, 0, 0, n.lines, n.departures, t->tables,
-        tables_len(n), lines, n.trips, t->stop_runs, 2 * n.stops, t->departures, 2 * n.departures, t->area, LENGTH(t->area), runs,
-        2 * n.times);
+    SavoikyAnswer made = savoiky_compute_trip_transfers(&tally, screen, settings, n.stops, n.trips, n.times, 0, 0, n.lines,
+        n.departures, t->tables, tables_len(n), lines, n.trips, t->stop_runs, 2 * n.stops, t->departures, 2 * n.departures,
+        t->area, LENGTH(t->area), runs, 2 * n.times);
     check("compute_trip_transfers", made.code);
     t->sizes.transfers = made.value;
     print_transfers(t, runs);
     append(t, runs, 2 * n.times);
 }
 
-static void build(SavoikySettings settings, Timetable *t) {
+static void build(uint32_t screen, SavoikySettings settings, Timetable *t) {
     uint32_t lines[TRIPS];
-    build_lines(settings, t, lines);
-    sort_departures(settings, t);
-    build_transfers(settings, t, lines);
+    build_lines(screen, settings, t, lines);
+    sort_departures(screen, settings, t);
+    build_transfers(screen, settings, t, lines);
 }
 
-/* a query that was answered: its settings, what it was lent to read, and its labels */
+/* a query that was answered: its screen and settings, what it was lent to read, and its labels */
 typedef struct {
+    uint32_t screen;
     SavoikySettings settings;
     SavoikyQuerySizes sizes;
     const uint32_t *tables, *query, *labels;
@@ -174,8 +179,8 @@ typedef struct {
 /* the label of a stop in the highest row not above this one that is not empty */
 static Leg leg_at(const Asked *q, uint32_t stop, uint32_t row) {
     for (;; row--) {
-        SavoikyLabelAnswer a = savoiky_label_load(q->settings, q->sizes.stops, stop, row, q->labels, 104 * q->sizes.stops, q->distances,
-            13 * q->sizes.stops);
+        SavoikyLabelAnswer a = savoiky_label_load(&tally, q->screen, q->settings, q->sizes.stops, stop, row, q->labels,
+            104 * q->sizes.stops, q->distances, 13 * q->sizes.stops);
         check("label_load", a.code);
         if (a.row.kind != 0 || row == 0) return (Leg){stop, row, a.row};
     }
@@ -190,10 +195,11 @@ static uint32_t departure(const Asked *q, SavoikyLabelRow ride) {
     SavoikyQuerySizes n = q->sizes;
     const uint32_t *trip = q->tables + 6 * n.times + 8 * ride.word2, *time = q->tables + 6 * (trip[0] + ride.word4);
     const uint32_t *delays = q->query + 7 + 2 * n.origins + 2 * n.egress, *stop_rows = delays + 2 * n.delays;
-    SavoikyDelayAt d = savoiky_delay_at(q->settings, n.trips, n.delays, n.stop_rows, delays, 2 * n.delays, stop_rows, 5 * n.stop_rows,
-        ride.word2, time[3]);
+    SavoikyDelayAt d = savoiky_delay_at(&tally, q->screen, q->settings, n.trips, n.delays, n.stop_rows, delays, 2 * n.delays,
+        stop_rows, 5 * n.stop_rows, ride.word2, time[3]);
     check("delay_at", d.code);
-    SavoikyAnswer a = savoiky_effective_departure(q->settings, time[2], d.trip_delay, d.flags, d.departure_delay);
+    SavoikyAnswer a = savoiky_effective_departure(&tally, q->screen, q->settings, time[2], d.trip_delay, d.flags,
+        d.departure_delay);
     check("effective_departure", a.code);
     return trip[5] == 0 ? a.value : a.value + ride.word7;
 }
@@ -252,67 +258,99 @@ static void print_answer(const Asked *q, SavoikyReply r, const uint32_t *candida
 }
 
 /* asks: from stop 0, 10 s away, to 5 s beyond another stop */
-static void ask(SavoikySettings settings, const Timetable *t, uint32_t start, uint32_t change, uint32_t to) {
+static void ask(uint32_t screen, SavoikySettings settings, const Timetable *t, uint32_t start, uint32_t change, uint32_t to) {
     SavoikyQuerySizes n = t->sizes;
     const uint32_t query[] = {start, change, 0, 0, 0, 0, 0, /* origin */ 0, 10, /* egress */ to, 5};
     const double distances[] = {12.5}; /* of the origin */
     const uint8_t none = 0; /* no patterns: a pointer all the same */
     uint32_t labels[104 * STOPS], queue_a[4 * SEGMENTS], queue_b[4 * SEGMENTS], candidates[39];
     double label_distances[13 * STOPS];
-    SavoikyAnswer size = savoiky_work_size(settings, n);
+    SavoikyAnswer size = savoiky_work_size(&tally, screen, settings, n);
     check("work_size", size.code);
     uint32_t *work = malloc(size.value * sizeof *work);
     if (work == NULL) abort();
     printf("start %u, change time %u\n", (unsigned)start, (unsigned)change);
-    SavoikyReply r = savoiky_query(settings, n, t->tables, tables_len(n), t->built, t->built_len, t->area, LENGTH(t->area), &none, 0,
-        distances, LENGTH(distances), query, LENGTH(query), labels, 104 * n.stops, label_distances, 13 * n.stops, work, size.value,
-        queue_a, LENGTH(queue_a), queue_b, LENGTH(queue_b), candidates, LENGTH(candidates));
+    SavoikyReply r = savoiky_query(&tally, screen, settings, n, t->tables, tables_len(n), t->built, t->built_len, t->area,
+        LENGTH(t->area), &none, 0, distances, LENGTH(distances), query, LENGTH(query), labels, 104 * n.stops, label_distances,
+        13 * n.stops, work, size.value, queue_a, LENGTH(queue_a), queue_b, LENGTH(queue_b), candidates, LENGTH(candidates));
     check("query", r.code);
-    print_answer(&(Asked){settings, n, t->tables, query, labels, label_distances}, r, candidates);
+    print_answer(&(Asked){screen, settings, n, t->tables, query, labels, label_distances}, r, candidates);
     free(work);
 }
 
-/* Are these settings admitted? Every call asks it; this one asks nothing else. */
-static void print_settings(SavoikySettings settings) {
-    SavoikyAnswer a = savoiky_max_rounds(settings, 0, 0);
-    if (a.code == 0) printf("  admitted\n");
-    else printf("  refused by question %u\n", (unsigned)a.code);
+/* Begins a part of this program: says which screen its calls are for and what it is about, and gives the screen. */
+static uint32_t part(uint32_t screen, const char *title) {
+    printf("Screen %u: %s\n", (unsigned)screen, title);
+    return screen;
+}
+
+static void print_code(uint32_t code) {
+    if (code == 0) printf("admitted");
+    else printf("refused by question %u", (unsigned)code);
+}
+
+/* Are these settings admitted? Every call asks it; this one asks nothing else, the screen aside. */
+static void print_settings(uint32_t screen, SavoikySettings settings) {
+    printf("  ");
+    print_code(savoiky_max_rounds(&tally, screen, settings, 0, 0).code);
+    printf("\n");
 }
 
 /* Timetable K under other settings: trip 2 leaves stop 1 just 120 s after trip 0 arrives there */
 static void other_settings(Timetable slow, const Timetable *built) {
     SavoikySettings settings = SAVOIKY_DEFAULT_SETTINGS;
-    printf("Timetable K, transfer time 121\n");
+    uint32_t screen = part(3, "Timetable K, transfer time 121");
     settings.transfer_time = 121;
-    build(settings, &slow);
-    printf("Timetable K, candidate slack 0\n");
+    build(screen, settings, &slow);
+    screen = part(4, "Timetable K, candidate slack 0");
     settings = SAVOIKY_DEFAULT_SETTINGS;
     settings.candidate_slack = 0;
-    ask(settings, built, 90, 120, 2);
-    printf("Transfer times 3600 and 3601\n");
+    ask(screen, settings, built, 90, 120, 2);
+    screen = part(5, "Transfer times 3600 and 3601");
     settings.transfer_time = 3600;
-    print_settings(settings);
+    print_settings(screen, settings);
     settings.transfer_time = 3601;
-    print_settings(settings);
+    print_settings(screen, settings);
+}
+
+/* a call for a screen that there may not be: is it admitted, and does the tally count it? */
+static void print_screen(uint32_t screen) {
+    const SavoikyTally before = tally;
+    printf("  a call for screen %u: ", (unsigned)screen);
+    print_code(savoiky_max_rounds(&tally, screen, SAVOIKY_DEFAULT_SETTINGS, 0, 0).code);
+    printf(memcmp(&before, &tally, sizeof tally) == 0 ? ", counted nowhere\n" : ", counted\n");
+}
+
+/* what the tally shows: the screens that have calls, a screen too many, and the sum */
+static void print_tally(void) {
+    printf("The tally\n");
+    for (uint32_t screen = 0; screen < SCREENS; screen++) {
+        uint32_t answered = savoiky_tally_answered(&tally, screen), refused = savoiky_tally_refused(&tally, screen);
+        if (answered == 0 && refused == 0) continue;
+        printf("  screen %u: %u answered, %u refused\n", (unsigned)screen, (unsigned)answered, (unsigned)refused);
+    }
+    print_screen(SCREENS);
+    printf("  calls of all screens: %llu\n", (unsigned long long)savoiky_tally_total(&tally));
 }
 
 int main(void) {
     const SavoikySettings settings = SAVOIKY_DEFAULT_SETTINGS;
     Timetable slow = timetable_k, falling = second;
     falling.tables[6 * 1 + 1] = 90; /* trip 0 arrives at stop 1 before it leaves stop 0 */
-    printf("Timetable K\n");
-    build(settings, &timetable_k);
-    ask(settings, &timetable_k, 90, 120, 2);
-    ask(settings, &timetable_k, 90, 121, 2);
-    ask(settings, &timetable_k, 91, 120, 2);
-    ask(settings, &timetable_k, 150, 120, 2);
-    ask(settings, &timetable_k, 151, 120, 2);
-    printf("A round that boards where it arrived\n");
-    build(settings, &second);
-    ask(settings, &second, 90, 120, 3);
-    printf("The same, with times that fall\n");
-    build(settings, &falling);
-    ask(settings, &falling, 90, 120, 3);
+    uint32_t screen = part(0, "Timetable K");
+    build(screen, settings, &timetable_k);
+    ask(screen, settings, &timetable_k, 90, 120, 2);
+    ask(screen, settings, &timetable_k, 90, 121, 2);
+    ask(screen, settings, &timetable_k, 91, 120, 2);
+    ask(screen, settings, &timetable_k, 150, 120, 2);
+    ask(screen, settings, &timetable_k, 151, 120, 2);
+    screen = part(1, "A round that boards where it arrived");
+    build(screen, settings, &second);
+    ask(screen, settings, &second, 90, 120, 3);
+    screen = part(2, "The same, with times that fall");
+    build(screen, settings, &falling);
+    ask(screen, settings, &falling, 90, 120, 3);
     other_settings(slow, &timetable_k);
+    print_tally();
     return 0;
 }

@@ -1,9 +1,10 @@
 //! The building calls: lines, sorted departures, transfers; and the tables that a query is asked of.
-use crate::calls::{self, LineAreas, LineTable, Linked, SortAreas};
+use crate::calls::{self, Laid, LineAreas, LineTable, Linked, SortAreas};
 use crate::refusal::{checked, value, Refusal};
 use crate::settings::Settings;
 use crate::sys::QuerySizes;
 use crate::tables::{count, words, Departure, Departures, Run, Timetable};
+use crate::tally::Tally;
 
 /// How many transfers there may be.
 const TRANSFER_LIMIT: usize = 65_536;
@@ -81,53 +82,70 @@ pub struct Built {
 impl Timetable {
     /// Lines, sorted departures and transfers of this timetable, ready to ask: built once for each `transfer_time` that queries are
     /// asked with, see [`Settings`]. Refused by 1 to 7 and 14. Needs about 1 MiB of stack.
-    pub fn build(&self, settings: Settings) -> Result<Tables, Refusal> {
-        let lines = self.compute_line_groups(settings)?;
-        let (departures, marks) = self.sort_stop_departures(settings)?;
-        let transfers = self.compute_trip_transfers(settings, &lines, TRANSFER_LIMIT)?;
+    ///
+    /// Three calls, for lines, departures and transfers. Each counts; after one that is refused none is made.
+    pub fn build(&self, tally: &mut Tally, screen: u32, settings: Settings) -> Result<Tables, Refusal> {
+        let lines = self.compute_line_groups(tally, screen, settings)?;
+        let (departures, marks) = self.sort_stop_departures(tally, screen, settings)?;
+        let transfers = self.compute_trip_transfers(tally, screen, settings, &lines, TRANSFER_LIMIT)?;
         Ok(Tables::new(self, Built { lines, departures, marks, transfers }))
     }
 
     /// The trips grouped into lines. Refused by 1 to 6 and 14.
-    pub fn compute_line_groups(&self, settings: Settings) -> Result<Lines, Refusal> {
+    pub fn compute_line_groups(&self, tally: &mut Tally, screen: u32, settings: Settings) -> Result<Lines, Refusal> {
         let trips = self.trips.len();
         let (mut of_trip, mut runs, mut entries) = (vec![0; trips], vec![0; 2 * trips], vec![0; trips]);
         let (mut work, mut other) = (vec![0; trips], vec![0; trips]);
         let areas = LineAreas { lines: &mut of_trip, runs: &mut runs, entries: &mut entries, work: &mut work, other: &mut other };
-        let lines = value(calls::compute_line_groups(settings, self.counts(), &self.words(), areas))?;
+        let laid = Laid { counts: self.counts(), tables: &self.words() };
+        let lines = value(calls::compute_line_groups(tally, screen, settings, &laid, areas))?;
         runs.truncate(2 * lines as usize);
         Ok(Lines { of_trip, runs: Run::read(&runs), entries })
     }
 
     /// Each stop's listed departures sorted by scheduled departure, and each stop's mark. Refused by 1 to 6 and 14.
-    pub fn sort_stop_departures(&self, settings: Settings) -> Result<(Departures, Vec<bool>), Refusal> {
+    pub fn sort_stop_departures(
+        &self,
+        tally: &mut Tally,
+        screen: u32,
+        settings: Settings,
+    ) -> Result<(Departures, Vec<bool>), Refusal> {
         let listed = &self.departures;
         let (mut rows, mut marks) = (words(&listed.rows, Departure::words), vec![0; self.stops.len()]);
         let (mut work, mut other) = (vec![0; listed.rows.len()], vec![0; listed.rows.len()]);
         let areas = SortAreas { rows: &mut rows, marks: &mut marks, work: &mut work, other: &mut other };
         let runs = words(&listed.runs, Run::words);
-        checked(calls::sort_stop_departures(settings, self.counts(), count(listed.rows.len()), &self.words(), &runs, areas))?;
+        let laid = Laid { counts: self.counts(), tables: &self.words() };
+        checked(calls::sort_stop_departures(tally, screen, settings, &laid, count(listed.rows.len()), &runs, areas))?;
         let rows = rows.chunks_exact(2).map(|w| Departure { trip: w[0], offset: w[1] }).collect();
         Ok((Departures { runs: listed.runs.clone(), rows }, marks.iter().map(|m| *m == 1).collect()))
     }
 
     /// Each trip's position and each line's FIFO flag, of any lines. Refused by 1 to 6 and 14.
-    pub fn line_layout(&self, settings: Settings, lines: &Lines) -> Result<Layout, Refusal> {
+    pub fn line_layout(&self, tally: &mut Tally, screen: u32, settings: Settings, lines: &Lines) -> Result<Layout, Refusal> {
         let (mut positions, mut fifo) = (vec![0; self.trips.len()], vec![0; lines.runs.len()]);
         let runs = words(&lines.runs, Run::words);
         let (line_count, entry_count) = (count(lines.runs.len()), count(lines.entries.len()));
         let table = LineTable { lines: line_count, entry_count, runs: &runs, entries: &lines.entries };
-        checked(calls::line_layout(settings, self.counts(), &self.words(), &table, &mut positions, &mut fifo))?;
+        let laid = Laid { counts: self.counts(), tables: &self.words() };
+        checked(calls::line_layout(tally, screen, settings, &laid, &table, &mut positions, &mut fifo))?;
         let positions = positions.iter().map(|p| (*p != u32::MAX).then_some(*p)).collect();
         Ok(Layout { positions, fifo: fifo.iter().map(|f| *f == 1).collect() })
     }
 
     /// The transfers of every stop time of every trip, each of the settings' `transfer_time`, at most so many. Refused by 1 to 6 and
     /// 14, and by 7: more than 65,536, or than so many. Needs about 1 MiB of stack.
-    pub fn compute_trip_transfers(&self, settings: Settings, lines: &Lines, space: usize) -> Result<Transfers, Refusal> {
+    pub fn compute_trip_transfers(
+        &self,
+        tally: &mut Tally,
+        screen: u32,
+        settings: Settings,
+        lines: &Lines,
+        space: usize,
+    ) -> Result<Transfers, Refusal> {
         if self.events() > EVENT_LIMIT || self.trips.iter().any(|t| t.stop_times.of(&self.stop_times).is_none()) {
             // no runs can be lent for such trips; the lines call asks the same of them, and refuses
-            self.compute_line_groups(settings)?;
+            self.compute_line_groups(tally, screen, settings)?;
         }
         let listed = &self.departures;
         let (runs, rows) = (words(&listed.runs, Run::words), words(&listed.rows, Departure::words));
@@ -135,7 +153,8 @@ impl Timetable {
         let linked = Linked { line_count, departures, lines: &lines.of_trip, runs: &runs, rows: &rows };
         let mut area = vec![0; 4 * space.min(TRANSFER_LIMIT)];
         let mut transfer_runs = vec![0; 2 * self.events() as usize];
-        let made = calls::compute_trip_transfers(settings, self.counts(), &self.words(), &linked, &mut area, &mut transfer_runs);
+        let laid = Laid { counts: self.counts(), tables: &self.words() };
+        let made = calls::compute_trip_transfers(tally, screen, settings, &laid, &linked, &mut area, &mut transfer_runs);
         area.truncate(4 * value(made)? as usize);
         Ok(Transfers { runs: Run::read(&transfer_runs), rows: TripTransfer::read(&area) })
     }
@@ -145,7 +164,7 @@ impl Timetable {
 /// they are asked under others than they were built under.
 ///
 /// ```
-/// use savoiky::{Built, Departure, Departures, Lines, Run, Settings, Stop, StopTime, Tables, Timetable, Transfers};
+/// use savoiky::{Built, Departure, Departures, Lines, Run, Settings, Stop, StopTime, Tables, Tally, Timetable, Transfers};
 /// let mut t = Timetable { stops: vec![Stop::default(); 2], ..Timetable::default() };
 /// t.add_trip(&[StopTime::new(0, 100, 100), StopTime::new(1, 200, 200)]);
 /// let built = Built {
@@ -156,7 +175,7 @@ impl Timetable {
 /// };
 /// let by_hand = Tables::new(&t, built);
 /// t.list_departures();
-/// assert_eq!(by_hand, t.build(Settings::DEFAULT)?);
+/// assert_eq!(by_hand, t.build(&mut Tally::new(), 0, Settings::DEFAULT)?);
 /// # Ok::<(), savoiky::Refusal>(())
 /// ```
 #[derive(Clone, PartialEq, Debug)]

@@ -1,8 +1,9 @@
 //! Delays: of trips, and of single stop times.
-use crate::calls::{self, Delayed};
+use crate::calls::{self, Delay, Delayed};
 use crate::refusal::{checked, holds, value, Refusal};
 use crate::settings::Settings;
 use crate::tables::count;
+use crate::tally::Tally;
 
 /// The number of a trip that the timetable does not know.
 const UNKNOWN: u32 = u32::MAX;
@@ -34,12 +35,12 @@ pub struct StopDelay {
 /// The delays of a query.
 ///
 /// ```
-/// use savoiky::{Delays, Settings, TripDelay};
-/// let settings = Settings::DEFAULT;
+/// use savoiky::{Delays, Settings, Tally, TripDelay};
+/// let (tally, settings) = (&mut Tally::new(), Settings::DEFAULT);
 /// let late = Delays { rows: vec![TripDelay { trip: Some(2), delay_s: 300 }], stop_rows: vec![] };
-/// assert_eq!(late.margin(settings, 3)?, 300);
-/// assert_eq!(late.delay_at(settings, 3, 2, 1)?.unwrap().trip_delay_s, 300);
-/// assert_eq!(late.delay_at(settings, 3, 1, 1)?, None);
+/// assert_eq!(late.margin(tally, 0, settings, 3)?, 300);
+/// assert_eq!(late.delay_at(tally, 0, settings, 3, 2, 1)?.unwrap().trip_delay_s, 300);
+/// assert_eq!(late.delay_at(tally, 0, settings, 3, 1, 1)?, None);
 /// # Ok::<(), savoiky::Refusal>(())
 /// ```
 #[derive(Clone, PartialEq, Eq, Debug, Default)]
@@ -84,20 +85,28 @@ impl Delays {
         })
     }
 
-    fn asked<T>(&self, trips: u32, ask: impl Fn(&Delayed) -> T) -> T {
+    fn asked<T>(&self, trips: u32, ask: impl FnOnce(&Delayed) -> T) -> T {
         let (rows, stop_rows): (Vec<u32>, Vec<u32>) = (self.row_words().collect(), self.stop_row_words().collect());
         let (delay_rows, stop_row_count) = (count(self.rows.len()), count(self.stop_rows.len()));
         ask(&Delayed { trips, delay_rows, stop_row_count, rows: &rows, stop_rows: &stop_rows })
     }
 
     /// The largest size of a delay here, at most the settings' `margin_cap`; with so many trips. Refused by 1, 14, 4, 5, 6.
-    pub fn margin(&self, settings: Settings, trips: u32) -> Result<u32, Refusal> {
-        value(self.asked(trips, |d| calls::margin(settings, d)))
+    pub fn margin(&self, tally: &mut Tally, screen: u32, settings: Settings, trips: u32) -> Result<u32, Refusal> {
+        value(self.asked(trips, |d| calls::margin(tally, screen, settings, d)))
     }
 
     /// What these delays say of a trip's stop time; nothing where the trip has no row. Refused by 1, 14, 4, 5, 6.
-    pub fn delay_at(&self, settings: Settings, trips: u32, trip: u32, stop_sequence: u32) -> Result<Option<DelayAt>, Refusal> {
-        let a = self.asked(trips, |d| calls::delay_at(settings, d, trip, stop_sequence));
+    pub fn delay_at(
+        &self,
+        tally: &mut Tally,
+        screen: u32,
+        settings: Settings,
+        trips: u32,
+        trip: u32,
+        stop_sequence: u32,
+    ) -> Result<Option<DelayAt>, Refusal> {
+        let a = self.asked(trips, |d| calls::delay_at(tally, screen, settings, d, trip, stop_sequence));
         checked(a.code)?;
         let given = |flag: u32, delay: u32| (a.flags & flag != 0).then_some(delay as i32);
         Ok((a.known == 1).then_some(DelayAt {
@@ -114,20 +123,36 @@ impl DelayAt {
         flags(self.departure_delay_s, self.arrival_delay_s, self.skipped)
     }
 
+    fn delay(&self, own: Option<i32>) -> Delay {
+        Delay { of_trip: self.trip_delay_s as u32, flags: self.flags(), own: bits(own) }
+    }
+
     /// The departure under this delay. Refused by 14 and 5.
-    pub fn effective_departure(&self, settings: Settings, departure_s: u32) -> Result<u32, Refusal> {
-        let own = bits(self.departure_delay_s);
-        value(calls::effective_departure(settings, departure_s, self.trip_delay_s as u32, self.flags(), own))
+    pub fn effective_departure(
+        &self,
+        tally: &mut Tally,
+        screen: u32,
+        settings: Settings,
+        departure_s: u32,
+    ) -> Result<u32, Refusal> {
+        value(calls::effective_departure(tally, screen, settings, departure_s, self.delay(self.departure_delay_s)))
     }
 
     /// The arrival under this delay; the shift of a frequency trip's run counts where the stop has no time given. Refused by 14 and 5.
-    pub fn effective_arrival(&self, settings: Settings, arrival_s: u32, time_shift_s: i32) -> Result<u32, Refusal> {
-        let own = bits(self.arrival_delay_s);
-        value(calls::effective_arrival(settings, arrival_s, time_shift_s as u32, self.trip_delay_s as u32, self.flags(), own))
+    pub fn effective_arrival(
+        &self,
+        tally: &mut Tally,
+        screen: u32,
+        settings: Settings,
+        arrival_s: u32,
+        time_shift_s: i32,
+    ) -> Result<u32, Refusal> {
+        let delay = self.delay(self.arrival_delay_s);
+        value(calls::effective_arrival(tally, screen, settings, arrival_s, time_shift_s as u32, delay))
     }
 
     /// Does the trip pass through? Refused by 14.
-    pub fn is_skipped(&self, settings: Settings) -> Result<bool, Refusal> {
-        holds(calls::skipped(settings, self.flags()))
+    pub fn is_skipped(&self, tally: &mut Tally, screen: u32, settings: Settings) -> Result<bool, Refusal> {
+        holds(calls::skipped(tally, screen, settings, self.flags()))
     }
 }

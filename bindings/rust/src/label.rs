@@ -1,9 +1,10 @@
 //! Labels: when and how a stop was reached in a round.
-use crate::calls::{self, Place};
-use crate::refusal::{checked, Refusal};
+use crate::calls::{self, Place, Stored};
+use crate::refusal::{checked, value, Refusal};
 use crate::settings::Settings;
-use crate::sys::LabelRow;
+use crate::sys::{LabelRow, QuerySizes};
 use crate::tables::count;
+use crate::tally::Tally;
 
 /// How many rows of labels a stop has: row 0 for the access walk, row k + 1 for round k.
 pub const ROWS: u32 = 13;
@@ -104,14 +105,14 @@ impl Label {
 /// The labels of some stops, 13 rows each.
 ///
 /// ```
-/// use savoiky::{Label, Labels, Settings};
-/// let settings = Settings::DEFAULT;
-/// let mut labels = Labels::new(settings, 2)?;
+/// use savoiky::{Label, Labels, Settings, Tally};
+/// let (tally, settings) = (&mut Tally::new(), Settings::DEFAULT);
+/// let mut labels = Labels::new(tally, 0, settings, 2)?;
 /// let label = Label::Access { stop_idx: 1, arrival_s: 100, walk_duration: 10, walk_distance: 12.5 };
-/// labels.store(settings, 1, 0, label)?;
-/// assert_eq!(labels.load(settings, 1, 0)?, label);
-/// assert_eq!(labels.load(settings, 1, 1)?, Label::Empty);
-/// assert_eq!(labels.load(settings, 2, 0).unwrap_err().number(), 4);
+/// labels.store(tally, 0, settings, 1, 0, label)?;
+/// assert_eq!(labels.load(tally, 0, settings, 1, 0)?, label);
+/// assert_eq!(labels.load(tally, 0, settings, 1, 1)?, Label::Empty);
+/// assert_eq!(labels.load(tally, 0, settings, 2, 0).unwrap_err().number(), 4);
 /// # Ok::<(), savoiky::Refusal>(())
 /// ```
 #[derive(Clone, PartialEq, Debug, Default)]
@@ -123,16 +124,12 @@ pub struct Labels {
 
 impl Labels {
     /// Empty labels of so many stops. Refused by 1 (more than 4,096) and 14.
-    pub fn new(settings: Settings, stops: usize) -> Result<Labels, Refusal> {
-        let mut labels = Labels { stops, ..Labels::default() };
-        // nothing is lent yet: a later question's no says nothing
-        match labels.load(settings, 0, 0) {
-            Err(refusal) if matches!(refusal.number(), 1 | 14) => Err(refusal),
-            _ => {
-                labels.resize(stops);
-                Ok(labels)
-            }
-        }
+    pub fn new(tally: &mut Tally, screen: u32, settings: Settings, stops: usize) -> Result<Labels, Refusal> {
+        // the call that asks just this; how long a query's workspace is says nothing here
+        value(calls::work_size(tally, screen, settings, QuerySizes { stops: count(stops), ..QuerySizes::default() }))?;
+        let mut labels = Labels::default();
+        labels.resize(stops);
+        Ok(labels)
     }
 
     /// Of so many stops from now on; what they hold is left as it is.
@@ -153,36 +150,52 @@ impl Labels {
     }
 
     /// The label of a stop in a row. Refused by 14, 4 (the stop) and 5 (a row above 12).
-    pub fn load(&self, settings: Settings, stop: u32, row: u32) -> Result<Label, Refusal> {
-        let answer = calls::label_load(settings, count(self.stops), stop, row, &self.words, &self.distances);
+    pub fn load(&self, tally: &mut Tally, screen: u32, settings: Settings, stop: u32, row: u32) -> Result<Label, Refusal> {
+        let place = Stored { stops: count(self.stops), stop, row, labels: &self.words, distances: &self.distances };
+        let answer = calls::label_load(tally, screen, settings, &place);
         checked(answer.code).map(|()| Label::of(answer.row))
     }
 
     /// Puts a label in a stop's row. Refused as `load` is, and by 4 where a stop number in the label is not below the count of stops.
-    pub fn store(&mut self, settings: Settings, stop: u32, row: u32, label: Label) -> Result<(), Refusal> {
+    pub fn store(
+        &mut self,
+        tally: &mut Tally,
+        screen: u32,
+        settings: Settings,
+        stop: u32,
+        row: u32,
+        label: Label,
+    ) -> Result<(), Refusal> {
         let place = Place { stops: count(self.stops), stop, row, labels: &mut self.words, distances: &mut self.distances };
         checked(match label {
-            Label::Empty => return self.empty(settings, stop, row),
+            Label::Empty => return self.empty(tally, screen, settings, stop, row),
             Label::Access { stop_idx, arrival_s, walk_duration, walk_distance } => {
-                calls::label_store_access(settings, place, [stop_idx, arrival_s, walk_duration], walk_distance)
+                calls::label_store_access(tally, screen, settings, place, [stop_idx, arrival_s, walk_duration], walk_distance)
             }
             Label::Transit { arrival_s, trip_idx, board_stop, board_off, alight_off, prev_round, time_shift_s } => {
                 let shift = time_shift_s as u32;
                 calls::label_store_transit(
+                    tally,
+                    screen,
                     settings,
                     place,
                     [arrival_s, trip_idx, board_stop, board_off, alight_off, prev_round, shift],
                 )
             }
-            Label::Walk { arrival_s, from_stop, to_stop, duration_s, distance_m, prev_round } => {
-                calls::label_store_walk(settings, place, [arrival_s, from_stop, to_stop, duration_s, prev_round], distance_m)
-            }
+            Label::Walk { arrival_s, from_stop, to_stop, duration_s, distance_m, prev_round } => calls::label_store_walk(
+                tally,
+                screen,
+                settings,
+                place,
+                [arrival_s, from_stop, to_stop, duration_s, prev_round],
+                distance_m,
+            ),
         })
     }
 
     /// No call stores an empty label: the door's answer is that of reading one.
-    fn empty(&mut self, settings: Settings, stop: u32, row: u32) -> Result<(), Refusal> {
-        self.load(settings, stop, row)?;
+    fn empty(&mut self, tally: &mut Tally, screen: u32, settings: Settings, stop: u32, row: u32) -> Result<(), Refusal> {
+        self.load(tally, screen, settings, stop, row)?;
         let record = (ROWS * stop + row) as usize;
         self.words[WORDS * record..WORDS * (record + 1)].fill(0);
         self.distances[record] = 0.0;

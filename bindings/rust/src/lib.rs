@@ -2,10 +2,12 @@
 //!
 //! A timetable is built once and asked as often as wanted. What the calls do not admit comes back as a [`Refusal`], the number of
 //! a question; nothing here panics for bad input, and the calls behind it are proved to answer every input. Every call receives the
-//! [`Settings`] of the house; [`Settings::DEFAULT`] where nothing else is wanted.
+//! box's [`Tally`] and the number of the screen that it is for, 0 to 63, and counts there; and the [`Settings`] of the house,
+//! [`Settings::DEFAULT`] where nothing else is wanted. Every call refuses a screen above 63 by 15, before all else: what is said
+//! of a call's refusals leaves 15 out.
 //!
 //! ```
-//! use savoiky::{Answer, Egress, Origin, Query, Settings, Stop, StopTime, Timetable, Workspace};
+//! use savoiky::{Answer, Egress, Origin, Query, Settings, Stop, StopTime, Tally, Timetable, Workspace};
 //!
 //! # fn main() -> Result<(), savoiky::Refusal> {
 //! // Timetable K: three stops, three trips
@@ -15,7 +17,9 @@
 //! k.add_trip(&[StopTime::new(1, 320, 320), StopTime::new(2, 380, 380)]);
 //! k.list_departures();
 //! let settings = Settings::DEFAULT;
-//! let tables = k.build(settings)?;
+//! let tally = &mut Tally::new(); // one for the box
+//! let screen = 7;
+//! let tables = k.build(tally, screen, settings)?;
 //!
 //! let query = Query {
 //!     start_s: 90,
@@ -25,16 +29,19 @@
 //!     ..Query::default()
 //! };
 //! let mut workspace = Workspace::new(); // keep it: a board allocates once
-//! match tables.query(settings, &query, &mut workspace)? {
+//! match tables.query(tally, screen, settings, &query, &mut workspace)? {
 //!     Answer::NoWay => println!("no way"),
 //!     Answer::Arrives { total, stop, candidates } => {
 //!         println!("arrives at {total} from stop {stop}");
 //!         assert_eq!((total, stop), (385, 2));
 //!         for c in candidates {
-//!             println!("{} in row {}: {:?}", c.total, c.row, workspace.labels().load(settings, c.stop, c.row)?);
+//!             let label = workspace.labels().load(tally, screen, settings, c.stop, c.row)?;
+//!             println!("{} in row {}: {label:?}", c.total, c.row);
 //!         }
 //!     }
 //! }
+//! // three calls that built, the query, and two that read a label
+//! assert_eq!((tally.answered(screen), tally.refused(screen)), (6, 0));
 //! # Ok(())
 //! # }
 //! ```
@@ -57,6 +64,7 @@ mod settings;
 #[rustfmt::skip]
 mod sys;
 mod tables;
+mod tally;
 
 pub use building::{Built, Layout, Lines, Tables, Transfers, TripTransfer};
 pub use cells::CellBitSet;
@@ -70,3 +78,4 @@ pub use tables::{
     Departure, Departures, FrequencyWindow, PathwayMode, Permission, RouteMode, Run, Stop, StopTime, Timetable, Trip, WalkEdge,
     Wheelchair,
 };
+pub use tally::Tally;

@@ -3,10 +3,11 @@ use crate::building::Tables;
 use crate::calls::{self, Areas, Call, Read};
 use crate::delays::Delays;
 use crate::label::{Labels, ROWS};
-use crate::refusal::{checked, Refusal};
+use crate::refusal::{checked, value, Refusal, NO_SCREEN};
 use crate::settings::Settings;
 use crate::sys::{QuerySizes, Reply};
 use crate::tables::{count, RouteMode};
+use crate::tally::Tally;
 
 /// The words of the candidates: 13 rows of three.
 const CANDIDATE_WORDS: usize = 3 * ROWS as usize;
@@ -34,9 +35,9 @@ pub struct Egress {
 /// A guest's question.
 ///
 /// ```
-/// use savoiky::{Egress, Origin, Query, Settings};
+/// use savoiky::{Egress, Origin, Query, Settings, Tally};
 /// let query = Query {
-///     start_s: savoiky::service_second(Settings::DEFAULT, 8, 30, 0)?,
+///     start_s: savoiky::service_second(&mut Tally::new(), 0, Settings::DEFAULT, 8, 30, 0)?,
 ///     change_s: 120,
 ///     origins: vec![Origin { stop_idx: 0, duration_s: 60, distance_m: 75.0 }],
 ///     egress: vec![Egress { stop_idx: 2, duration_s: 30 }],
@@ -135,15 +136,16 @@ impl Answer {
 /// The memory that queries are lent to write, kept from one to the next; and the labels of the last one.
 ///
 /// ```
-/// use savoiky::{Answer, Query, Settings, Timetable, Workspace};
-/// let settings = Settings::DEFAULT;
-/// let tables = Timetable::default().build(settings)?;
+/// use savoiky::{Answer, Query, Settings, Tally, Timetable, Workspace};
+/// let (tally, settings) = (&mut Tally::new(), Settings::DEFAULT);
+/// let tables = Timetable::default().build(tally, 0, settings)?;
 /// let mut workspace = Workspace::new();
 /// for start_s in [100, 200] {
 ///     let query = Query { start_s, ..Query::default() };
-///     assert_eq!(tables.query(settings, &query, &mut workspace)?, Answer::NoWay);
+///     assert_eq!(tables.query(tally, 0, settings, &query, &mut workspace)?, Answer::NoWay);
 /// }
 /// assert_eq!(workspace.labels().stops(), 0);
+/// assert_eq!(tally.answered(0), 5); // three calls that built, two queries
 /// # Ok::<(), savoiky::Refusal>(())
 /// ```
 #[derive(Clone, PartialEq, Debug, Default)]
@@ -171,23 +173,27 @@ impl Workspace {
         Workspace { segments: Some(segments), ..Workspace::default() }
     }
 
-    /// The labels of the last query; all empty where it was refused.
+    /// The labels of the last query; all empty where it was refused. (A query that is refused by 15 leaves them as they are.)
     pub fn labels(&self) -> &Labels {
         &self.labels
     }
 
-    /// Makes every area as long as this query's counts say.
-    fn fit(&mut self, settings: Settings, sizes: QuerySizes, segments: usize) {
-        let size = calls::work_size(settings, sizes);
-        if size.code != 0 {
-            // question 1 or 14 is answered no, whatever is lent
-            return;
+    /// Makes every area as long as this query's counts say. The call that says how long is none of the board's: it is counted in
+    /// a tally that is thrown away. Refused by 15 alone, and then nothing is touched.
+    fn fit(&mut self, screen: u32, settings: Settings, sizes: QuerySizes, segments: usize) -> Result<(), Refusal> {
+        match value(calls::work_size(&mut Tally::new(), screen, settings, sizes)) {
+            Ok(size) => {
+                self.labels.resize(sizes.stops as usize);
+                self.work.resize(size as usize, 0);
+                self.queue_a.resize(4 * segments, 0);
+                self.queue_b.resize(4 * segments, 0);
+                self.candidates.resize(CANDIDATE_WORDS, 0);
+                Ok(())
+            }
+            Err(refusal) if refusal.number() == NO_SCREEN => Err(refusal),
+            // question 1 or 14 is answered no, whatever is lent: the query says which
+            Err(_) => Ok(()),
         }
-        self.labels.resize(sizes.stops as usize);
-        self.work.resize(size.value as usize, 0);
-        self.queue_a.resize(4 * segments, 0);
-        self.queue_b.resize(4 * segments, 0);
-        self.candidates.resize(CANDIDATE_WORDS, 0);
     }
 
     fn areas(&mut self) -> Areas<'_> {
@@ -206,18 +212,44 @@ impl Tables {
     /// Answers a guest's question. On a plain day no journey beats it; on a steady day, which has delays (docs/PROMISE.md), none does by
     /// effective times. Both need tables that were built with the settings' `transfer_time` (see [`Settings`]). Refused by 1 to 6,
     /// 8 and 14.
-    pub fn query(&self, settings: Settings, query: &Query, workspace: &mut Workspace) -> Result<Answer, Refusal> {
-        self.ask(settings, Call::Query, query, workspace)
+    ///
+    /// One call for the screen. How long the workspace must be is asked by a call that is counted in a tally of the crate's own,
+    /// which is thrown away. Refused by 15, the workspace is as it came.
+    pub fn query(
+        &self,
+        tally: &mut Tally,
+        screen: u32,
+        settings: Settings,
+        query: &Query,
+        workspace: &mut Workspace,
+    ) -> Result<Answer, Refusal> {
+        self.ask(tally, screen, settings, Call::Query, query, workspace)
     }
 
-    /// Answers as the Rust does: also where arc flags are on and skip nothing. Refused by 1 to 6, 8 and 14.
-    pub fn run_tbr(&self, settings: Settings, query: &Query, workspace: &mut Workspace) -> Result<Answer, Refusal> {
-        self.ask(settings, Call::RunTbr, query, workspace)
+    /// Answers as the Rust does: also where arc flags are on and skip nothing. Refused by 1 to 6, 8 and 14. One call for the
+    /// screen, as [`query`](Tables::query) is.
+    pub fn run_tbr(
+        &self,
+        tally: &mut Tally,
+        screen: u32,
+        settings: Settings,
+        query: &Query,
+        workspace: &mut Workspace,
+    ) -> Result<Answer, Refusal> {
+        self.ask(tally, screen, settings, Call::RunTbr, query, workspace)
     }
 
-    fn ask(&self, settings: Settings, call: Call, q: &Query, w: &mut Workspace) -> Result<Answer, Refusal> {
+    fn ask(
+        &self,
+        tally: &mut Tally,
+        screen: u32,
+        settings: Settings,
+        call: Call,
+        q: &Query,
+        w: &mut Workspace,
+    ) -> Result<Answer, Refusal> {
         let sizes = q.sizes(self);
-        w.fit(settings, sizes, w.segments.unwrap_or(self.segments(q)));
+        w.fit(screen, settings, sizes, w.segments.unwrap_or(self.segments(q)))?;
         let (mut query, mut distances) = (std::mem::take(&mut w.query), std::mem::take(&mut w.distances));
         q.put_words(&mut query);
         distances.clear();
@@ -232,7 +264,7 @@ impl Tables {
             distances: &distances,
             query: &query,
         };
-        let reply = calls::ask(settings, call, &read, w.areas());
+        let reply = calls::ask(tally, screen, settings, call, &read, w.areas());
         (w.query, w.distances) = (query, distances);
         checked(reply.code).inspect_err(|_| w.labels.clear())?;
         Ok(Answer::of(reply, &w.candidates))
@@ -258,8 +290,11 @@ mod tests {
         let bad = Settings { candidate_slack: 21_601, ..Settings::DEFAULT };
         let (few, many) =
             (QuerySizes { stops: 3, ..QuerySizes::default() }, QuerySizes { stops: 4_097, ..QuerySizes::default() });
-        assert_eq!(calls::work_size(Settings::DEFAULT, few), Answer { code: 0, value: 143 });
-        assert_eq!(calls::work_size(bad, few), Answer { code: 14, value: 0 });
-        assert_eq!(calls::work_size(bad, many), Answer { code: 1, value: 0 });
+        let t = &mut Tally::new();
+        assert_eq!(calls::work_size(t, 63, Settings::DEFAULT, few), Answer { code: 0, value: 143 });
+        assert_eq!(calls::work_size(t, 63, bad, few), Answer { code: 14, value: 0 });
+        assert_eq!(calls::work_size(t, 63, bad, many), Answer { code: 1, value: 0 });
+        assert_eq!(calls::work_size(t, 64, bad, many), Answer { code: 15, value: 0 });
+        assert_eq!((t.answered(63), t.refused(63), t.total()), (1, 2, 3));
     }
 }

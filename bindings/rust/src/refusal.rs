@@ -2,10 +2,14 @@
 use crate::sys::{Answer, QUESTIONS};
 use std::fmt;
 
+/// The number of the question about the screen.
+pub(crate) const NO_SCREEN: u32 = 15;
+
 /// A refusal: the number of the first question at the door that was answered no.
 ///
 /// ```
-/// let refusal = savoiky::service_second(savoiky::Settings::DEFAULT, 48, 0, 0).unwrap_err();
+/// use savoiky::{service_second, Settings, Tally};
+/// let refusal = service_second(&mut Tally::new(), 0, Settings::DEFAULT, 48, 0, 0).unwrap_err();
 /// assert_eq!(refusal.number(), 5);
 /// assert_eq!(refusal.to_string(), "refused by question 5: Is every time and code in its range?");
 /// ```
@@ -13,7 +17,7 @@ use std::fmt;
 pub struct Refusal(u32);
 
 impl Refusal {
-    /// The question's number: 1 to 8, or 14, which every call asks, after 1 and before 2.
+    /// The question's number: 1 to 8, or one of two that every call asks, 14, after 1 and before 2, and 15, before all others.
     pub fn number(&self) -> u32 {
         self.0
     }

@@ -11,11 +11,12 @@ use crate::sys;
 /// not a plain one; with arc flags off the answer is the same all the same, since no transfer is read then.
 ///
 /// ```
-/// use savoiky::{max_rounds, Settings};
+/// use savoiky::{max_rounds, Settings, Tally};
+/// let mut tally = Tally::new();
 /// let settings = Settings { transfer_time: 180, ..Settings::DEFAULT };
-/// assert_eq!(max_rounds(settings, 0, 3), Ok(5));
+/// assert_eq!(max_rounds(&mut tally, 0, settings, 0, 3), Ok(5));
 /// let unheard = Settings { transfer_time: 3_601, ..Settings::DEFAULT };
-/// let refusal = max_rounds(unheard, 0, 3).unwrap_err();
+/// let refusal = max_rounds(&mut tally, 0, unheard, 0, 3).unwrap_err();
 /// assert_eq!(refusal.to_string(), "refused by question 14: Is every setting in its range?");
 /// ```
 #[derive(Clone, Copy, PartialEq, Eq, Hash, Debug)]

@@ -2,8 +2,9 @@
 // Written by bindings/generate: change crates/exports/src/lib.rt, not this file.
 
 // What each code says: the question that was answered no. In the order of asking.
-pub const QUESTIONS: [(u32, &str); 10] = [
+pub const QUESTIONS: [(u32, &str); 11] = [
     (0, "none: success"),
+    (15, "Is the screen one of 0 to 63?"),
     (1, "Are all counts within the limits?"),
     (14, "Is every setting in its range?"),
     (2, "Is every lent slice exactly as long as its counts say?"),
@@ -14,6 +15,14 @@ pub const QUESTIONS: [(u32, &str); 10] = [
     (7, "Building transfers: are there at most 65,536, and does the area hold all of them?"),
     (8, "Query: does a half of the segment queue hold every round's segments?"),
 ];
+
+#[repr(C)]
+#[derive(Clone, Copy, PartialEq, Debug)]
+pub struct Tally {
+    pub answered: [u32; 64],
+    pub refused: [u32; 64],
+}
+const _: () = assert!(std::mem::size_of::<Tally>() == 512 && std::mem::align_of::<Tally>() == 4);
 
 #[repr(C)]
 #[derive(Clone, Copy, PartialEq, Debug)]
@@ -129,61 +138,73 @@ pub struct Reply {
 const _: () = assert!(std::mem::size_of::<Reply>() == 16 && std::mem::align_of::<Reply>() == 4);
 
 extern "C" {
-    pub fn savoiky_cell_bitset_new(settings: Settings, num_cells: u32) -> CellSetAnswer;
-    pub fn savoiky_cell_bitset_ensure_sized(settings: Settings, set: CellBitSet, num_cells: u32) -> CellSetAnswer;
-    pub fn savoiky_cell_bitset_set_bit(settings: Settings, set: CellBitSet, cell: u32) -> CellSetAnswer;
-    pub fn savoiky_cell_bitset_get_bit(settings: Settings, set: CellBitSet, cell: u32) -> Answer;
-    pub fn savoiky_cell_bitset_intersects(settings: Settings, set: CellBitSet, other: CellBitSet) -> Answer;
-    pub fn savoiky_cell_bitset_union_with(settings: Settings, set: CellBitSet, other: CellBitSet) -> CellSetAnswer;
-    pub fn savoiky_cell_bitset_is_empty(settings: Settings, set: CellBitSet) -> Answer;
-    pub fn savoiky_walk_duration(settings: Settings, duration: u32, pathway_mode: u32, wheelchair: u32) -> Answer;
-    pub fn savoiky_max_rounds(settings: Settings, wanted: u32, transfers: u32) -> Answer;
-    pub fn savoiky_freq_board(settings: Settings, count: u32, windows: *const u32, windows_len: usize, base: u32, dep: u32,
-        after: u32) -> FreqAnswer;
-    pub fn savoiky_effective_departure(settings: Settings, departure: u32, trip_delay: u32, flags: u32,
-        departure_delay: u32) -> Answer;
-    pub fn savoiky_effective_arrival(settings: Settings, arrival: u32, time_shift_s: u32, trip_delay: u32, flags: u32,
-        arrival_delay: u32) -> Answer;
-    pub fn savoiky_skipped(settings: Settings, flags: u32) -> Answer;
-    pub fn savoiky_margin(settings: Settings, trips: u32, delay_row_count: u32, stop_row_count: u32, delay_rows: *const u32,
-        delay_rows_len: usize, stop_rows: *const u32, stop_rows_len: usize) -> Answer;
-    pub fn savoiky_delay_at(settings: Settings, trips: u32, delay_row_count: u32, stop_row_count: u32, delay_rows: *const u32,
-        delay_rows_len: usize, stop_rows: *const u32, stop_rows_len: usize, trip: u32, sequence: u32) -> DelayAt;
-    pub fn savoiky_service_second(settings: Settings, hour: u32, minute: u32, second: u32) -> Answer;
-    pub fn savoiky_label_store_access(settings: Settings, stops: u32, stop: u32, row: u32, stop_idx: u32, arrival_s: u32,
-        walk_duration: u32, walk_distance: f64, labels: *mut u32, labels_len: usize, label_distances: *mut f64,
-        label_distances_len: usize) -> u32;
-    pub fn savoiky_label_store_transit(settings: Settings, stops: u32, stop: u32, row: u32, arrival_s: u32, trip_idx: u32,
-        board_stop: u32, board_off: u32, alight_off: u32, prev_round: u32, time_shift_s: u32, labels: *mut u32, labels_len: usize,
+    pub fn savoiky_cell_bitset_new(tally: *mut Tally, screen: u32, settings: Settings, num_cells: u32) -> CellSetAnswer;
+    pub fn savoiky_cell_bitset_ensure_sized(tally: *mut Tally, screen: u32, settings: Settings, set: CellBitSet,
+        num_cells: u32) -> CellSetAnswer;
+    pub fn savoiky_cell_bitset_set_bit(tally: *mut Tally, screen: u32, settings: Settings, set: CellBitSet,
+        cell: u32) -> CellSetAnswer;
+    pub fn savoiky_cell_bitset_get_bit(tally: *mut Tally, screen: u32, settings: Settings, set: CellBitSet, cell: u32) -> Answer;
+    pub fn savoiky_cell_bitset_intersects(tally: *mut Tally, screen: u32, settings: Settings, set: CellBitSet,
+        other: CellBitSet) -> Answer;
+    pub fn savoiky_cell_bitset_union_with(tally: *mut Tally, screen: u32, settings: Settings, set: CellBitSet,
+        other: CellBitSet) -> CellSetAnswer;
+    pub fn savoiky_cell_bitset_is_empty(tally: *mut Tally, screen: u32, settings: Settings, set: CellBitSet) -> Answer;
+    pub fn savoiky_walk_duration(tally: *mut Tally, screen: u32, settings: Settings, duration: u32, pathway_mode: u32,
+        wheelchair: u32) -> Answer;
+    pub fn savoiky_max_rounds(tally: *mut Tally, screen: u32, settings: Settings, wanted: u32, transfers: u32) -> Answer;
+    pub fn savoiky_freq_board(tally: *mut Tally, screen: u32, settings: Settings, count: u32, windows: *const u32,
+        windows_len: usize, base: u32, dep: u32, after: u32) -> FreqAnswer;
+    pub fn savoiky_effective_departure(tally: *mut Tally, screen: u32, settings: Settings, departure: u32, trip_delay: u32,
+        flags: u32, departure_delay: u32) -> Answer;
+    pub fn savoiky_effective_arrival(tally: *mut Tally, screen: u32, settings: Settings, arrival: u32, time_shift_s: u32,
+        trip_delay: u32, flags: u32, arrival_delay: u32) -> Answer;
+    pub fn savoiky_skipped(tally: *mut Tally, screen: u32, settings: Settings, flags: u32) -> Answer;
+    pub fn savoiky_margin(tally: *mut Tally, screen: u32, settings: Settings, trips: u32, delay_row_count: u32,
+        stop_row_count: u32, delay_rows: *const u32, delay_rows_len: usize, stop_rows: *const u32,
+        stop_rows_len: usize) -> Answer;
+    pub fn savoiky_delay_at(tally: *mut Tally, screen: u32, settings: Settings, trips: u32, delay_row_count: u32,
+        stop_row_count: u32, delay_rows: *const u32, delay_rows_len: usize, stop_rows: *const u32, stop_rows_len: usize,
+        trip: u32, sequence: u32) -> DelayAt;
+    pub fn savoiky_service_second(tally: *mut Tally, screen: u32, settings: Settings, hour: u32, minute: u32,
+        second: u32) -> Answer;
+    pub fn savoiky_label_store_access(tally: *mut Tally, screen: u32, settings: Settings, stops: u32, stop: u32, row: u32,
+        stop_idx: u32, arrival_s: u32, walk_duration: u32, walk_distance: f64, labels: *mut u32, labels_len: usize,
         label_distances: *mut f64, label_distances_len: usize) -> u32;
-    pub fn savoiky_label_store_walk(settings: Settings, stops: u32, stop: u32, row: u32, arrival_s: u32, from_stop: u32,
-        to_stop: u32, duration_s: u32, distance_m: f64, prev_round: u32, labels: *mut u32, labels_len: usize,
-        label_distances: *mut f64, label_distances_len: usize) -> u32;
-    pub fn savoiky_label_load(settings: Settings, stops: u32, stop: u32, row: u32, labels: *const u32, labels_len: usize,
-        label_distances: *const f64, label_distances_len: usize) -> LabelAnswer;
-    pub fn savoiky_sort_stop_departures(settings: Settings, stops: u32, trips: u32, times: u32, windows: u32, edges: u32,
-        departures: u32, tables: *const u32, tables_len: usize, runs: *const u32, runs_len: usize, rows: *mut u32,
-        rows_len: usize, marks: *mut u32, marks_len: usize, work: *mut u64, work_len: usize, other: *mut u64,
+    pub fn savoiky_label_store_transit(tally: *mut Tally, screen: u32, settings: Settings, stops: u32, stop: u32, row: u32,
+        arrival_s: u32, trip_idx: u32, board_stop: u32, board_off: u32, alight_off: u32, prev_round: u32, time_shift_s: u32,
+        labels: *mut u32, labels_len: usize, label_distances: *mut f64, label_distances_len: usize) -> u32;
+    pub fn savoiky_label_store_walk(tally: *mut Tally, screen: u32, settings: Settings, stops: u32, stop: u32, row: u32,
+        arrival_s: u32, from_stop: u32, to_stop: u32, duration_s: u32, distance_m: f64, prev_round: u32, labels: *mut u32,
+        labels_len: usize, label_distances: *mut f64, label_distances_len: usize) -> u32;
+    pub fn savoiky_label_load(tally: *mut Tally, screen: u32, settings: Settings, stops: u32, stop: u32, row: u32,
+        labels: *const u32, labels_len: usize, label_distances: *const f64, label_distances_len: usize) -> LabelAnswer;
+    pub fn savoiky_sort_stop_departures(tally: *mut Tally, screen: u32, settings: Settings, stops: u32, trips: u32, times: u32,
+        windows: u32, edges: u32, departures: u32, tables: *const u32, tables_len: usize, runs: *const u32, runs_len: usize,
+        rows: *mut u32, rows_len: usize, marks: *mut u32, marks_len: usize, work: *mut u64, work_len: usize, other: *mut u64,
         other_len: usize) -> u32;
-    pub fn savoiky_compute_line_groups(settings: Settings, stops: u32, trips: u32, times: u32, windows: u32, edges: u32,
-        tables: *const u32, tables_len: usize, lines: *mut u32, lines_len: usize, runs: *mut u32, runs_len: usize,
-        entries: *mut u32, entries_len: usize, work: *mut u64, work_len: usize, other: *mut u64, other_len: usize) -> Answer;
-    pub fn savoiky_line_layout(settings: Settings, stops: u32, trips: u32, times: u32, windows: u32, edges: u32, lines: u32,
-        entry_count: u32, tables: *const u32, tables_len: usize, runs: *const u32, runs_len: usize, entries: *const u32,
-        entries_len: usize, positions: *mut u32, positions_len: usize, fifo: *mut u32, fifo_len: usize) -> u32;
-    pub fn savoiky_compute_trip_transfers(settings: Settings, stops: u32, trips: u32, times: u32, windows: u32, edges: u32,
-        line_count: u32, departures: u32, tables: *const u32, tables_len: usize, lines: *const u32, lines_len: usize,
-        runs: *const u32, runs_len: usize, rows: *const u32, rows_len: usize, area: *mut u32, area_len: usize,
+    pub fn savoiky_compute_line_groups(tally: *mut Tally, screen: u32, settings: Settings, stops: u32, trips: u32, times: u32,
+        windows: u32, edges: u32, tables: *const u32, tables_len: usize, lines: *mut u32, lines_len: usize, runs: *mut u32,
+        runs_len: usize, entries: *mut u32, entries_len: usize, work: *mut u64, work_len: usize, other: *mut u64,
+        other_len: usize) -> Answer;
+    pub fn savoiky_line_layout(tally: *mut Tally, screen: u32, settings: Settings, stops: u32, trips: u32, times: u32,
+        windows: u32, edges: u32, lines: u32, entry_count: u32, tables: *const u32, tables_len: usize, runs: *const u32,
+        runs_len: usize, entries: *const u32, entries_len: usize, positions: *mut u32, positions_len: usize, fifo: *mut u32,
+        fifo_len: usize) -> u32;
+    pub fn savoiky_compute_trip_transfers(tally: *mut Tally, screen: u32, settings: Settings, stops: u32, trips: u32, times: u32,
+        windows: u32, edges: u32, line_count: u32, departures: u32, tables: *const u32, tables_len: usize, lines: *const u32,
+        lines_len: usize, runs: *const u32, runs_len: usize, rows: *const u32, rows_len: usize, area: *mut u32, area_len: usize,
         transfer_runs: *mut u32, transfer_runs_len: usize) -> Answer;
-    pub fn savoiky_work_size(settings: Settings, sizes: QuerySizes) -> Answer;
-    pub fn savoiky_run_tbr(settings: Settings, sizes: QuerySizes, tables: *const u32, tables_len: usize, built: *const u32,
-        built_len: usize, transfers: *const u32, transfers_len: usize, patterns: *const u8, patterns_len: usize,
-        distances: *const f64, distances_len: usize, query: *const u32, query_len: usize, labels: *mut u32, labels_len: usize,
-        label_distances: *mut f64, label_distances_len: usize, work: *mut u32, work_len: usize, queue_a: *mut u32,
-        queue_a_len: usize, queue_b: *mut u32, queue_b_len: usize, candidates: *mut u32, candidates_len: usize) -> Reply;
-    pub fn savoiky_query(settings: Settings, sizes: QuerySizes, tables: *const u32, tables_len: usize, built: *const u32,
-        built_len: usize, transfers: *const u32, transfers_len: usize, patterns: *const u8, patterns_len: usize,
-        distances: *const f64, distances_len: usize, query: *const u32, query_len: usize, labels: *mut u32, labels_len: usize,
-        label_distances: *mut f64, label_distances_len: usize, work: *mut u32, work_len: usize, queue_a: *mut u32,
-        queue_a_len: usize, queue_b: *mut u32, queue_b_len: usize, candidates: *mut u32, candidates_len: usize) -> Reply;
+    pub fn savoiky_work_size(tally: *mut Tally, screen: u32, settings: Settings, sizes: QuerySizes) -> Answer;
+    pub fn savoiky_run_tbr(tally: *mut Tally, screen: u32, settings: Settings, sizes: QuerySizes, tables: *const u32,
+        tables_len: usize, built: *const u32, built_len: usize, transfers: *const u32, transfers_len: usize, patterns: *const u8,
+        patterns_len: usize, distances: *const f64, distances_len: usize, query: *const u32, query_len: usize, labels: *mut u32,
+        labels_len: usize, label_distances: *mut f64, label_distances_len: usize, work: *mut u32, work_len: usize,
+        queue_a: *mut u32, queue_a_len: usize, queue_b: *mut u32, queue_b_len: usize, candidates: *mut u32,
+        candidates_len: usize) -> Reply;
+    pub fn savoiky_query(tally: *mut Tally, screen: u32, settings: Settings, sizes: QuerySizes, tables: *const u32,
+        tables_len: usize, built: *const u32, built_len: usize, transfers: *const u32, transfers_len: usize, patterns: *const u8,
+        patterns_len: usize, distances: *const f64, distances_len: usize, query: *const u32, query_len: usize, labels: *mut u32,
+        labels_len: usize, label_distances: *mut f64, label_distances_len: usize, work: *mut u32, work_len: usize,
+        queue_a: *mut u32, queue_a_len: usize, queue_b: *mut u32, queue_b_len: usize, candidates: *mut u32,
+        candidates_len: usize) -> Reply;
 }

@@ -253,11 +253,11 @@ impl Departures {
 /// The trips may be laid out by hand, or added one by one:
 ///
 /// ```
-/// use savoiky::{Settings, Stop, StopTime, Timetable};
+/// use savoiky::{Settings, Stop, StopTime, Tally, Timetable};
 /// let mut t = Timetable { stops: vec![Stop::default(); 2], ..Timetable::default() };
 /// t.add_trip(&[StopTime::new(0, 100, 100), StopTime::new(1, 200, 200)]).excluded = false;
 /// t.list_departures();
-/// let tables = t.build(Settings::DEFAULT)?;
+/// let tables = t.build(&mut Tally::new(), 0, Settings::DEFAULT)?;
 /// assert_eq!(tables.built().lines.of_trip, [0]);
 /// # Ok::<(), savoiky::Refusal>(())
 /// ```

@@ -1,30 +1,35 @@
-// exports: every call of the library for C and Rust, thin: each is a leaf's own call under a C name, with its contract.
-// Numbers and structs pass as themselves, a slice as a pointer and a length. No call has a `requires`: what the door of
-// document 01 does not admit is refused by the number of the first question answered no, and what was lent is as it came.
+// exports: every call of the library for C and Rust. Each asks question 15 (the screen), makes the call of its crate, counts it in the box's tally
+// and hands the answer on, under a C name and with the whole contract: `outcome` (the call's own, or 15 with everything as it came) and `counts`
+// (the tally at exit).
+// Numbers and structs pass as themselves, a slice as a pointer and a length, the tally as a pointer. No call has a `requires`: what the door of
+// document 01 does not admit is refused by the number of the first question answered no, and what was lent is as it came, the tally aside.
 // The comments above calls and structs, and those that stand alone, go into the C header (bindings/generate).
 // Place: the library's own crate.
-// Specs (a claim): what a call shows of an outcome (Shown).
-// Proves: each call's whole outcome is the leaf's definition of it.
+// Proves: each call's whole outcome is its crate's definition of it, for a screen of 0 to 63; the tally at exit, on every input.
 // Assumes nothing.
 ghost use mathlib.Core.Path.{_≡_};
+ghost use Rattle.tally.specs.Screen.{forScreen, tallyAfter};
+ghost use Rattle.door.specs.Door.{refusal};
+ghost use Rattle.cell_bitset.specs.CellSet.{emptySet};
 ghost use Rattle.cell_set_call.specs.CellSetCall.{created, resized, withCellAnswer, heldAnswer, meetsAnswer, unionAnswer, emptyAnswer};
 ghost use Rattle.leaf_calls.specs.WalkCall.{walkDuration, roundsAnswer};
-ghost use Rattle.frequency_call.specs.FrequencyCall.{freqOutcome};
+ghost use Rattle.frequency_call.specs.FrequencyCall.{noBoard, freqOutcome};
 ghost use Rattle.leaf_calls.specs.StopDelayCall.{departureOutcome, arrivalOutcome, skippedOutcome};
-ghost use Rattle.delay_call.specs.DelayCall.{marginOutcome, delayAtOutcome};
-ghost use Rattle.label_call.specs.Calls.{labelOutcome, storeOutcome, loadAnswer};
+ghost use Rattle.stop_delay.specs.Times.{noDelay};
+ghost use Rattle.delay_call.specs.DelayCall.{told, marginOutcome, delayAtOutcome};
+ghost use Rattle.label_call.specs.Calls.{labelOutcome, storeOutcome, refusedLabel, loadAnswer};
 ghost use Rattle.label.specs.declared.Label.the-variants.{Access, Transit, Walk};
 ghost use Rattle.leaf_calls.specs.ClockCall.{serviceSecond};
 ghost use Rattle.departures_call.specs.Call.{sortAreas, sortOutcomeOf, sortOutcome};
-ghost use Rattle.lines_call.specs.Call.{lineAreas, linesAnswer, linesOutcome};
+ghost use Rattle.lines_call.specs.Call.{lineAreas, linesOutcome};
 ghost use Rattle.layout_call.specs.Call.{layoutAreas, layoutOutcomeOf, layoutOutcome};
-ghost use Rattle.transfers_call.specs.Call.{transferAreas, transfersAnswer, transferLent, transfersOutcome};
+ghost use Rattle.transfers_call.specs.Call.{transferAreas, transferLent, transfersOutcome};
 ghost use Rattle.query_input.specs.Lent.{lent};
 ghost use Rattle.query_call.specs.Workspace.{workspaceAnswer};
-ghost use Rattle.query_reply.specs.Outcome.{queryAreas};
+ghost use Rattle.query_reply.specs.Outcome.{queryAreas, refused};
 ghost use Rattle.query_call.specs.Call.{runTbrOutcome, queryOutcome};
 ghost use Rattle.sizes.specs.Counts.{countsOf, queryCountsOf};
-ghost use Rattle.exports.specs.Shown.{shown, shownOf, shownTransfers, shownTransfersOf};
+ghost use Rattle.sized_calls.specs.Shown.{shown, shownOf, shownTransfers, shownTransfersOf};
 use cell_bitset::CellBitSet;
 use cell_set_call::CellSetAnswer;
 use delay_call::DelayAt;
@@ -32,15 +37,17 @@ use door::Answer;
 use door::Settings;
 use frequency_call::FreqAnswer;
 use label_call::LabelAnswer;
-use lines_call::Grouped;
 use query_reply::Reply;
 use sizes::QuerySizes;
-use transfers_call::Built;
+
+// The last screen: a number above it is no screen (question 15).
+const LAST_SCREEN: u32 = 63;
 
 // RULES OF EVERY CALL. A slice is lent as a pointer to its first element and the number of its elements. The pointer is not
-// null and is aligned for its elements, also where the number is 0 (then nothing is read or written through it). A slice
-// that is written overlaps no other lent one, and nothing else touches lent memory during the call. A call keeps no pointer,
-// allocates nothing and has no state, so calls on different memory may run at the same time.
+// null and is aligned for its elements, also where the number is 0 (then nothing is read or written through it). The tally is
+// lent as a pointer to the box's record. What is written overlaps nothing else that is lent, and nothing else touches lent
+// memory during the call. A call keeps no pointer, allocates nothing and has no state, so calls on different memory (each with
+// a tally of its own) may run at the same time.
 // A word is a u32 (uint32_t), a distance an f64 (double). Times and durations are seconds, from 0 to 1,048,575. Signed numbers
 // (delays, time_shift_s) are the bits of an i32. Stops, trips, lines and rows are numbered from 0; an offset counts a trip's stop
 // times from 0. A run is two words: its first row and its length; runs may overlap, leave gaps and stand in any order. What is
@@ -48,6 +55,7 @@ use transfers_call::Built;
 
 // CODES. A call answers 0, or the number of the first of its questions that is answered no:
 //   0  none: success
+//  15  Is the screen one of 0 to 63? Every call asks this before all else; where not, nothing is touched, the tally neither.
 //   1  Are all counts within the limits? (4,096 stops, trips, lines, line entries, patterns, delay rows and stop rows; 65,536
 //      stop times, walk edges, departures, windows and transfers; 512 cells; 64 origins; 64 egress stops)
 //  14  Is every setting in its range? Every call asks this, after 1 and before 2.
@@ -60,8 +68,14 @@ use transfers_call::Built;
 //   6  Are walk edges, delay rows, stop rows, egress stops and, for a query, departures in order?
 //   7  Building transfers: are there at most 65,536, and does the area hold all of them?
 //   8  Query: does a half of the segment queue hold every round's segments?
-// After a refusal everything lent is as it came, a set that was handed in is handed back, and the other fields of the answer are 0;
-// after 8 the labels, their distances, the workspace and both halves of the queue are zero.
+// After a refusal everything lent is as it came, the tally aside, a set that was handed in is handed back, and the other fields of
+// the answer are 0; after 8 the labels, their distances, the workspace and both halves of the queue are zero. What is said below of a
+// call's questions leaves 15 out.
+
+// TALLY: the box owns one record of the answered and refused calls of each screen, 0 to 63, zero at first, and lends it to every call
+// with the number of the screen that the call is made for. The call adds one to that screen: to answered where its code is 0 ("no way"
+// is answered), else to refused. A count at 4,294,967,295 stays there. A screen above 63 is refused by 15 and counts nowhere. What a
+// call answers does not depend on the tally, and what a screen's tally shows does not depend on the calls of other screens.
 
 // SETTINGS OF THE HOUSE: four numbers that every call receives. Most calls only ask whether they are in their ranges (14). Transfers are
 // built with transfer_time; the margin is cut at margin_cap; a query reads line_scan, candidate_slack and margin_cap. Journeys on a plain
@@ -71,79 +85,144 @@ use transfers_call::Built;
 
 // An empty set for so many cells: whole groups of 64 are reserved. Question 1: at most 512 cells.
 #[no_mangle]
-pub extern "C" fn savoiky_cell_bitset_new(settings: Settings, num_cells: u32) -> CellSetAnswer
-    ensures { λ r. ⌜ r ≡ created settings «num_cells» ⌝ }
+pub extern "C" fn savoiky_cell_bitset_new(
+    tally: &mut [u32; 128],
+    screen: u32,
+    settings: Settings,
+    num_cells: u32,
+) -> CellSetAnswer
+    ensures outcome { λ r. ⌜ r ≡ forScreen screen (record { code = 15; set = emptySet 0 }) (created settings «num_cells») ⌝ }
+    ensures counts { λ r. ⌜ now (tally .exit) ≡ tallyAfter (now (tally .entry)) screen (r .code) ⌝ }
 {
-    cell_set_call::create(settings, num_cells)
+    if LAST_SCREEN < screen {
+        return CellSetAnswer {
+            code: 15,
+            set: CellBitSet::new(0),
+        };
+    }
+    let made = cell_set_call::create(settings, num_cells);
+    tally::count_call(tally, screen, made.code);
+    made
 }
 
 // The set with at least the groups of so many cells reserved; it holds the same cells. Question 1: at most 512 cells; refused, the
 // set is as it came.
 #[no_mangle]
 pub extern "C" fn savoiky_cell_bitset_ensure_sized(
+    tally: &mut [u32; 128],
+    screen: u32,
     settings: Settings,
     set: CellBitSet,
     num_cells: u32,
 ) -> CellSetAnswer
-    ensures { λ r. ⌜ r ≡ resized settings set «num_cells» ⌝ }
+    ensures outcome { λ r. ⌜ r ≡ forScreen screen (record { code = 15; set = set }) (resized settings set «num_cells») ⌝ }
+    ensures counts { λ r. ⌜ now (tally .exit) ≡ tallyAfter (now (tally .entry)) screen (r .code) ⌝ }
 {
-    cell_set_call::resize(settings, set, num_cells)
+    if LAST_SCREEN < screen {
+        return CellSetAnswer { code: 15, set: set };
+    }
+    let sized = cell_set_call::resize(settings, set, num_cells);
+    tally::count_call(tally, screen, sized.code);
+    sized
 }
 
 // The set with this cell; a cell past the reserved groups is dropped. Question 14 alone; refused, the set is as it came.
 #[no_mangle]
 pub extern "C" fn savoiky_cell_bitset_set_bit(
+    tally: &mut [u32; 128],
+    screen: u32,
     settings: Settings,
     set: CellBitSet,
     cell: u32,
 ) -> CellSetAnswer
-    ensures { λ r. ⌜ r ≡ withCellAnswer settings set cell ⌝ }
+    ensures outcome { λ r. ⌜ r ≡ forScreen screen (record { code = 15; set = set }) (withCellAnswer settings set cell) ⌝ }
+    ensures counts { λ r. ⌜ now (tally .exit) ≡ tallyAfter (now (tally .entry)) screen (r .code) ⌝ }
 {
-    cell_set_call::set_bit(settings, set, cell)
+    if LAST_SCREEN < screen {
+        return CellSetAnswer { code: 15, set: set };
+    }
+    let changed = cell_set_call::set_bit(settings, set, cell);
+    tally::count_call(tally, screen, changed.code);
+    changed
 }
 
 // Is this cell in the set? The value: 1 for yes, else 0. Question 14 alone.
 #[no_mangle]
 pub extern "C" fn savoiky_cell_bitset_get_bit(
+    tally: &mut [u32; 128],
+    screen: u32,
     settings: Settings,
     set: CellBitSet,
     cell: u32,
 ) -> Answer
-    ensures { λ r. ⌜ r ≡ heldAnswer settings set cell ⌝ }
+    ensures outcome { λ r. ⌜ r ≡ forScreen screen (refusal 15) (heldAnswer settings set cell) ⌝ }
+    ensures counts { λ r. ⌜ now (tally .exit) ≡ tallyAfter (now (tally .entry)) screen (r .code) ⌝ }
 {
-    cell_set_call::get_bit(settings, set, cell)
+    if LAST_SCREEN < screen {
+        return door::refused(15);
+    }
+    let held = cell_set_call::get_bit(settings, set, cell);
+    tally::count_call(tally, screen, held.code);
+    held
 }
 
 // Have the sets a cell in common? The value: 1 for yes, else 0. Question 14 alone.
 #[no_mangle]
 pub extern "C" fn savoiky_cell_bitset_intersects(
+    tally: &mut [u32; 128],
+    screen: u32,
     settings: Settings,
     set: CellBitSet,
     other: CellBitSet,
 ) -> Answer
-    ensures { λ r. ⌜ r ≡ meetsAnswer settings set other ⌝ }
+    ensures outcome { λ r. ⌜ r ≡ forScreen screen (refusal 15) (meetsAnswer settings set other) ⌝ }
+    ensures counts { λ r. ⌜ now (tally .exit) ≡ tallyAfter (now (tally .entry)) screen (r .code) ⌝ }
 {
-    cell_set_call::intersects(settings, set, other)
+    if LAST_SCREEN < screen {
+        return door::refused(15);
+    }
+    let met = cell_set_call::intersects(settings, set, other);
+    tally::count_call(tally, screen, met.code);
+    met
 }
 
 // The set with the cells of the other, and room for them. Question 14 alone; refused, the set is as it came.
 #[no_mangle]
 pub extern "C" fn savoiky_cell_bitset_union_with(
+    tally: &mut [u32; 128],
+    screen: u32,
     settings: Settings,
     set: CellBitSet,
     other: CellBitSet,
 ) -> CellSetAnswer
-    ensures { λ r. ⌜ r ≡ unionAnswer settings set other ⌝ }
+    ensures outcome { λ r. ⌜ r ≡ forScreen screen (record { code = 15; set = set }) (unionAnswer settings set other) ⌝ }
+    ensures counts { λ r. ⌜ now (tally .exit) ≡ tallyAfter (now (tally .entry)) screen (r .code) ⌝ }
 {
-    cell_set_call::union_with(settings, set, other)
+    if LAST_SCREEN < screen {
+        return CellSetAnswer { code: 15, set: set };
+    }
+    let united = cell_set_call::union_with(settings, set, other);
+    tally::count_call(tally, screen, united.code);
+    united
 }
 
 // Does the set hold no cell? The value: 1 for yes, else 0. Question 14 alone.
 #[no_mangle]
-pub extern "C" fn savoiky_cell_bitset_is_empty(settings: Settings, set: CellBitSet) -> Answer
-    ensures { λ r. ⌜ r ≡ emptyAnswer settings set ⌝ }
+pub extern "C" fn savoiky_cell_bitset_is_empty(
+    tally: &mut [u32; 128],
+    screen: u32,
+    settings: Settings,
+    set: CellBitSet,
+) -> Answer
+    ensures outcome { λ r. ⌜ r ≡ forScreen screen (refusal 15) (emptyAnswer settings set) ⌝ }
+    ensures counts { λ r. ⌜ now (tally .exit) ≡ tallyAfter (now (tally .entry)) screen (r .code) ⌝ }
 {
-    cell_set_call::is_empty(settings, set)
+    if LAST_SCREEN < screen {
+        return door::refused(15);
+    }
+    let empty = cell_set_call::is_empty(settings, set);
+    tally::count_call(tally, screen, empty.code);
+    empty
 }
 
 // WALKS AND ROUNDS, FREQUENCY TRIPS, DELAYS, CLOCK READINGS: the leaves of a query, for a caller's own reckoning.
@@ -152,22 +231,42 @@ pub extern "C" fn savoiky_cell_bitset_is_empty(settings: Settings, set: CellBitS
 // Question 5: duration at most 1,048,575, pathway mode at most 7, wheelchair at most 1.
 #[no_mangle]
 pub extern "C" fn savoiky_walk_duration(
+    tally: &mut [u32; 128],
+    screen: u32,
     settings: Settings,
     duration: u32,
     pathway_mode: u32,
     wheelchair: u32,
 ) -> Answer
-    ensures { λ r. ⌜ r ≡ walkDuration settings duration «pathway_mode» wheelchair ⌝ }
+    ensures outcome { λ r. ⌜ r ≡ forScreen screen (refusal 15) (walkDuration settings duration «pathway_mode» wheelchair) ⌝ }
+    ensures counts { λ r. ⌜ now (tally .exit) ≡ tallyAfter (now (tally .entry)) screen (r .code) ⌝ }
 {
-    leaf_calls::walk_duration(settings, duration, pathway_mode, wheelchair)
+    if LAST_SCREEN < screen {
+        return door::refused(15);
+    }
+    let walk = leaf_calls::walk_duration(settings, duration, pathway_mode, wheelchair);
+    tally::count_call(tally, screen, walk.code);
+    walk
 }
 
 // The rounds of a query: min(12, max(wanted, transfers + 2, 4)). Any numbers; question 14 alone.
 #[no_mangle]
-pub extern "C" fn savoiky_max_rounds(settings: Settings, wanted: u32, transfers: u32) -> Answer
-    ensures { λ r. ⌜ r ≡ roundsAnswer settings wanted transfers ⌝ }
+pub extern "C" fn savoiky_max_rounds(
+    tally: &mut [u32; 128],
+    screen: u32,
+    settings: Settings,
+    wanted: u32,
+    transfers: u32,
+) -> Answer
+    ensures outcome { λ r. ⌜ r ≡ forScreen screen (refusal 15) (roundsAnswer settings wanted transfers) ⌝ }
+    ensures counts { λ r. ⌜ now (tally .exit) ≡ tallyAfter (now (tally .entry)) screen (r .code) ⌝ }
 {
-    leaf_calls::max_rounds(settings, wanted, transfers)
+    if LAST_SCREEN < screen {
+        return door::refused(15);
+    }
+    let rounds = leaf_calls::max_rounds(settings, wanted, transfers);
+    tally::count_call(tally, screen, rounds.code);
+    rounds
 }
 
 // The earliest run of a frequency trip that leaves here no sooner than `after`: `count` windows of three words each (start,
@@ -176,6 +275,8 @@ pub extern "C" fn savoiky_max_rounds(settings: Settings, wanted: u32, transfers:
 // 5 (every number at most 1,048,575).
 #[no_mangle]
 pub extern "C" fn savoiky_freq_board(
+    tally: &mut [u32; 128],
+    screen: u32,
     settings: Settings,
     count: u32,
     windows: &[u32],
@@ -183,30 +284,52 @@ pub extern "C" fn savoiky_freq_board(
     dep: u32,
     after: u32,
 ) -> FreqAnswer
-    ensures { λ r. ⌜ r ≡ freqOutcome settings count (now (windows .entry)) base dep after ⌝ }
+    ensures outcome { λ r. ⌜ r ≡ forScreen screen (noBoard 15) (freqOutcome settings count (now (windows .entry)) base dep after) ⌝ }
+    ensures counts { λ r. ⌜ now (tally .exit) ≡ tallyAfter (now (tally .entry)) screen (r .code) ⌝ }
 {
-    frequency_call::freq_board(settings, count, windows, base, dep, after)
+    if LAST_SCREEN < screen {
+        return frequency_call::no_board(15);
+    }
+    let board = frequency_call::freq_board(settings, count, windows, base, dep, after);
+    tally::count_call(tally, screen, board.code);
+    board
 }
 
 // The departure under delays: flags 1 departure given at the stop, 2 arrival given, 4 skipped, added. By its own delay where
 // one is given, else by the trip's; at least 0. Question 5: times and sizes of delays at most 1,048,575, flags at most 7.
 #[no_mangle]
 pub extern "C" fn savoiky_effective_departure(
+    tally: &mut [u32; 128],
+    screen: u32,
     settings: Settings,
     departure: u32,
     trip_delay: u32,
     flags: u32,
     departure_delay: u32,
 ) -> Answer
-    ensures { λ r. ⌜ r ≡ departureOutcome settings departure «trip_delay» flags «departure_delay» ⌝ }
+    ensures outcome { λ r. ⌜ r ≡ forScreen screen (refusal 15) (departureOutcome settings departure «trip_delay» flags «departure_delay») ⌝ }
+    ensures counts { λ r. ⌜ now (tally .exit) ≡ tallyAfter (now (tally .entry)) screen (r .code) ⌝ }
 {
-    leaf_calls::effective_departure(settings, departure, trip_delay, flags, departure_delay)
+    if LAST_SCREEN < screen {
+        return door::refused(15);
+    }
+    let departs = leaf_calls::effective_departure(
+        settings,
+        departure,
+        trip_delay,
+        flags,
+        departure_delay,
+    );
+    tally::count_call(tally, screen, departs.code);
+    departs
 }
 
 // The arrival under delays: where the stop has either time given, by its own delay, else the trip's, and no shift; where not,
 // by the shift alone; at least 0. Question 5, as above.
 #[no_mangle]
 pub extern "C" fn savoiky_effective_arrival(
+    tally: &mut [u32; 128],
+    screen: u32,
     settings: Settings,
     arrival: u32,
     time_shift_s: u32,
@@ -214,24 +337,41 @@ pub extern "C" fn savoiky_effective_arrival(
     flags: u32,
     arrival_delay: u32,
 ) -> Answer
-    ensures { λ r. ⌜ r ≡ arrivalOutcome settings arrival «time_shift_s» «trip_delay» flags «arrival_delay» ⌝ }
+    ensures outcome { λ r. ⌜ r ≡ forScreen screen (refusal 15) (arrivalOutcome settings arrival «time_shift_s» «trip_delay» flags «arrival_delay») ⌝ }
+    ensures counts { λ r. ⌜ now (tally .exit) ≡ tallyAfter (now (tally .entry)) screen (r .code) ⌝ }
 {
-    leaf_calls::effective_arrival(
+    if LAST_SCREEN < screen {
+        return door::refused(15);
+    }
+    let arrives = leaf_calls::effective_arrival(
         settings,
         arrival,
         time_shift_s,
         trip_delay,
         flags,
         arrival_delay,
-    )
+    );
+    tally::count_call(tally, screen, arrives.code);
+    arrives
 }
 
 // 1 where the flags say skipped, else 0. Question 5: flags at most 7.
 #[no_mangle]
-pub extern "C" fn savoiky_skipped(settings: Settings, flags: u32) -> Answer
-    ensures { λ r. ⌜ r ≡ skippedOutcome settings flags ⌝ }
+pub extern "C" fn savoiky_skipped(
+    tally: &mut [u32; 128],
+    screen: u32,
+    settings: Settings,
+    flags: u32,
+) -> Answer
+    ensures outcome { λ r. ⌜ r ≡ forScreen screen (refusal 15) (skippedOutcome settings flags) ⌝ }
+    ensures counts { λ r. ⌜ now (tally .exit) ≡ tallyAfter (now (tally .entry)) screen (r .code) ⌝ }
 {
-    leaf_calls::skipped(settings, flags)
+    if LAST_SCREEN < screen {
+        return door::refused(15);
+    }
+    let skips = leaf_calls::skipped(settings, flags);
+    tally::count_call(tally, screen, skips.code);
+    skips
 }
 
 // The delay margin: the largest size among trip delays and given stop delays, at most margin_cap. Delay rows of two words (trip,
@@ -239,6 +379,8 @@ pub extern "C" fn savoiky_skipped(settings: Settings, flags: u32) -> Answer
 // sequence, flags as above, departure delay, arrival delay), strictly rising by delay row, then sequence. Questions 1, 2, 4, 5, 6.
 #[no_mangle]
 pub extern "C" fn savoiky_margin(
+    tally: &mut [u32; 128],
+    screen: u32,
     settings: Settings,
     trips: u32,
     delay_row_count: u32,
@@ -246,23 +388,31 @@ pub extern "C" fn savoiky_margin(
     delay_rows: &[u32],
     stop_rows: &[u32],
 ) -> Answer
-    ensures { λ r. ⌜ r ≡ marginOutcome settings trips «delay_row_count» «stop_row_count»
-        (now («delay_rows» .entry)) (now («stop_rows» .entry)) ⌝ }
+    ensures outcome { λ r. ⌜ r ≡ forScreen screen (refusal 15)
+        (marginOutcome settings trips «delay_row_count» «stop_row_count» (now («delay_rows» .entry)) (now («stop_rows» .entry))) ⌝ }
+    ensures counts { λ r. ⌜ now (tally .exit) ≡ tallyAfter (now (tally .entry)) screen (r .code) ⌝ }
 {
-    delay_call::margin(
+    if LAST_SCREEN < screen {
+        return door::refused(15);
+    }
+    let margin = delay_call::margin(
         settings,
         trips,
         delay_row_count,
         stop_row_count,
         delay_rows,
         stop_rows,
-    )
+    );
+    tally::count_call(tally, screen, margin.code);
+    margin
 }
 
 // What the delay tables say of the stop time of a trip with this sequence number: known 1 where the trip has a delay row. The
 // same questions, and 4 for a trip not below the count.
 #[no_mangle]
 pub extern "C" fn savoiky_delay_at(
+    tally: &mut [u32; 128],
+    screen: u32,
     settings: Settings,
     trips: u32,
     delay_row_count: u32,
@@ -272,10 +422,21 @@ pub extern "C" fn savoiky_delay_at(
     trip: u32,
     sequence: u32,
 ) -> DelayAt
-    ensures { λ r. ⌜ r ≡ delayAtOutcome settings trips «delay_row_count» «stop_row_count»
-        (now («delay_rows» .entry)) (now («stop_rows» .entry)) trip sequence ⌝ }
+    ensures outcome { λ r. ⌜ r ≡ forScreen screen (told 15 0 noDelay)
+        (delayAtOutcome settings trips «delay_row_count» «stop_row_count» (now («delay_rows» .entry)) (now («stop_rows» .entry)) trip sequence) ⌝ }
+    ensures counts { λ r. ⌜ now (tally .exit) ≡ tallyAfter (now (tally .entry)) screen (r .code) ⌝ }
 {
-    delay_call::delay_at(
+    if LAST_SCREEN < screen {
+        return DelayAt {
+            code: 15,
+            known: 0,
+            trip_delay: 0,
+            flags: 0,
+            departure_delay: 0,
+            arrival_delay: 0,
+        };
+    }
+    let delay = delay_call::delay_at(
         settings,
         trips,
         delay_row_count,
@@ -284,21 +445,31 @@ pub extern "C" fn savoiky_delay_at(
         stop_rows,
         trip,
         sequence,
-    )
+    );
+    tally::count_call(tally, screen, delay.code);
+    delay
 }
 
 // The service second of a clock reading: 3600 hour + 60 minute + second. Question 5: hour at most 47, minute and second at
 // most 59.
 #[no_mangle]
 pub extern "C" fn savoiky_service_second(
+    tally: &mut [u32; 128],
+    screen: u32,
     settings: Settings,
     hour: u32,
     minute: u32,
     second: u32,
 ) -> Answer
-    ensures { λ r. ⌜ r ≡ serviceSecond settings hour minute second ⌝ }
+    ensures outcome { λ r. ⌜ r ≡ forScreen screen (refusal 15) (serviceSecond settings hour minute second) ⌝ }
+    ensures counts { λ r. ⌜ now (tally .exit) ≡ tallyAfter (now (tally .entry)) screen (r .code) ⌝ }
 {
-    leaf_calls::service_second(settings, hour, minute, second)
+    if LAST_SCREEN < screen {
+        return door::refused(15);
+    }
+    let reading = leaf_calls::service_second(settings, hour, minute, second);
+    tally::count_call(tally, screen, reading.code);
+    reading
 }
 
 // LABELS: when and how a stop was reached in a round. A stop has 13 rows: row 0 is its access walk, round k writes row k + 1. The
@@ -320,6 +491,8 @@ pub extern "C" fn savoiky_service_second(
 // Stores an Access label. Question 4: stop and stop_idx below the count of stops.
 #[no_mangle]
 pub extern "C" fn savoiky_label_store_access(
+    tally: &mut [u32; 128],
+    screen: u32,
     settings: Settings,
     stops: u32,
     stop: u32,
@@ -331,11 +504,16 @@ pub extern "C" fn savoiky_label_store_access(
     labels: &mut [u32],
     label_distances: &mut [f64],
 ) -> u32
-    ensures { λ r. ⌜ labelOutcome r (now (labels .exit)) (now («label_distances» .exit))
-        ≡ storeOutcome settings (Access «stop_idx» «arrival_s» «walk_duration» «walk_distance») stops stop row (now (labels .entry))
-        (now («label_distances» .entry)) ⌝ }
+    ensures outcome { λ r. ⌜ labelOutcome r (now (labels .exit)) (now («label_distances» .exit))
+        ≡ forScreen screen (labelOutcome 15 (now (labels .entry)) (now («label_distances» .entry)))
+        (storeOutcome settings (Access «stop_idx» «arrival_s» «walk_duration» «walk_distance») stops stop row (now (labels .entry))
+        (now («label_distances» .entry))) ⌝ }
+    ensures counts { λ r. ⌜ now (tally .exit) ≡ tallyAfter (now (tally .entry)) screen r ⌝ }
 {
-    label_call::store_access(
+    if LAST_SCREEN < screen {
+        return 15;
+    }
+    let code = label_call::store_access(
         settings,
         stops,
         stop,
@@ -346,12 +524,16 @@ pub extern "C" fn savoiky_label_store_access(
         walk_distance,
         labels,
         label_distances,
-    )
+    );
+    tally::count_call(tally, screen, code);
+    code
 }
 
 // Stores a Transit label. Question 4: stop and board_stop below the count of stops.
 #[no_mangle]
 pub extern "C" fn savoiky_label_store_transit(
+    tally: &mut [u32; 128],
+    screen: u32,
     settings: Settings,
     stops: u32,
     stop: u32,
@@ -366,11 +548,16 @@ pub extern "C" fn savoiky_label_store_transit(
     labels: &mut [u32],
     label_distances: &mut [f64],
 ) -> u32
-    ensures { λ r. ⌜ labelOutcome r (now (labels .exit)) (now («label_distances» .exit))
-        ≡ storeOutcome settings (Transit «arrival_s» «trip_idx» «board_stop» «board_off» «alight_off» «prev_round» «time_shift_s»)
-        stops stop row (now (labels .entry)) (now («label_distances» .entry)) ⌝ }
+    ensures outcome { λ r. ⌜ labelOutcome r (now (labels .exit)) (now («label_distances» .exit))
+        ≡ forScreen screen (labelOutcome 15 (now (labels .entry)) (now («label_distances» .entry)))
+        (storeOutcome settings (Transit «arrival_s» «trip_idx» «board_stop» «board_off» «alight_off» «prev_round» «time_shift_s») stops stop row
+        (now (labels .entry)) (now («label_distances» .entry))) ⌝ }
+    ensures counts { λ r. ⌜ now (tally .exit) ≡ tallyAfter (now (tally .entry)) screen r ⌝ }
 {
-    label_call::store_transit(
+    if LAST_SCREEN < screen {
+        return 15;
+    }
+    let code = label_call::store_transit(
         settings,
         stops,
         stop,
@@ -384,12 +571,16 @@ pub extern "C" fn savoiky_label_store_transit(
         time_shift_s,
         labels,
         label_distances,
-    )
+    );
+    tally::count_call(tally, screen, code);
+    code
 }
 
 // Stores a Walk label. Question 4: stop, from_stop and to_stop below the count of stops.
 #[no_mangle]
 pub extern "C" fn savoiky_label_store_walk(
+    tally: &mut [u32; 128],
+    screen: u32,
     settings: Settings,
     stops: u32,
     stop: u32,
@@ -403,11 +594,16 @@ pub extern "C" fn savoiky_label_store_walk(
     labels: &mut [u32],
     label_distances: &mut [f64],
 ) -> u32
-    ensures { λ r. ⌜ labelOutcome r (now (labels .exit)) (now («label_distances» .exit))
-        ≡ storeOutcome settings (Walk «arrival_s» «from_stop» «to_stop» «duration_s» «distance_m» «prev_round»)
-        stops stop row (now (labels .entry)) (now («label_distances» .entry)) ⌝ }
+    ensures outcome { λ r. ⌜ labelOutcome r (now (labels .exit)) (now («label_distances» .exit))
+        ≡ forScreen screen (labelOutcome 15 (now (labels .entry)) (now («label_distances» .entry)))
+        (storeOutcome settings (Walk «arrival_s» «from_stop» «to_stop» «duration_s» «distance_m» «prev_round») stops stop row (now (labels .entry))
+        (now («label_distances» .entry))) ⌝ }
+    ensures counts { λ r. ⌜ now (tally .exit) ≡ tallyAfter (now (tally .entry)) screen r ⌝ }
 {
-    label_call::store_walk(
+    if LAST_SCREEN < screen {
+        return 15;
+    }
+    let code = label_call::store_walk(
         settings,
         stops,
         stop,
@@ -420,12 +616,16 @@ pub extern "C" fn savoiky_label_store_walk(
         prev_round,
         labels,
         label_distances,
-    )
+    );
+    tally::count_call(tally, screen, code);
+    code
 }
 
 // Reads a label. Question 4: stop below the count of stops; the label's own numbers are given as they stand.
 #[no_mangle]
 pub extern "C" fn savoiky_label_load(
+    tally: &mut [u32; 128],
+    screen: u32,
     settings: Settings,
     stops: u32,
     stop: u32,
@@ -433,9 +633,16 @@ pub extern "C" fn savoiky_label_load(
     labels: &[u32],
     label_distances: &[f64],
 ) -> LabelAnswer
-    ensures { λ r. ⌜ r ≡ loadAnswer settings stops stop row (now (labels .entry)) (now («label_distances» .entry)) ⌝ }
+    ensures outcome { λ r. ⌜ r ≡ forScreen screen (refusedLabel 15)
+        (loadAnswer settings stops stop row (now (labels .entry)) (now («label_distances» .entry))) ⌝ }
+    ensures counts { λ r. ⌜ now (tally .exit) ≡ tallyAfter (now (tally .entry)) screen (r .code) ⌝ }
 {
-    label_call::load(settings, stops, stop, row, labels, label_distances)
+    if LAST_SCREEN < screen {
+        return label_call::refused_label(15);
+    }
+    let label = label_call::load(settings, stops, stop, row, labels, label_distances);
+    tally::count_call(tally, screen, label.code);
+    label
 }
 
 // THE TIMETABLE, `tables`, is one slice of 6 times + 8 trips + 3 windows + 5 edges + stops words, in this order:
@@ -456,6 +663,8 @@ pub extern "C" fn savoiky_label_load(
 // afterwards. Questions 1 to 6; 6 is of the walk edges alone, the departures may come in any order.
 #[no_mangle]
 pub extern "C" fn savoiky_sort_stop_departures(
+    tally: &mut [u32; 128],
+    screen: u32,
     settings: Settings,
     stops: u32,
     trips: u32,
@@ -470,31 +679,32 @@ pub extern "C" fn savoiky_sort_stop_departures(
     work: &mut [u64],
     other: &mut [u64],
 ) -> u32
-    ensures { λ r. ⌜ sortOutcomeOf r (sortAreas (now (rows .exit)) (now (marks .exit)) (now (work .exit)) (now (other .exit)))
-        ≡ sortOutcome settings (now (tables .entry)) (countsOf stops trips times windows edges) departures (now (runs .entry))
-        (sortAreas (now (rows .entry)) (now (marks .entry)) (now (work .entry)) (now (other .entry))) ⌝ }
+    ensures outcome { λ r. ⌜ sortOutcomeOf r (sortAreas (now (rows .exit)) (now (marks .exit)) (now (work .exit)) (now (other .exit)))
+        ≡ forScreen screen (sortOutcomeOf 15 (sortAreas (now (rows .entry)) (now (marks .entry)) (now (work .entry)) (now (other .entry))))
+        (sortOutcome settings (now (tables .entry)) (countsOf stops trips times windows edges) departures (now (runs .entry))
+        (sortAreas (now (rows .entry)) (now (marks .entry)) (now (work .entry)) (now (other .entry)))) ⌝ }
+    ensures counts { λ r. ⌜ now (tally .exit) ≡ tallyAfter (now (tally .entry)) screen r ⌝ }
 {
-    let c = sizes::counts(stops, trips, times, windows, edges);
-    departures_call::sort_stop_departures(
+    if LAST_SCREEN < screen {
+        return 15;
+    }
+    let code = sized_calls::sort_stop_departures(
         settings,
+        stops,
+        trips,
+        times,
+        windows,
+        edges,
+        departures,
         tables,
-        c,
-        departures as usize,
         runs,
         rows,
         marks,
         work,
         other,
-    )
-}
-
-fn lines_answer(g: Grouped) -> Answer
-    ensures { λ r. ⌜ r ≡ linesAnswer g ⌝ }
-{
-    match g {
-        Grouped::Refused(v) => door::refused(v),
-        Grouped::Lines(n) => door::given(n),
-    }
+    );
+    tally::count_call(tally, screen, code);
+    code
 }
 
 // Groups the trips into lines: trips with the same stops in the same order, by first departure. The value says how many lines.
@@ -502,6 +712,8 @@ fn lines_answer(g: Grouped) -> Answer
 // keep their content); entries: trip numbers, as many as trips. work, other: `trips` u64 each, zero afterwards. Questions 1 to 6.
 #[no_mangle]
 pub extern "C" fn savoiky_compute_line_groups(
+    tally: &mut [u32; 128],
+    screen: u32,
     settings: Settings,
     stops: u32,
     trips: u32,
@@ -515,21 +727,32 @@ pub extern "C" fn savoiky_compute_line_groups(
     work: &mut [u64],
     other: &mut [u64],
 ) -> Answer
-    ensures { λ r. ⌜ shown r (lineAreas (now (lines .exit)) (now (runs .exit)) (now (entries .exit)) (now (work .exit)) (now (other .exit)))
-        ≡ shownOf (linesOutcome settings (now (tables .entry)) (countsOf stops trips times windows edges)
-        (lineAreas (now (lines .entry)) (now (runs .entry)) (now (entries .entry)) (now (work .entry)) (now (other .entry)))) ⌝ }
+    ensures outcome { λ r. ⌜ shown r (lineAreas (now (lines .exit)) (now (runs .exit)) (now (entries .exit)) (now (work .exit)) (now (other .exit)))
+        ≡ forScreen screen (shown (refusal 15) (lineAreas (now (lines .entry)) (now (runs .entry)) (now (entries .entry)) (now (work .entry))
+        (now (other .entry))))
+        (shownOf (linesOutcome settings (now (tables .entry)) (countsOf stops trips times windows edges)
+        (lineAreas (now (lines .entry)) (now (runs .entry)) (now (entries .entry)) (now (work .entry)) (now (other .entry))))) ⌝ }
+    ensures counts { λ r. ⌜ now (tally .exit) ≡ tallyAfter (now (tally .entry)) screen (r .code) ⌝ }
 {
-    let c = sizes::counts(stops, trips, times, windows, edges);
-    lines_answer(lines_call::compute_line_groups(
+    if LAST_SCREEN < screen {
+        return door::refused(15);
+    }
+    let grouped = sized_calls::compute_line_groups(
         settings,
+        stops,
+        trips,
+        times,
+        windows,
+        edges,
         tables,
-        c,
         lines,
         runs,
         entries,
         work,
         other,
-    ))
+    );
+    tally::count_call(tally, screen, grouped.code);
+    grouped
 }
 
 // Each trip's position in its line (4,294,967,295: in none) and each line's FIFO flag (1: no trip overtakes another), of any
@@ -537,6 +760,8 @@ pub extern "C" fn savoiky_compute_line_groups(
 // word a line. Questions 1 to 6. No query needs this call.
 #[no_mangle]
 pub extern "C" fn savoiky_line_layout(
+    tally: &mut [u32; 128],
+    screen: u32,
     settings: Settings,
     stops: u32,
     trips: u32,
@@ -551,31 +776,33 @@ pub extern "C" fn savoiky_line_layout(
     positions: &mut [u32],
     fifo: &mut [u32],
 ) -> u32
-    ensures { λ r. ⌜ layoutOutcomeOf r (layoutAreas (now (positions .exit)) (now (fifo .exit)))
-        ≡ layoutOutcome settings (now (tables .entry)) (countsOf stops trips times windows edges) lines «entry_count» (now (runs .entry))
-        (now (entries .entry)) (layoutAreas (now (positions .entry)) (now (fifo .entry))) ⌝ }
+    ensures outcome { λ r. ⌜ layoutOutcomeOf r (layoutAreas (now (positions .exit)) (now (fifo .exit)))
+        ≡ forScreen screen (layoutOutcomeOf 15 (layoutAreas (now (positions .entry)) (now (fifo .entry))))
+        (layoutOutcome settings (now (tables .entry)) (countsOf stops trips times windows edges) lines «entry_count» (now (runs .entry))
+        (now (entries .entry))
+        (layoutAreas (now (positions .entry)) (now (fifo .entry)))) ⌝ }
+    ensures counts { λ r. ⌜ now (tally .exit) ≡ tallyAfter (now (tally .entry)) screen r ⌝ }
 {
-    let c = sizes::counts(stops, trips, times, windows, edges);
-    layout_call::line_layout(
+    if LAST_SCREEN < screen {
+        return 15;
+    }
+    let code = sized_calls::line_layout(
         settings,
+        stops,
+        trips,
+        times,
+        windows,
+        edges,
+        lines,
+        entry_count,
         tables,
-        c,
-        lines as usize,
-        entry_count as usize,
         runs,
         entries,
         positions,
         fifo,
-    )
-}
-
-fn transfers_answer(b: Built) -> Answer
-    ensures { λ r. ⌜ r ≡ transfersAnswer b ⌝ }
-{
-    match b {
-        Built::Refused(v) => door::refused(v),
-        Built::Rows(n) => door::given(n),
-    }
+    );
+    tally::count_call(tally, screen, code);
+    code
 }
 
 // Builds the transfers of every stop event (each stop time of each trip, trip by trip). The value says how many.
@@ -585,6 +812,8 @@ fn transfers_answer(b: Built) -> Answer
 // of stack.
 #[no_mangle]
 pub extern "C" fn savoiky_compute_trip_transfers(
+    tally: &mut [u32; 128],
+    screen: u32,
     settings: Settings,
     stops: u32,
     trips: u32,
@@ -600,32 +829,53 @@ pub extern "C" fn savoiky_compute_trip_transfers(
     area: &mut [u32],
     transfer_runs: &mut [u32],
 ) -> Answer
-    ensures { λ r. ⌜ shownTransfers r (transferAreas (now (area .exit)) (now («transfer_runs» .exit)))
-        ≡ shownTransfersOf (transfersOutcome (transferLent settings (now (tables .entry)) (countsOf stops trips times windows edges) «line_count»
+    ensures outcome { λ r. ⌜ shownTransfers r (transferAreas (now (area .exit)) (now («transfer_runs» .exit)))
+        ≡ forScreen screen (shownTransfers (refusal 15) (transferAreas (now (area .entry)) (now («transfer_runs» .entry))))
+        (shownTransfersOf (transfersOutcome (transferLent settings (now (tables .entry)) (countsOf stops trips times windows edges) «line_count»
         (now (lines .entry)) departures (now (runs .entry)) (now (rows .entry)))
-        (transferAreas (now (area .entry)) (now («transfer_runs» .entry)))) ⌝ }
+        (transferAreas (now (area .entry)) (now («transfer_runs» .entry))))) ⌝ }
+    ensures counts { λ r. ⌜ now (tally .exit) ≡ tallyAfter (now (tally .entry)) screen (r .code) ⌝ }
 {
-    let c = sizes::counts(stops, trips, times, windows, edges);
-    transfers_answer(transfers_call::compute_trip_transfers(
+    if LAST_SCREEN < screen {
+        return door::refused(15);
+    }
+    let built = sized_calls::compute_trip_transfers(
         settings,
+        stops,
+        trips,
+        times,
+        windows,
+        edges,
+        line_count,
+        departures,
         tables,
-        c,
-        line_count as usize,
         lines,
-        departures as usize,
         runs,
         rows,
         area,
         transfer_runs,
-    ))
+    );
+    tally::count_call(tally, screen, built.code);
+    built
 }
 
 // How many words of workspace a query needs: 5 stops + 8 trips + 3 lines + 128. Question 1.
 #[no_mangle]
-pub extern "C" fn savoiky_work_size(settings: Settings, sizes: QuerySizes) -> Answer
-    ensures { λ r. ⌜ r ≡ workspaceAnswer (queryCountsOf settings sizes) ⌝ }
+pub extern "C" fn savoiky_work_size(
+    tally: &mut [u32; 128],
+    screen: u32,
+    settings: Settings,
+    sizes: QuerySizes,
+) -> Answer
+    ensures outcome { λ r. ⌜ r ≡ forScreen screen (refusal 15) (workspaceAnswer (queryCountsOf settings sizes)) ⌝ }
+    ensures counts { λ r. ⌜ now (tally .exit) ≡ tallyAfter (now (tally .entry)) screen (r .code) ⌝ }
 {
-    query_call::workspace(sizes::query_counts(settings, sizes))
+    if LAST_SCREEN < screen {
+        return door::refused(15);
+    }
+    let size = sized_calls::work_size(settings, sizes);
+    tally::count_call(tally, screen, size.code);
+    size
 }
 
 // A QUERY. Lent to be read:
@@ -653,6 +903,8 @@ pub extern "C" fn savoiky_work_size(settings: Settings, sizes: QuerySizes) -> An
 // As the Rust answers: run_tbr.
 #[no_mangle]
 pub extern "C" fn savoiky_run_tbr(
+    tally: &mut [u32; 128],
+    screen: u32,
     settings: Settings,
     sizes: QuerySizes,
     tables: &[u32],
@@ -668,18 +920,30 @@ pub extern "C" fn savoiky_run_tbr(
     queue_b: &mut [u32],
     candidates: &mut [u32],
 ) -> Reply
-    ensures { λ r. ⌜ record {
+    ensures outcome { λ r. ⌜ record {
       reply = r;
-      areas = queryAreas (now (labels .exit)) (now («label_distances» .exit)) (now (work .exit))
-          (now («queue_a» .exit)) (now («queue_b» .exit)) (now (candidates .exit));
+      areas = queryAreas (now (labels .exit)) (now («label_distances» .exit)) (now (work .exit)) (now («queue_a» .exit)) (now («queue_b» .exit))
+          (now (candidates .exit));
     }
-        ≡ runTbrOutcome (lent (queryCountsOf settings sizes) (now (tables .entry)) (now (built .entry)) (now (transfers .entry))
+        ≡ forScreen screen (refused 15 (queryAreas (now (labels .entry)) (now («label_distances» .entry)) (now (work .entry)) (now («queue_a» .entry))
+        (now («queue_b» .entry)) (now (candidates .entry))))
+        (runTbrOutcome (lent (queryCountsOf settings sizes) (now (tables .entry)) (now (built .entry)) (now (transfers .entry))
         (now (patterns .entry)) (now (distances .entry)) (now (query .entry)))
         (queryAreas (now (labels .entry)) (now («label_distances» .entry)) (now (work .entry)) (now («queue_a» .entry)) (now («queue_b» .entry))
-        (now (candidates .entry))) ⌝ }
+        (now (candidates .entry)))) ⌝ }
+    ensures counts { λ r. ⌜ now (tally .exit) ≡ tallyAfter (now (tally .entry)) screen (r .code) ⌝ }
 {
-    query_call::run_tbr(
-        sizes::query_counts(settings, sizes),
+    if LAST_SCREEN < screen {
+        return Reply {
+            code: 15,
+            total: 0,
+            stop: 0,
+            candidates: 0,
+        };
+    }
+    let rust_reply = sized_calls::run_tbr(
+        settings,
+        sizes,
         tables,
         built,
         transfers,
@@ -692,13 +956,17 @@ pub extern "C" fn savoiky_run_tbr(
         queue_a,
         queue_b,
         candidates,
-    )
+    );
+    tally::count_call(tally, screen, rust_reply.code);
+    rust_reply
 }
 
 // What a board asks: run_tbr with arc flags put off where they would skip nothing. On a plain day no journey beats its answer; on a steady day,
 // which has delays (docs/PROMISE.md), none does by effective times.
 #[no_mangle]
 pub extern "C" fn savoiky_query(
+    tally: &mut [u32; 128],
+    screen: u32,
     settings: Settings,
     sizes: QuerySizes,
     tables: &[u32],
@@ -714,18 +982,30 @@ pub extern "C" fn savoiky_query(
     queue_b: &mut [u32],
     candidates: &mut [u32],
 ) -> Reply
-    ensures { λ r. ⌜ record {
+    ensures outcome { λ r. ⌜ record {
       reply = r;
-      areas = queryAreas (now (labels .exit)) (now («label_distances» .exit)) (now (work .exit))
-          (now («queue_a» .exit)) (now («queue_b» .exit)) (now (candidates .exit));
+      areas = queryAreas (now (labels .exit)) (now («label_distances» .exit)) (now (work .exit)) (now («queue_a» .exit)) (now («queue_b» .exit))
+          (now (candidates .exit));
     }
-        ≡ queryOutcome (lent (queryCountsOf settings sizes) (now (tables .entry)) (now (built .entry)) (now (transfers .entry))
-        (now (patterns .entry)) (now (distances .entry)) (now (query .entry)))
+        ≡ forScreen screen (refused 15 (queryAreas (now (labels .entry)) (now («label_distances» .entry)) (now (work .entry)) (now («queue_a» .entry))
+        (now («queue_b» .entry)) (now (candidates .entry))))
+        (queryOutcome (lent (queryCountsOf settings sizes) (now (tables .entry)) (now (built .entry)) (now (transfers .entry)) (now (patterns .entry))
+        (now (distances .entry)) (now (query .entry)))
         (queryAreas (now (labels .entry)) (now («label_distances» .entry)) (now (work .entry)) (now («queue_a» .entry)) (now («queue_b» .entry))
-        (now (candidates .entry))) ⌝ }
+        (now (candidates .entry)))) ⌝ }
+    ensures counts { λ r. ⌜ now (tally .exit) ≡ tallyAfter (now (tally .entry)) screen (r .code) ⌝ }
 {
-    query_call::query(
-        sizes::query_counts(settings, sizes),
+    if LAST_SCREEN < screen {
+        return Reply {
+            code: 15,
+            total: 0,
+            stop: 0,
+            candidates: 0,
+        };
+    }
+    let reply = sized_calls::query(
+        settings,
+        sizes,
         tables,
         built,
         transfers,
@@ -738,5 +1018,7 @@ pub extern "C" fn savoiky_query(
         queue_a,
         queue_b,
         candidates,
-    )
+    );
+    tally::count_call(tally, screen, reply.code);
+    reply
 }

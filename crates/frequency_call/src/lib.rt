@@ -23,7 +23,7 @@ pub struct FreqAnswer {
 }
 
 // No boarding: the number of the question that refused, or 0 where no run can be boarded.
-fn no_board(code: u32) -> FreqAnswer
+pub fn no_board(code: u32) -> FreqAnswer
     ensures { λ r. ⌜ r ≡ noBoard code ⌝ }
 {
     FreqAnswer {

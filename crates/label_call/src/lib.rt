@@ -195,7 +195,7 @@ pub fn store_walk(
     )
 }
 
-fn refused_label(code: u32) -> LabelAnswer
+pub fn refused_label(code: u32) -> LabelAnswer
     ensures { λ r. ⌜ r ≡ refusedLabel code ⌝ }
 {
     let row = label::empty_row();

@@ -19,6 +19,8 @@ use Rattle.query_call.specs.Call.{queryOutcome}
 use Rattle.promise.specs.Claims.{PromiseKept}
 use Rattle.promise.specs.Chain.{Chain, TransferChain, callersList, DoorElse, TransfersPass}
 use Rattle.promise.specs.Demands.{lentAnswer, Demands}
+use Rattle.tally.proofs.Laws.{the-tally}
+use Rattle.promise.proofs.Screens.{screen-query, screen-rust}
 use Rattle.promise.proofs.Unflagged.{other-transfers, other-transfers-rust}
 use Rattle.promise.proofs.Building.{chain-tables}
 use Rattle.promise.proofs.Transferred.{chain-transfers}
@@ -56,6 +58,9 @@ the-demands =
       demand1-rust = demand1-rust;
       query-never-full = query-never-full;
       rust-never-full = rust-never-full;
+      screen-query = screen-query;
+      screen-rust = screen-rust;
+      tally = the-tally;
       demand2-query = demand2-query;
       demand2-rust = demand2-rust;
       demand3-query = demand3-query;

@@ -11,3 +11,4 @@ pub mod Instance
 pub mod SteadyInstance
 pub mod ChainInstance
 pub mod Unflagged
+pub mod Screens

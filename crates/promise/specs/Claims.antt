@@ -6,6 +6,7 @@ use mathlib.Core.Logic.{_⊎_}
 use mathlib.Core.Bool.{Bool, false}
 use mathlib.Core.List.{List, List·Memᴰ}
 use lib.ListN.{length, getD}
+use Rattle.tally.specs.Screen.{forScreen}
 use Rattle.model.specs.Search.{SearchAnswer}
 use Rattle.answer_laws.specs.Lawful.{Lawful}
 use Rattle.joined.specs.Joined.{Joined, JoinedByDeparture}
@@ -96,3 +97,16 @@ pub record TransfersUnread (x : Lent) (o : Lent → QueryAreas → QueryOutcome)
   pub outcome : (transfers : ℕ) (built area : List ℕ) (s : QueryAreas) → SameButTransfers x built
       → queryVerdict x (queryLengths s) ≡ 0 → queryVerdict (lentWith x transfers built area) (queryLengths s) ≡ 0
       → o (lentWith x transfers built area) s ≡ o x s
+
+-- THE CALL MADE FOR A SCREEN (request T-08), as it is exported: its own outcome, or refused by 15 with all areas as they came
+abbrev pub callFor : ℕ → (QueryAreas → QueryOutcome) → QueryAreas → QueryOutcome
+callFor screen o s = forScreen screen (refused 15 s) (o s)
+
+pub record ScreenMet (x : Lent) (o : QueryAreas → QueryOutcome) (a : SearchAnswer) : Type 0 where
+  -- 15 exactly where the screen is above 63: then nothing is written; for any other screen the outcome is the call's own, whose code is never 15
+  pub no-screen : (screen : ℕ) (s : QueryAreas) → 63 < screen → callFor screen o s ≡ refused 15 s
+  pub valid : (screen : ℕ) (s : QueryAreas) → screen ≤ 63 → callFor screen o s ≡ o s
+  pub only-15 : (s : QueryAreas) → ((o s .reply .code ≡ 15) → ⊥)
+  -- so a code of 0 is that of the call's own outcome, and what is promised of that is promised of the call made for a screen
+  pub own-answer : (screen : ℕ) (s : QueryAreas) → callFor screen o s .reply .code ≡ 0 → (screen ≤ 63) × (callFor screen o s ≡ o s)
+  pub kept : (screen : ℕ) (s : QueryAreas) (W : TripTimes) → screen ≤ 63 → PromiseKept x s o a W → PromiseKept x s (callFor screen o) a W

@@ -4,6 +4,7 @@
 -- and write with the outcomes named here. Definitions only.
 use mathlib.Core.Path.{_≡_}
 use mathlib.Core.Bool.{false}
+use Rattle.tally.specs.Laws.{TallyLaws}
 use Rattle.model.specs.Search.{SearchAnswer, useArcFlags, flagsInUse, runTbr, query}
 use Rattle.model.specs.Promise.{scheduled, effective, LinesBuilt, TransfersBuilt, CalmConditions, PlainConditions, PlainDay, SteadyConditions}
 use Rattle.model.specs.Promise.{SteadyDay}
@@ -12,7 +13,7 @@ use Rattle.query_input.specs.Lent.{Lent, tablesOf, queryOf}
 use Rattle.query_door.specs.Door.{queryVerdict}
 use Rattle.query_reply.specs.Outcome.{QueryAreas, queryLengths}
 use Rattle.query_call.specs.Call.{runTbrOutcome, queryOutcome}
-use Rattle.promise.specs.Claims.{DoorMet, NeverFull, LawsMet, PromiseMet, PromiseKept, TransfersUnread}
+use Rattle.promise.specs.Claims.{DoorMet, NeverFull, LawsMet, PromiseMet, PromiseKept, TransfersUnread, ScreenMet}
 use Rattle.promise.specs.Chain.{Chain, TransferChain, callersList, DoorElse, TransfersPass}
 
 -- the answers that the definitions give to what is lent: the query's, and the Rust's
@@ -28,6 +29,11 @@ pub record Demands : Type 0 where
   pub demand1-rust : (x : Lent) → DoorMet x (runTbrOutcome x) (rustAnswerOf x)
   pub query-never-full : (x : Lent) → NeverFull x (queryOutcome x) (lentAnswer x) (flagsInUse (tablesOf x) (queryOf x))
   pub rust-never-full : (x : Lent) → NeverFull x (runTbrOutcome x) (rustAnswerOf x) (useArcFlags (tablesOf x) (queryOf x))
+  -- the exported calls are made for a screen: question 15 comes first, and all that is said here of a call's outcome is said of it for a valid one
+  pub screen-query : (x : Lent) → ScreenMet x (queryOutcome x) (lentAnswer x)
+  pub screen-rust : (x : Lent) → ScreenMet x (runTbrOutcome x) (rustAnswerOf x)
+  -- and each adds to the box's tally, as the contract of every exported call has it
+  pub tally : TallyLaws
   -- DEMAND 2, on any slices
   pub demand2-query : (x : Lent) → LawsMet x (queryOutcome x) (lentAnswer x) (flagsInUse (tablesOf x) (queryOf x))
   pub demand2-rust : (x : Lent) → LawsMet x (runTbrOutcome x) (rustAnswerOf x) (useArcFlags (tablesOf x) (queryOf x))

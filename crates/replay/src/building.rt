@@ -29,7 +29,7 @@ pub fn copy_words(w: &[u32], to: &mut [u32]) {
     }
 }
 
-fn sorting(settings: Settings, w: &[u32]) -> bool {
+fn sorting(tally: &mut [u32; 128], screen: u32, settings: Settings, w: &[u32]) -> bool {
     let mut rows = [0u32; 20];
     let mut marks = [7u32; 3];
     let mut work = [7u64; 10];
@@ -37,6 +37,8 @@ fn sorting(settings: Settings, w: &[u32]) -> bool {
     copy_words(rows_of(w), &mut rows);
     let n = first_nine(w);
     let code = exports::savoiky_sort_stop_departures(
+        tally,
+        screen,
         settings,
         n.1,
         n.2,
@@ -57,7 +59,7 @@ fn sorting(settings: Settings, w: &[u32]) -> bool {
     )
 }
 
-fn grouping(settings: Settings, w: &[u32]) -> bool {
+fn grouping(tally: &mut [u32; 128], screen: u32, settings: Settings, w: &[u32]) -> bool {
     let mut lines = [7u32; 5];
     let mut runs = [7u32; 10];
     let mut entries = [7u32; 5];
@@ -65,6 +67,8 @@ fn grouping(settings: Settings, w: &[u32]) -> bool {
     let mut other = [7u64; 5];
     let n = first_nine(w);
     let a = exports::savoiky_compute_line_groups(
+        tally,
+        screen,
         settings,
         n.1,
         n.2,
@@ -89,11 +93,13 @@ fn grouping(settings: Settings, w: &[u32]) -> bool {
 }
 
 // The call's numbers are the words from 1 on; 1 to 5 the counts of the timetable, 8 and 9 those of the lines.
-fn laying_out(settings: Settings, w: &[u32]) -> bool {
+fn laying_out(tally: &mut [u32; 128], screen: u32, settings: Settings, w: &[u32]) -> bool {
     let mut positions = [7u32; 5];
     let mut fifo = [7u32; 3];
     let n = first_nine(rest(w, 1));
     let code = exports::savoiky_line_layout(
+        tally,
+        screen,
         settings,
         n.0,
         n.1,
@@ -114,11 +120,13 @@ fn laying_out(settings: Settings, w: &[u32]) -> bool {
     )
 }
 
-fn transferring(settings: Settings, w: &[u32]) -> bool {
+fn transferring(tally: &mut [u32; 128], screen: u32, settings: Settings, w: &[u32]) -> bool {
     let mut area = [7u32; 96];
     let mut transfer_runs = [7u32; 30];
     let n = first_nine(w);
     let a = exports::savoiky_compute_trip_transfers(
+        tally,
+        screen,
         settings,
         n.1,
         n.2,
@@ -144,9 +152,15 @@ fn transferring(settings: Settings, w: &[u32]) -> bool {
 }
 
 // Are the answers of all four calls those on the line?
-pub fn built(settings: Settings, w: &[u32]) -> bool {
+pub fn built(tally: &mut [u32; 128], screen: u32, settings: Settings, w: &[u32]) -> bool {
     both(
-        both(sorting(settings, w), grouping(settings, w)),
-        both(laying_out(settings, w), transferring(settings, w)),
+        both(
+            sorting(tally, screen, settings, w),
+            grouping(tally, screen, settings, w),
+        ),
+        both(
+            laying_out(tally, screen, settings, w),
+            transferring(tally, screen, settings, w),
+        ),
     )
 }

@@ -44,13 +44,21 @@ fn put_words(piece: &[u32], from: usize, to: &mut [u32])
 }
 
 // Each trip's line, the runs of two lines and the entries stand first in `built`.
-fn group(settings: Settings, w: &[u32], built: &mut [u32]) -> Answer {
+fn group(
+    tally: &mut [u32; 128],
+    screen: u32,
+    settings: Settings,
+    w: &[u32],
+    built: &mut [u32],
+) -> Answer {
     let mut lines = [7u32; 5];
     let mut runs = [7u32; 10];
     let mut entries = [7u32; 5];
     let mut work = [7u64; 5];
     let mut other = [7u64; 5];
     let a = exports::savoiky_compute_line_groups(
+        tally,
+        screen,
         settings,
         3,
         5,
@@ -71,13 +79,21 @@ fn group(settings: Settings, w: &[u32], built: &mut [u32]) -> Answer {
 }
 
 // The stops' runs, the sorted departures and the marks stand next.
-fn sort(settings: Settings, w: &[u32], built: &mut [u32]) -> u32 {
+fn sort(
+    tally: &mut [u32; 128],
+    screen: u32,
+    settings: Settings,
+    w: &[u32],
+    built: &mut [u32],
+) -> u32 {
     let mut rows = [0u32; 20];
     let mut marks = [7u32; 3];
     let mut work = [7u64; 10];
     let mut other = [7u64; 10];
     copy_words(list_of(w), &mut rows);
     let code = exports::savoiky_sort_stop_departures(
+        tally,
+        screen,
         settings,
         3,
         5,
@@ -99,9 +115,19 @@ fn sort(settings: Settings, w: &[u32], built: &mut [u32]) -> u32 {
 }
 
 // The transfer runs stand last; the transfers, made of the caller's list, stand in the area.
-fn link(settings: Settings, w: &[u32], lines: u32, area: &mut [u32], built: &mut [u32]) -> Answer {
+fn link(
+    tally: &mut [u32; 128],
+    screen: u32,
+    settings: Settings,
+    w: &[u32],
+    lines: u32,
+    area: &mut [u32],
+    built: &mut [u32],
+) -> Answer {
     let mut transfer_runs = [7u32; 30];
     let a = exports::savoiky_compute_trip_transfers(
+        tally,
+        screen,
         settings,
         3,
         5,
@@ -141,17 +167,27 @@ fn sizes(lines: u32, transfers: u32) -> QuerySizes {
     }
 }
 
-// Is the answer of `query` on these tables the one on the line? What is lent to be written holds 7 in every word.
-fn asked(settings: Settings, w: &[u32], n: QuerySizes, built: &[u32], area: &[u32]) -> bool {
+// Is the answer of `query` on these tables the one on the line? To write: labels, their distances, workspace, the queue halves, candidates.
+fn asked_in(
+    tally: &mut [u32; 128],
+    screen: u32,
+    settings: Settings,
+    w: &[u32],
+    n: QuerySizes,
+    built: &[u32],
+    area: &[u32],
+    l: &mut [u32],
+    m: &mut [f64],
+    k: &mut [u32],
+    u: &mut [u32],
+    v: &mut [u32],
+    c: &mut [u32],
+) -> bool {
     let mut distances = [0.0f64; 6];
-    let mut labels = [7u32; 312];
-    let mut label_distances = [7.0f64; 39];
-    let mut work = [7u32; 189];
-    let mut queue_a = [7u32; 8];
-    let mut queue_b = [7u32; 8];
-    let mut candidates = [7u32; 39];
     put_distances(part(w, 349, 6), &mut distances);
     let reply = exports::savoiky_query(
+        tally,
+        screen,
         settings,
         n,
         part(w, 181, 151),
@@ -160,37 +196,69 @@ fn asked(settings: Settings, w: &[u32], n: QuerySizes, built: &[u32], area: &[u3
         b"",
         &distances,
         part(w, 332, 17),
+        l,
+        m,
+        k,
+        u,
+        v,
+        c,
+    );
+    left(reply, rest(w, 355), l, m, k, u, v, c)
+}
+
+// What is lent to be written holds 7 in every word.
+fn asked(
+    tally: &mut [u32; 128],
+    screen: u32,
+    settings: Settings,
+    w: &[u32],
+    n: QuerySizes,
+    built: &[u32],
+    area: &[u32],
+) -> bool {
+    let mut labels = [7u32; 312];
+    let mut distances = [7.0f64; 39];
+    let mut work = [7u32; 189];
+    let mut queue_a = [7u32; 8];
+    let mut queue_b = [7u32; 8];
+    let mut candidates = [7u32; 39];
+    asked_in(
+        tally,
+        screen,
+        settings,
+        w,
+        n,
+        built,
+        area,
         &mut labels,
-        &mut label_distances,
+        &mut distances,
         &mut work,
         &mut queue_a,
         &mut queue_b,
-        &mut candidates,
-    );
-    left(
-        reply,
-        rest(w, 355),
-        &mut labels,
-        &mut label_distances,
-        &work,
-        &queue_a,
-        &queue_b,
         &mut candidates,
     )
 }
 
 // Are the codes of the building calls those on the line and, where all are 0, is the answer of `query`; else is what they left?
-pub fn chained(settings: Settings, w: &[u32]) -> bool {
+pub fn chained(tally: &mut [u32; 128], screen: u32, settings: Settings, w: &[u32]) -> bool {
     let mut built = [0u32; 73];
     let mut area = [7u32; 96];
-    let a = group(settings, w, &mut built);
-    let code = sort(settings, w, &mut built);
-    let b = link(settings, w, a.value, &mut area, &mut built);
+    let a = group(tally, screen, settings, w, &mut built);
+    let code = sort(tally, screen, settings, w, &mut built);
+    let b = link(tally, screen, settings, w, a.value, &mut area, &mut built);
     if !same_words(w, 178, &[a.code, code, b.code]) {
         return false;
     }
     if same_words(&[0, 0, 0], 0, &[a.code, code, b.code]) {
-        return asked(settings, w, sizes(a.value, b.value), &built, &area);
+        return asked(
+            tally,
+            screen,
+            settings,
+            w,
+            sizes(a.value, b.value),
+            &built,
+            &area,
+        );
     }
     both(same_words(w, 355, &built), all_are(&area, 7))
 }

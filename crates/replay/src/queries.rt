@@ -248,9 +248,79 @@ pub fn left(
     )
 }
 
-// Puts the search to `run_tbr` (call 0) or `query`. To read: the line, patterns, distances; to write: labels, their distances, workspace, the
-// queue halves, candidates.
+// Puts the search to `run_tbr`. To read: the line, patterns, distances; to write: labels, their distances, workspace, the queue halves, candidates.
+fn ran(
+    tally: &mut [u32; 128],
+    screen: u32,
+    settings: Settings,
+    w: &[u32],
+    p: &[u8],
+    d: &[f64],
+    l: &mut [u32],
+    m: &mut [f64],
+    k: &mut [u32],
+    u: &mut [u32],
+    v: &mut [u32],
+    c: &mut [u32],
+) -> Reply {
+    exports::savoiky_run_tbr(
+        tally,
+        screen,
+        settings,
+        sizes(w),
+        section(w, 0),
+        section(w, 1),
+        section(w, 2),
+        p,
+        d,
+        section(w, 3),
+        l,
+        m,
+        k,
+        u,
+        v,
+        c,
+    )
+}
+
+// The same to `query`.
+fn queried(
+    tally: &mut [u32; 128],
+    screen: u32,
+    settings: Settings,
+    w: &[u32],
+    p: &[u8],
+    d: &[f64],
+    l: &mut [u32],
+    m: &mut [f64],
+    k: &mut [u32],
+    u: &mut [u32],
+    v: &mut [u32],
+    c: &mut [u32],
+) -> Reply {
+    exports::savoiky_query(
+        tally,
+        screen,
+        settings,
+        sizes(w),
+        section(w, 0),
+        section(w, 1),
+        section(w, 2),
+        p,
+        d,
+        section(w, 3),
+        l,
+        m,
+        k,
+        u,
+        v,
+        c,
+    )
+}
+
 fn ask(
+    tally: &mut [u32; 128],
+    screen: u32,
     settings: Settings,
     call: u32,
     w: &[u32],
@@ -263,18 +333,15 @@ fn ask(
     v: &mut [u32],
     c: &mut [u32],
 ) -> Reply {
-    let n = sizes(w);
-    let t = section(w, 0);
-    let b = section(w, 1);
-    let x = section(w, 2);
-    let q = section(w, 3);
     if call == 0 {
-        return exports::savoiky_run_tbr(settings, n, t, b, x, p, d, q, l, m, k, u, v, c);
+        return ran(tally, screen, settings, w, p, d, l, m, k, u, v, c);
     }
-    exports::savoiky_query(settings, n, t, b, x, p, d, q, l, m, k, u, v, c)
+    queried(tally, screen, settings, w, p, d, l, m, k, u, v, c)
 }
 
 fn asked(
+    tally: &mut [u32; 128],
+    screen: u32,
     settings: Settings,
     call: u32,
     w: &[u32],
@@ -287,12 +354,20 @@ fn asked(
     v: &mut [u32],
     c: &mut [u32],
 ) -> bool {
-    let reply = ask(settings, call, w, p, d, l, m, k, u, v, c);
+    let reply = ask(tally, screen, settings, call, w, p, d, l, m, k, u, v, c);
     left(reply, outcome(w, call), l, m, k, u, v, c)
 }
 
 // What is lent to be written holds 7 in every word.
-fn one_call(settings: Settings, call: u32, w: &[u32], p: &[u8], d: &[f64]) -> bool {
+fn one_call(
+    tally: &mut [u32; 128],
+    screen: u32,
+    settings: Settings,
+    call: u32,
+    w: &[u32],
+    p: &[u8],
+    d: &[f64],
+) -> bool {
     let mut labels = [7u32; 840];
     let mut distances = [7.0f64; 105];
     let mut work = [7u32; 384];
@@ -300,6 +375,8 @@ fn one_call(settings: Settings, call: u32, w: &[u32], p: &[u8], d: &[f64]) -> bo
     let mut queue_b = [7u32; 128];
     let mut candidates = [7u32; 40];
     asked(
+        tally,
+        screen,
         settings,
         call,
         w,
@@ -315,7 +392,7 @@ fn one_call(settings: Settings, call: u32, w: &[u32], p: &[u8], d: &[f64]) -> bo
 }
 
 // Are the answers of both calls those on the line? Patterns and distances are made of their words.
-pub fn searched(settings: Settings, w: &[u32]) -> bool {
+pub fn searched(tally: &mut [u32; 128], screen: u32, settings: Settings, w: &[u32]) -> bool {
     let mut patterns = [0u8; 256];
     let mut distances = [0.0f64; 64];
     if w.len() < section_at(w, 6) {
@@ -328,7 +405,7 @@ pub fn searched(settings: Settings, w: &[u32]) -> bool {
     let p = &patterns[..n];
     let d = &distances[..m];
     both(
-        one_call(settings, 0, w, p, d),
-        one_call(settings, 1, w, p, d),
+        one_call(tally, screen, settings, 0, w, p, d),
+        one_call(tally, screen, settings, 1, w, p, d),
     )
 }

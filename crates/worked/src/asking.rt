@@ -1,4 +1,5 @@
 // A query put to the compiled call, and its answer printed.
+use crate::legs::Caller;
 use crate::legs::arrival;
 use crate::legs::joined;
 use crate::legs::label_at;
@@ -26,9 +27,9 @@ fn egress(total: u32, stop: u32, reached: u32) {
 
 // The total, and the legs where they join.
 fn candidate(
-    settings: Settings,
+    tally: &mut [u32; 128],
+    by: Caller,
     k: u32,
-    s: QuerySizes,
     tables: &[u32],
     query: &[u32],
     candidates: &[u32],
@@ -43,9 +44,9 @@ fn candidate(
         b"  candidate of row #, at stop #, @:\n    ",
         &[row, stop, total],
     );
-    if joined(settings, s, tables, query, labels, distances, stop, row) {
-        legs(settings, 27, s, tables, query, labels, distances, stop, row);
-        let found = label_at(settings, s.stops, stop, row, labels, distances);
+    if joined(tally, by, tables, query, labels, distances, stop, row) {
+        legs(tally, by, 27, tables, query, labels, distances, stop, row);
+        let found = label_at(tally, by, stop, row, labels, distances);
         let l = found.label;
         egress(total, stop, arrival(l));
         return;
@@ -54,9 +55,9 @@ fn candidate(
 }
 
 fn show(
-    settings: Settings,
+    tally: &mut [u32; 128],
+    by: Caller,
     reply: Reply,
-    s: QuerySizes,
     tables: &[u32],
     query: &[u32],
     candidates: &[u32],
@@ -74,15 +75,15 @@ fn show(
     tell(b"  best @ at stop #\n", &[reply.total, reply.stop]);
     let mut k: u32 = 0;
     while k < reply.candidates {
-        candidate(settings, k, s, tables, query, candidates, labels, distances);
+        candidate(tally, by, k, tables, query, candidates, labels, distances);
         k += 1;
     }
 }
 
 // The call, with room for 64 segments in each half of the queue; no patterns.
 fn replied(
-    settings: Settings,
-    s: QuerySizes,
+    tally: &mut [u32; 128],
+    by: Caller,
     tables: &[u32],
     built: &[u32],
     area: &[u32],
@@ -96,8 +97,10 @@ fn replied(
     let mut queue_a = [0u32; 256];
     let mut queue_b = [0u32; 256];
     exports::savoiky_query(
-        settings,
-        s,
+        tally,
+        by.screen,
+        by.settings,
+        by.sizes,
         tables,
         built,
         area,
@@ -115,8 +118,8 @@ fn replied(
 
 // Asks with these labels and this workspace, and prints.
 fn ask_in(
-    settings: Settings,
-    s: QuerySizes,
+    tally: &mut [u32; 128],
+    by: Caller,
     tables: &[u32],
     built: &[u32],
     area: &[u32],
@@ -128,8 +131,8 @@ fn ask_in(
 ) {
     let mut candidates = [0u32; 39];
     let reply = replied(
-        settings,
-        s,
+        tally,
+        by,
         tables,
         built,
         area,
@@ -141,9 +144,9 @@ fn ask_in(
         &mut candidates,
     );
     show(
-        settings,
+        tally,
+        by,
         reply,
-        s,
         tables,
         query,
         &candidates,
@@ -154,6 +157,8 @@ fn ask_in(
 
 // Asks and prints. Room for 12 stops and 384 numbers of workspace.
 pub fn ask(
+    tally: &mut [u32; 128],
+    screen: u32,
     settings: Settings,
     s: QuerySizes,
     tables: &[u32],
@@ -167,11 +172,16 @@ pub fn ask(
     let mut work = [0u32; 384];
     let words = part(wide(s.stops) * 104, 1248);
     let records = part(wide(s.stops) * 13, 156);
-    let size = exports::savoiky_work_size(settings, s);
+    let by = Caller {
+        screen: screen,
+        settings: settings,
+        sizes: s,
+    };
+    let size = exports::savoiky_work_size(tally, screen, settings, s);
     let n = part(wide(size.value), 384);
     ask_in(
-        settings,
-        s,
+        tally,
+        by,
         tables,
         built,
         area,

@@ -55,6 +55,8 @@ fn put_lines(
 }
 
 fn group_in(
+    tally: &mut [u32; 128],
+    screen: u32,
     settings: Settings,
     s: QuerySizes,
     tables: &[u32],
@@ -67,6 +69,8 @@ fn group_in(
     let mut other = [0u64; 12];
     let n = part(wide(s.trips), 12);
     let a = exports::savoiky_compute_line_groups(
+        tally,
+        screen,
         settings,
         s.stops,
         s.trips,
@@ -83,13 +87,22 @@ fn group_in(
     put_lines(a, s, lines, runs, entries, built)
 }
 
-fn group(settings: Settings, s: QuerySizes, tables: &[u32], built: &mut [u32]) -> Made {
+fn group(
+    tally: &mut [u32; 128],
+    screen: u32,
+    settings: Settings,
+    s: QuerySizes,
+    tables: &[u32],
+    built: &mut [u32],
+) -> Made {
     let mut lines = [0u32; 12];
     let mut runs = [0u32; 24];
     let mut entries = [0u32; 12];
     let trips = part(wide(s.trips), 12);
     let pairs = part(wide(s.trips) * 2, 24);
     group_in(
+        tally,
+        screen,
         settings,
         s,
         tables,
@@ -101,7 +114,30 @@ fn group(settings: Settings, s: QuerySizes, tables: &[u32], built: &mut [u32]) -
 }
 
 // The stops' runs, the sorted departures and the marks stand next.
+fn put_sorted(
+    code: u32,
+    m: Made,
+    stop_runs: &[u32],
+    rows: &[u32],
+    marks: &[u32],
+    built: &mut [u32],
+) -> Made {
+    let s = m.sizes;
+    if code != 0 {
+        return refusal(code, s);
+    }
+    let a = put(stop_runs, m.length, built);
+    let b = put(rows, a, built);
+    Made {
+        code: 0,
+        sizes: s,
+        length: put(marks, b, built),
+    }
+}
+
 fn sort_in(
+    tally: &mut [u32; 128],
+    screen: u32,
     settings: Settings,
     m: Made,
     tables: &[u32],
@@ -115,6 +151,8 @@ fn sort_in(
     let s = m.sizes;
     let n = part(wide(s.departures), 48);
     let code = exports::savoiky_sort_stop_departures(
+        tally,
+        screen,
         settings,
         s.stops,
         s.trips,
@@ -129,19 +167,12 @@ fn sort_in(
         &mut work[..n],
         &mut other[..n],
     );
-    if code != 0 {
-        return refusal(code, s);
-    }
-    let a = put(stop_runs, m.length, built);
-    let b = put(rows, a, built);
-    Made {
-        code: 0,
-        sizes: s,
-        length: put(marks, b, built),
-    }
+    put_sorted(code, m, stop_runs, rows, marks, built)
 }
 
 fn sort(
+    tally: &mut [u32; 128],
+    screen: u32,
     settings: Settings,
     m: Made,
     tables: &[u32],
@@ -156,6 +187,8 @@ fn sort(
     let s = m.sizes;
     let stops = part(wide(s.stops), 12);
     sort_in(
+        tally,
+        screen,
         settings,
         m,
         tables,
@@ -182,6 +215,8 @@ fn put_transfers(a: Answer, m: Made, transfer_runs: &[u32], built: &mut [u32]) -
 }
 
 fn link_in(
+    tally: &mut [u32; 128],
+    screen: u32,
     settings: Settings,
     m: Made,
     tables: &[u32],
@@ -194,6 +229,8 @@ fn link_in(
     let s = m.sizes;
     let trips = part(wide(s.trips), built.len());
     let a = exports::savoiky_compute_trip_transfers(
+        tally,
+        screen,
         settings,
         s.stops,
         s.trips,
@@ -213,6 +250,8 @@ fn link_in(
 }
 
 fn link(
+    tally: &mut [u32; 128],
+    screen: u32,
     settings: Settings,
     m: Made,
     tables: &[u32],
@@ -228,6 +267,8 @@ fn link(
     let s = m.sizes;
     let events = part(wide(s.times) * 2, 96);
     link_in(
+        tally,
+        screen,
         settings,
         m,
         tables,
@@ -242,6 +283,8 @@ fn link(
 // Builds a timetable: the departures that the caller lists (`rows`, by the stops' runs) are sorted in place. Each stop time
 // belongs to one trip, so that there are as many stop events. Room for 12 stops, 12 trips, 48 stop times, 48 departures.
 pub fn build(
+    tally: &mut [u32; 128],
+    screen: u32,
     settings: Settings,
     s: QuerySizes,
     tables: &[u32],
@@ -250,9 +293,28 @@ pub fn build(
     area: &mut [u32],
     built: &mut [u32],
 ) -> Made {
-    let grouped = group(settings, s, tables, built);
-    let sorted = sort(settings, grouped, tables, stop_runs, rows, built);
-    link(settings, sorted, tables, stop_runs, rows, area, built)
+    let grouped = group(tally, screen, settings, s, tables, built);
+    let sorted = sort(
+        tally,
+        screen,
+        settings,
+        grouped,
+        tables,
+        stop_runs,
+        rows,
+        built,
+    );
+    link(
+        tally,
+        screen,
+        settings,
+        sorted,
+        tables,
+        stop_runs,
+        rows,
+        area,
+        built,
+    )
 }
 
 fn line_trips(first: u32, count: u32, entries: &[u32]) {
@@ -283,6 +345,8 @@ fn all_lines(count: u32, runs: &[u32], entries: &[u32], fifo: &[u32]) {
 }
 
 fn lay_out(
+    tally: &mut [u32; 128],
+    screen: u32,
     settings: Settings,
     s: QuerySizes,
     tables: &[u32],
@@ -292,6 +356,8 @@ fn lay_out(
     fifo: &mut [u32],
 ) {
     let code = exports::savoiky_line_layout(
+        tally,
+        screen,
         settings,
         s.stops,
         s.trips,
@@ -314,7 +380,14 @@ fn lay_out(
 }
 
 // The lines, their trips in order, their FIFO flags.
-pub fn show_lines(settings: Settings, s: QuerySizes, tables: &[u32], built: &[u32]) {
+pub fn show_lines(
+    tally: &mut [u32; 128],
+    screen: u32,
+    settings: Settings,
+    s: QuerySizes,
+    tables: &[u32],
+    built: &[u32],
+) {
     let mut positions = [0u32; 12];
     let mut fifo = [0u32; 12];
     let trips = part(wide(s.trips), 12);
@@ -325,6 +398,8 @@ pub fn show_lines(settings: Settings, s: QuerySizes, tables: &[u32], built: &[u3
         return;
     }
     lay_out(
+        tally,
+        screen,
         settings,
         s,
         tables,

@@ -48,14 +48,33 @@ fn timetable(end: u32, begin: u32) -> [u32; 75] {
     ]
 }
 
-fn build_k(settings: Settings, tables: &[u32], area: &mut [u32], built: &mut [u32]) -> Made {
+fn build_k(
+    tally: &mut [u32; 128],
+    screen: u32,
+    settings: Settings,
+    tables: &[u32],
+    area: &mut [u32],
+    built: &mut [u32],
+) -> Made {
     let runs = [0u32, 2, 2, 3, 5, 0]; // stop 0 lists two departures, stop 1 three, stop 2 none
     let mut rows = [0u32, 0, 1, 0, 0, 1, 1, 1, 2, 0]; // trip and offset: T0, T1; T0, T1, T2
-    build(settings, sizes(), tables, &runs, &mut rows, area, built)
+    build(
+        tally,
+        screen,
+        settings,
+        sizes(),
+        tables,
+        &runs,
+        &mut rows,
+        area,
+        built,
+    )
 }
 
 // A query from stop 0 (10 seconds) to stop 2 (5 seconds).
 fn asked(
+    tally: &mut [u32; 128],
+    screen: u32,
     settings: Settings,
     start: u32,
     change: u32,
@@ -67,18 +86,38 @@ fn asked(
     let distances = [12.5f64];
     let query = [start, change, 0, 0, 0, 0, 0, 0, 10, 2, 5];
     tell(b"Start @, change time # s\n", &[start, change]);
-    ask(settings, s, tables, built, area, &distances, &query);
+    ask(
+        tally,
+        screen,
+        settings,
+        s,
+        tables,
+        built,
+        area,
+        &distances,
+        &query,
+    );
 }
 
-fn queries(settings: Settings, s: QuerySizes, tables: &[u32], built: &[u32], area: &[u32]) {
-    asked(settings, 90, 120, s, tables, built, area);
-    asked(settings, 90, 121, s, tables, built, area);
-    asked(settings, 91, 120, s, tables, built, area);
-    asked(settings, 150, 120, s, tables, built, area);
-    asked(settings, 151, 120, s, tables, built, area);
+fn queries(
+    tally: &mut [u32; 128],
+    screen: u32,
+    settings: Settings,
+    s: QuerySizes,
+    tables: &[u32],
+    built: &[u32],
+    area: &[u32],
+) {
+    asked(tally, screen, settings, 90, 120, s, tables, built, area);
+    asked(tally, screen, settings, 90, 121, s, tables, built, area);
+    asked(tally, screen, settings, 91, 120, s, tables, built, area);
+    asked(tally, screen, settings, 150, 120, s, tables, built, area);
+    asked(tally, screen, settings, 151, 120, s, tables, built, area);
 }
 
 fn shown(
+    tally: &mut [u32; 128],
+    screen: u32,
     settings: Settings,
     made: Made,
     tables: &[u32],
@@ -91,48 +130,79 @@ fn shown(
         return;
     }
     let n = part(made.length, built.len());
-    show_lines(settings, made.sizes, tables, &built[..n]);
+    show_lines(tally, screen, settings, made.sizes, tables, &built[..n]);
     say(b"  transfers of trip 0 at stop 1:\n");
     show_transfers(made.sizes, 1, area, &built[..n]);
     if asking {
-        queries(settings, made.sizes, tables, &built[..n], area);
+        queries(
+            tally,
+            screen,
+            settings,
+            made.sizes,
+            tables,
+            &built[..n],
+            area,
+        );
     }
 }
 
-fn day_in(settings: Settings, tables: &[u32], area: &mut [u32], built: &mut [u32], asking: bool) {
-    let made = build_k(settings, tables, area, built);
-    shown(settings, made, tables, built, area, asking);
+fn day_in(
+    tally: &mut [u32; 128],
+    screen: u32,
+    settings: Settings,
+    tables: &[u32],
+    area: &mut [u32],
+    built: &mut [u32],
+    asking: bool,
+) {
+    let made = build_k(tally, screen, settings, tables, area, built);
+    shown(tally, screen, settings, made, tables, built, area, asking);
 }
 
 // The lines, the transfers of T0 at stop 1 (stop event 1), and the queries where they are wanted.
-fn day(settings: Settings, end: u32, begin: u32, asking: bool) {
+fn day(
+    tally: &mut [u32; 128],
+    screen: u32,
+    settings: Settings,
+    end: u32,
+    begin: u32,
+    asking: bool,
+) {
     let tables = timetable(end, begin);
     let mut area = [0u32; 256];
     let mut built = [0u32; 288];
-    day_in(settings, &tables, &mut area, &mut built, asking);
+    day_in(
+        tally,
+        screen,
+        settings,
+        &tables,
+        &mut area,
+        &mut built,
+        asking,
+    );
 }
 
-pub fn run(settings: Settings) {
+pub fn run(tally: &mut [u32; 128], screen: u32, settings: Settings) {
     say(b"\nTimetable K, with trip 1 ending at 399\n");
-    day(settings, 399, 320, false);
+    day(tally, screen, settings, 399, 320, false);
     say(b"Timetable K, with trip 2 leaving stop 1 at 319\n");
-    day(settings, 460, 319, false);
+    day(tally, screen, settings, 460, 319, false);
     say(b"Timetable K\n");
-    day(settings, 460, 320, true);
+    day(tally, screen, settings, 460, 320, true);
 }
 
 // T2 leaves stop 1 just 120 seconds after T0 arrives there.
-fn house(settings: Settings, transfer_time: u32) {
+fn house(tally: &mut [u32; 128], screen: u32, settings: Settings, transfer_time: u32) {
     let mut other = settings;
     other.transfer_time = transfer_time;
     tell(b"Transfer time # s\n", &[transfer_time]);
-    day(other, 460, 320, false);
+    day(tally, screen, other, 460, 320, false);
 }
 
 // The same timetable where changes by built transfers take longer, and where a setting is out of its range.
-pub fn houses(settings: Settings) {
+pub fn houses(tally: &mut [u32; 128], screen: u32, settings: Settings) {
     say(b"\nTimetable K under other settings\n");
-    house(settings, 120);
-    house(settings, 121);
-    house(settings, 3601);
+    house(tally, screen, settings, 120);
+    house(tally, screen, settings, 121);
+    house(tally, screen, settings, 3601);
 }

@@ -14,10 +14,40 @@ pub struct RowLabel {
     pub label: LabelRow,
 }
 
+// Who asks: the screen, the settings of the house, the counts of what is asked on.
+pub struct Caller {
+    pub screen: u32,
+    pub settings: Settings,
+    pub sizes: QuerySizes,
+}
+
+fn load(
+    tally: &mut [u32; 128],
+    by: Caller,
+    stop: u32,
+    row: u32,
+    labels: &[u32],
+    distances: &[f64],
+) -> RowLabel {
+    let stops = by.sizes.stops;
+    let a = exports::savoiky_label_load(
+        tally,
+        by.screen,
+        by.settings,
+        stops,
+        stop,
+        row,
+        labels,
+        distances,
+    );
+    let l = a.row;
+    RowLabel { row: row, label: l }
+}
+
 // The label of a stop in this row, or in the next lower row that has one.
 pub fn label_at(
-    settings: Settings,
-    stops: u32,
+    tally: &mut [u32; 128],
+    by: Caller,
     stop: u32,
     row: u32,
     labels: &[u32],
@@ -25,16 +55,14 @@ pub fn label_at(
 ) -> RowLabel {
     let mut r = row;
     while 0 < r {
-        let a = exports::savoiky_label_load(settings, stops, stop, r, labels, distances);
-        let l = a.row;
+        let found = load(tally, by, stop, r, labels, distances);
+        let l = found.label;
         if l.kind != 0 {
-            return RowLabel { row: r, label: l };
+            return found;
         }
         r -= 1;
     }
-    let last = exports::savoiky_label_load(settings, stops, stop, 0, labels, distances);
-    let l = last.row;
-    RowLabel { row: 0, label: l }
+    load(tally, by, stop, 0, labels, distances)
 }
 
 // When a label's stop is reached.
@@ -47,8 +75,8 @@ pub fn arrival(l: LabelRow) -> u32 {
 
 // The effective departure of a trip's stop time, under the delays at the end of the query.
 fn effective(
-    settings: Settings,
-    s: QuerySizes,
+    tally: &mut [u32; 128],
+    by: Caller,
     tables: &[u32],
     query: &[u32],
     trip: u32,
@@ -56,12 +84,15 @@ fn effective(
 ) -> u32
     requires { ⌜ time < 68719476736 ⌝ }
 {
+    let s = by.sizes;
     let rows = 7 + wide(s.origins) * 2 + wide(s.egress) * 2;
     let b = part(rows + wide(s.delays) * 2, query.len());
     let a = part(rows, b);
     let sequence = at(tables, time + 3);
     let d = exports::savoiky_delay_at(
-        settings,
+        tally,
+        by.screen,
+        by.settings,
         s.trips,
         s.delays,
         s.stop_rows,
@@ -72,7 +103,9 @@ fn effective(
     );
     let scheduled = at(tables, time + 2);
     let e = exports::savoiky_effective_departure(
-        settings,
+        tally,
+        by.screen,
+        by.settings,
         scheduled,
         d.trip_delay,
         d.flags,
@@ -82,10 +115,17 @@ fn effective(
 }
 
 // When a ride leaves: at the effective departure where it was boarded; a frequency trip's run by its shift later.
-fn departure(settings: Settings, s: QuerySizes, tables: &[u32], query: &[u32], l: LabelRow) -> u32 {
-    let trip = wide(s.times) * 6 + wide(l.word2) * 8;
+fn departure(
+    tally: &mut [u32; 128],
+    by: Caller,
+    tables: &[u32],
+    query: &[u32],
+    l: LabelRow,
+) -> u32 {
+    let times = by.sizes.times;
+    let trip = wide(times) * 6 + wide(l.word2) * 8;
     let time = (wide(at(tables, trip)) + wide(l.word4)) * 6;
-    let leaves = effective(settings, s, tables, query, l.word2, time);
+    let leaves = effective(tally, by, tables, query, l.word2, time);
     if at(tables, trip + 5) == 0 {
         return leaves;
     }
@@ -103,8 +143,8 @@ fn change(query: &[u32], row: u32) -> u32 {
 // Does a ride or a walk begin no sooner than its stop is reached? A walk begins its duration before it arrives, a ride the
 // change time before it leaves; and a ride does not arrive before it leaves.
 fn joins(
-    settings: Settings,
-    s: QuerySizes,
+    tally: &mut [u32; 128],
+    by: Caller,
     tables: &[u32],
     query: &[u32],
     reached: u32,
@@ -115,7 +155,7 @@ fn joins(
     if l.kind == 3 {
         return from + wide(l.word4) <= wide(l.word1);
     }
-    let leaves = departure(settings, s, tables, query, l);
+    let leaves = departure(tally, by, tables, query, l);
     from + wide(change(query, found.row)) <= wide(leaves) && leaves <= l.word1
 }
 
@@ -129,8 +169,8 @@ fn stop_before(l: LabelRow) -> u32 {
 
 // Do the legs to a stop in a row join, at most 26 after an access walk?
 pub fn joined(
-    settings: Settings,
-    s: QuerySizes,
+    tally: &mut [u32; 128],
+    by: Caller,
     tables: &[u32],
     query: &[u32],
     labels: &[u32],
@@ -138,23 +178,16 @@ pub fn joined(
     stop: u32,
     row: u32,
 ) -> bool {
-    let mut found = label_at(settings, s.stops, stop, row, labels, distances);
+    let mut found = label_at(tally, by, stop, row, labels, distances);
     let mut k: u32 = 0;
     while k < 26 {
         let l = found.label;
         if l.kind < 2 {
             return l.kind == 1;
         }
-        let before = label_at(
-            settings,
-            s.stops,
-            stop_before(l),
-            found.row,
-            labels,
-            distances,
-        );
+        let before = label_at(tally, by, stop_before(l), found.row, labels, distances);
         let reached = before.label;
-        if joins(settings, s, tables, query, arrival(reached), found) == false {
+        if joins(tally, by, tables, query, arrival(reached), found) == false {
             return false;
         }
         found = before;
@@ -168,8 +201,8 @@ fn access(l: LabelRow) {
     tell(b"walk # s to stop #; ", &[l.word3, l.word1]);
 }
 
-fn ride(settings: Settings, s: QuerySizes, tables: &[u32], query: &[u32], l: LabelRow, stop: u32) {
-    let leaving = departure(settings, s, tables, query, l);
+fn ride(tally: &mut [u32; 128], by: Caller, tables: &[u32], query: &[u32], l: LabelRow, stop: u32) {
+    let leaving = departure(tally, by, tables, query, l);
     let n = [l.word2, l.word3, leaving, stop, l.word1];
     tell(b"trip # from stop # at @ to stop #, arriving @; ", &n);
 }
@@ -180,9 +213,9 @@ fn walk(l: LabelRow) {
 }
 
 // One leg: a ride or a walk.
-fn leg(settings: Settings, s: QuerySizes, tables: &[u32], query: &[u32], l: LabelRow, stop: u32) {
+fn leg(tally: &mut [u32; 128], by: Caller, tables: &[u32], query: &[u32], l: LabelRow, stop: u32) {
     if l.kind == 2 {
-        ride(settings, s, tables, query, l, stop);
+        ride(tally, by, tables, query, l, stop);
         return;
     }
     walk(l);
@@ -191,9 +224,9 @@ fn leg(settings: Settings, s: QuerySizes, tables: &[u32], query: &[u32], l: Labe
 // The legs to a stop in a row, at most so many: those to the stop that the label there came from, then this one. A label leads
 // back to the highest row not above its own, since a round sees its own gains.
 pub fn legs(
-    settings: Settings,
+    tally: &mut [u32; 128],
+    by: Caller,
     most: u32,
-    s: QuerySizes,
     tables: &[u32],
     query: &[u32],
     labels: &[u32],
@@ -204,16 +237,16 @@ pub fn legs(
     if most == 0 {
         return;
     }
-    let found = label_at(settings, s.stops, stop, row, labels, distances);
+    let found = label_at(tally, by, stop, row, labels, distances);
     let l = found.label;
     if l.kind < 2 {
         access(l);
         return;
     }
     legs(
-        settings,
+        tally,
+        by,
         most - 1,
-        s,
         tables,
         query,
         labels,
@@ -221,5 +254,5 @@ pub fn legs(
         stop_before(l),
         found.row,
     );
-    leg(settings, s, tables, query, l, stop);
+    leg(tally, by, tables, query, l, stop);
 }

@@ -1,12 +1,14 @@
 // worked: the program behind ./run. By the exported calls alone it answers the worked examples of document 01's leaves,
 // builds and asks Timetable K (k), a second one (second) and a larger one (town), and prints the answers with their legs for a
-// person to read; then builds Timetable K under other settings. The gate holds what it prints to the file `stdout`.
+// person to read; then builds Timetable K under other settings, and prints what the tally shows (screens). The gate holds what it
+// prints to the file `stdout`.
 // Place: a program; it has no specs.
 // Proves: that it is safe and ends. Assumes the contracts of the kit's io and libc.
 mod asking;
 mod building;
 mod k;
 mod legs;
+mod screens;
 mod second;
 mod town;
 mod words;
@@ -28,8 +30,8 @@ fn answer(a: door::Answer) {
     say(b"\n");
 }
 
-fn rounds(settings: Settings, wanted: u32, transfers: u32) {
-    let a = exports::savoiky_max_rounds(settings, wanted, transfers);
+fn rounds(tally: &mut [u32; 128], screen: u32, settings: Settings, wanted: u32, transfers: u32) {
+    let a = exports::savoiky_max_rounds(tally, screen, settings, wanted, transfers);
     if a.code != 0 {
         refused(a.code);
         return;
@@ -40,9 +42,9 @@ fn rounds(settings: Settings, wanted: u32, transfers: u32) {
     );
 }
 
-fn boarding(settings: Settings, wanted: u32) {
+fn boarding(tally: &mut [u32; 128], screen: u32, settings: Settings, wanted: u32) {
     let windows = [600u32, 1200, 300];
-    let a = exports::savoiky_freq_board(settings, 1, &windows, 600, 660, wanted);
+    let a = exports::savoiky_freq_board(tally, screen, settings, 1, &windows, 600, 660, wanted);
     let n = [wanted, a.departure, a.time_shift_s];
     if a.found == 0 {
         tell(b"  wanted #: none\n", &n);
@@ -51,15 +53,23 @@ fn boarding(settings: Settings, wanted: u32) {
     tell(b"  wanted #: departs #, shift #\n", &n);
 }
 
-fn walk(settings: Settings, name: &[u8], duration: u32, mode: u32, wheelchair: u32) {
+fn walk(
+    tally: &mut [u32; 128],
+    screen: u32,
+    settings: Settings,
+    name: &[u8],
+    duration: u32,
+    mode: u32,
+    wheelchair: u32,
+) {
     say(name);
-    answer(exports::savoiky_walk_duration(settings, duration, mode, wheelchair));
+    answer(exports::savoiky_walk_duration(tally, screen, settings, duration, mode, wheelchair));
 }
 
-fn cell(settings: Settings, number_of: u32) {
-    let made = exports::savoiky_cell_bitset_new(settings, 65);
-    let with = exports::savoiky_cell_bitset_set_bit(settings, made.set, number_of);
-    let held = exports::savoiky_cell_bitset_get_bit(settings, with.set, number_of);
+fn cell(tally: &mut [u32; 128], screen: u32, settings: Settings, number_of: u32) {
+    let made = exports::savoiky_cell_bitset_new(tally, screen, settings, 65);
+    let with = exports::savoiky_cell_bitset_set_bit(tally, screen, settings, made.set, number_of);
+    let held = exports::savoiky_cell_bitset_get_bit(tally, screen, settings, with.set, number_of);
     say_number(b"  cell ", number_of);
     if held.value == 1 {
         say(b" is kept\n");
@@ -68,61 +78,80 @@ fn cell(settings: Settings, number_of: u32) {
     }
 }
 
-fn clock(settings: Settings, name: &[u8], hour: u32, minute: u32, second: u32) {
+fn clock(
+    tally: &mut [u32; 128],
+    screen: u32,
+    settings: Settings,
+    name: &[u8],
+    hour: u32,
+    minute: u32,
+    second: u32,
+) {
     say(name);
-    answer(exports::savoiky_service_second(settings, hour, minute, second));
+    answer(exports::savoiky_service_second(tally, screen, settings, hour, minute, second));
 }
 
-fn query_rounds(settings: Settings) {
+fn query_rounds(tally: &mut [u32; 128], screen: u32, settings: Settings) {
     say(b"Rounds of a query\n");
-    rounds(settings, 0, 0);
-    rounds(settings, 0, 3);
-    rounds(settings, 20, 0);
+    rounds(tally, screen, settings, 0, 0);
+    rounds(tally, screen, settings, 0, 3);
+    rounds(tally, screen, settings, 20, 0);
 }
 
-fn boardings(settings: Settings) {
+fn boardings(tally: &mut [u32; 128], screen: u32, settings: Settings) {
     say(b"Frequency boarding: window 600 to 1200 every 300, template from 600, boarding at 660\n");
-    boarding(settings, 660);
-    boarding(settings, 661);
-    boarding(settings, 961);
+    boarding(tally, screen, settings, 660);
+    boarding(tally, screen, settings, 661);
+    boarding(tally, screen, settings, 961);
 }
 
-fn arrival(settings: Settings) {
+fn arrival(tally: &mut [u32; 128], screen: u32, settings: Settings) {
     say(b"Arrival 200, shift 50, trip delay 10, only a departure delay of 40 given at the stop\n");
     say(b"  arrives at ");
-    answer(exports::savoiky_effective_arrival(settings, 200, 50, 10, 1, 0));
+    answer(exports::savoiky_effective_arrival(tally, screen, settings, 200, 50, 10, 1, 0));
 }
 
-fn walks(settings: Settings) {
+fn walks(tally: &mut [u32; 128], screen: u32, settings: Settings) {
     say(b"Walks of 30 seconds in a wheelchair query\n");
-    walk(settings, b"  stairs: ", 30, 2, 1);
-    walk(settings, b"  moving sidewalk: ", 30, 3, 1);
-    walk(settings, b"  pathway mode 8: ", 30, 8, 1);
+    walk(tally, screen, settings, b"  stairs: ", 30, 2, 1);
+    walk(tally, screen, settings, b"  moving sidewalk: ", 30, 3, 1);
+    walk(tally, screen, settings, b"  pathway mode 8: ", 30, 8, 1);
 }
 
-fn cells(settings: Settings) {
+fn cells(tally: &mut [u32; 128], screen: u32, settings: Settings) {
     say(b"A set of 65 cells\n");
-    cell(settings, 127);
-    cell(settings, 128);
+    cell(tally, screen, settings, 127);
+    cell(tally, screen, settings, 128);
 }
 
-fn clocks(settings: Settings) {
+fn clocks(tally: &mut [u32; 128], screen: u32, settings: Settings) {
     say(b"Service seconds of clock readings\n");
-    clock(settings, b"  25:10:00 is ", 25, 10, 0);
-    clock(settings, b"  48:00:00 is ", 48, 0, 0);
+    clock(tally, screen, settings, b"  25:10:00 is ", 25, 10, 0);
+    clock(tally, screen, settings, b"  48:00:00 is ", 48, 0, 0);
 }
 
-fn main() {
+fn leaves(tally: &mut [u32; 128], screen: u32, settings: Settings) {
     say(b"Timetable K: worked examples of the leaves\n\n");
+    query_rounds(tally, screen, settings);
+    boardings(tally, screen, settings);
+    arrival(tally, screen, settings);
+    walks(tally, screen, settings);
+    cells(tally, screen, settings);
+    clocks(tally, screen, settings);
+}
+
+// The calls of the leaves and of Timetable K are for screen 0, those of the second timetable for screen 1, those of the larger one for screen 2; the
+// last one is for a number that is no screen.
+fn main() {
     let settings = door::default_settings();
-    query_rounds(settings);
-    boardings(settings);
-    arrival(settings);
-    walks(settings);
-    cells(settings);
-    clocks(settings);
-    k::run(settings);
-    second::run(settings);
-    town::run(settings);
-    k::houses(settings);
+    let mut tally = [0u32; 128];
+    leaves(&mut tally, 0, settings);
+    k::run(&mut tally, 0, settings);
+    second::run(&mut tally, 1, settings);
+    town::run(&mut tally, 2, settings);
+    k::houses(&mut tally, 0, settings);
+    let before = screens::show_tally(&tally);
+    say(b"A call for screen 64\n");
+    rounds(&mut tally, 64, settings, 0, 0);
+    screens::show_since(&tally, before);
 }

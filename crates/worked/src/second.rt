@@ -48,7 +48,15 @@ fn timetable(arrives: u32) -> [u32; 84] {
 }
 
 // From stop 0 (10 seconds) to stop 3 (5 seconds), at 90, change time 120.
-fn shown(settings: Settings, made: Made, tables: &[u32], built: &[u32], area: &[u32]) {
+fn shown(
+    tally: &mut [u32; 128],
+    screen: u32,
+    settings: Settings,
+    made: Made,
+    tables: &[u32],
+    built: &[u32],
+    area: &[u32],
+) {
     if made.code != 0 {
         refused(made.code);
         return;
@@ -57,6 +65,8 @@ fn shown(settings: Settings, made: Made, tables: &[u32], built: &[u32], area: &[
     let query = [90u32, 120, 0, 0, 0, 0, 0, 0, 10, 3, 5];
     let n = part(made.length, built.len());
     ask(
+        tally,
+        screen,
         settings,
         made.sizes,
         tables,
@@ -67,23 +77,40 @@ fn shown(settings: Settings, made: Made, tables: &[u32], built: &[u32], area: &[
     );
 }
 
-fn day_in(settings: Settings, tables: &[u32], area: &mut [u32], built: &mut [u32]) {
+fn day_in(
+    tally: &mut [u32; 128],
+    screen: u32,
+    settings: Settings,
+    tables: &[u32],
+    area: &mut [u32],
+    built: &mut [u32],
+) {
     let runs = [0u32, 2, 2, 1, 3, 1, 4, 0]; // stop 0 lists two departures, stops 1 and 2 one each, stop 3 none
     let mut rows = [0u32, 0, 1, 0, 2, 0, 3, 0]; // trip and offset: T0, T1; T2; T3
-    let made = build(settings, sizes(), tables, &runs, &mut rows, area, built);
-    shown(settings, made, tables, built, area);
+    let made = build(
+        tally,
+        screen,
+        settings,
+        sizes(),
+        tables,
+        &runs,
+        &mut rows,
+        area,
+        built,
+    );
+    shown(tally, screen, settings, made, tables, built, area);
 }
 
-fn day(settings: Settings, arrives: u32) {
+fn day(tally: &mut [u32; 128], screen: u32, settings: Settings, arrives: u32) {
     let tables = timetable(arrives);
     let mut area = [0u32; 256];
     let mut built = [0u32; 288];
-    day_in(settings, &tables, &mut area, &mut built);
+    day_in(tally, screen, settings, &tables, &mut area, &mut built);
 }
 
-pub fn run(settings: Settings) {
+pub fn run(tally: &mut [u32; 128], screen: u32, settings: Settings) {
     say(b"\nA round that boards where it arrived: start 90, change time 120 s\n");
-    day(settings, 200);
+    day(tally, screen, settings, 200);
     say(b"The same, with trip 0 arriving at 90, before it leaves\n");
-    day(settings, 90);
+    day(tally, screen, settings, 90);
 }

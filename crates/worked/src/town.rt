@@ -112,6 +112,8 @@ fn query_delayed(start: u32) -> [u32; 20] {
 }
 
 fn plain(
+    tally: &mut [u32; 128],
+    screen: u32,
     settings: Settings,
     start: u32,
     wheelchair: u32,
@@ -122,10 +124,12 @@ fn plain(
 ) {
     let d = distances();
     let q = query(start, wheelchair);
-    ask(settings, s, tables, built, area, &d, &q);
+    ask(tally, screen, settings, s, tables, built, area, &d, &q);
 }
 
 fn delayed(
+    tally: &mut [u32; 128],
+    screen: u32,
     settings: Settings,
     start: u32,
     s: QuerySizes,
@@ -138,7 +142,7 @@ fn delayed(
     n.stop_rows = 1;
     let d = distances();
     let q = query_delayed(start);
-    ask(settings, n, tables, built, area, &d, &q);
+    ask(tally, screen, settings, n, tables, built, area, &d, &q);
 }
 
 // Metres: the six walk edges, then the origin.
@@ -146,28 +150,54 @@ fn distances() -> [f64; 7] {
     [35.0, 40.0, 620.0, 35.0, 40.0, 80.0, 130.0]
 }
 
-fn queries(settings: Settings, s: QuerySizes, tables: &[u32], built: &[u32], area: &[u32]) {
+fn queries(
+    tally: &mut [u32; 128],
+    screen: u32,
+    settings: Settings,
+    s: QuerySizes,
+    tables: &[u32],
+    built: &[u32],
+    area: &[u32],
+) {
     say(b"Start 28600 s (7:56:40)\n");
-    plain(settings, 28600, 0, s, tables, built, area);
+    plain(tally, screen, settings, 28600, 0, s, tables, built, area);
     say(b"Start 28600 s (7:56:40), trip 3 late by 300 s, at stop 7 by 240 s\n");
-    delayed(settings, 28600, s, tables, built, area);
+    delayed(tally, screen, settings, 28600, s, tables, built, area);
     say(b"Start 28600 s (7:56:40), in a wheelchair\n");
-    plain(settings, 28600, 1, s, tables, built, area);
+    plain(tally, screen, settings, 28600, 1, s, tables, built, area);
     say(b"Start 32400 s (9:00:00)\n");
-    plain(settings, 32400, 0, s, tables, built, area);
+    plain(tally, screen, settings, 32400, 0, s, tables, built, area);
 }
 
-fn shown(settings: Settings, made: Made, tables: &[u32], built: &[u32], area: &[u32]) {
+fn shown(
+    tally: &mut [u32; 128],
+    screen: u32,
+    settings: Settings,
+    made: Made,
+    tables: &[u32],
+    built: &[u32],
+    area: &[u32],
+) {
     if made.code != 0 {
         refused(made.code);
         return;
     }
     let n = part(made.length, built.len());
-    show_lines(settings, made.sizes, tables, &built[..n]);
-    queries(settings, made.sizes, tables, &built[..n], area);
+    show_lines(tally, screen, settings, made.sizes, tables, &built[..n]);
+    queries(
+        tally,
+        screen,
+        settings,
+        made.sizes,
+        tables,
+        &built[..n],
+        area,
+    );
 }
 
 fn day_in(
+    tally: &mut [u32; 128],
+    screen: u32,
     settings: Settings,
     tables: &[u32],
     rows: &mut [u32],
@@ -175,15 +205,33 @@ fn day_in(
     built: &mut [u32],
 ) {
     let runs = runs();
-    let made = build(settings, sizes(), tables, &runs, rows, area, built);
-    shown(settings, made, tables, built, area);
+    let made = build(
+        tally,
+        screen,
+        settings,
+        sizes(),
+        tables,
+        &runs,
+        rows,
+        area,
+        built,
+    );
+    shown(tally, screen, settings, made, tables, built, area);
 }
 
-pub fn run(settings: Settings) {
+pub fn run(tally: &mut [u32; 128], screen: u32, settings: Settings) {
     let tables = timetable();
     let mut rows = listed();
     let mut area = [0u32; 256];
     let mut built = [0u32; 288];
     say(b"\nA larger timetable: ten stops, ten trips, stairs, lifts, a frequency trip\n");
-    day_in(settings, &tables, &mut rows, &mut area, &mut built);
+    day_in(
+        tally,
+        screen,
+        settings,
+        &tables,
+        &mut rows,
+        &mut area,
+        &mut built,
+    );
 }

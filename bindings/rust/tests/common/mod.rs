@@ -1,5 +1,5 @@
 //! Timetable K of document 01, and its query.
-use savoiky::{Answer, Candidate, Egress, Origin, Query, Settings, Stop, StopTime, Tables, Timetable, Workspace};
+use savoiky::{Answer, Candidate, Egress, Origin, Query, Settings, Stop, StopTime, Tables, Tally, Timetable, Workspace};
 
 /// The settings of document 01, where a test says nothing else.
 pub const S: Settings = Settings::DEFAULT;
@@ -26,7 +26,7 @@ pub fn query_k(start_s: u32, change_s: u32) -> Query {
 /// What `query` answers, in a workspace of its own.
 #[allow(dead_code)]
 pub fn asked(tables: &Tables, query: &Query) -> Answer {
-    tables.query(S, query, &mut Workspace::new()).unwrap()
+    tables.query(&mut Tally::new(), 0, S, query, &mut Workspace::new()).unwrap()
 }
 
 /// An answer with these candidates (total, stop, row), the last one the best.

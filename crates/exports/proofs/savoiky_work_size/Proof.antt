@@ -1,17 +1,14 @@
-use mathlib.Core.Path.{ap, _∙_}
-use Rattle.query_call.specs.Workspace.{workspaceAnswer}
 use borrow.Author.Needs.{needs}
+use Rattle.tally.proofs.Gate.{shut, opened, shut-tally, open-tally}
 use Rattle.exports.proofs.savoiky_work_size.Statement.{statement}
 use Rattle.exports.proofs.savoiky_work_size.Tie as tie
 
-query-counts-requires : tie.Need-query-counts-requires
-query-counts-requires c κs = search needs
-
-workspace-requires : tie.Need-workspace-requires
-workspace-requires c κs = search needs
-
-returns : tie.Need-returns
-returns c = (c .workspace .ensures) ∙ ap workspaceAnswer (c .before .query-counts .ensures)
-
 pub savoiky-work-size-spec : {M : Type 1} → statement M
-savoiky-work-size-spec = tie.close (tie.spec query-counts-requires workspace-requires returns)
+savoiky-work-size-spec =
+    tie.close
+    (tie.spec
+    (λ c κs. search needs)
+    (λ c. search (needs, shut, shut-tally))
+    (λ c κs. search needs)
+    (λ c κs. search needs)
+    (λ c. search (needs, opened, open-tally)))

@@ -7,10 +7,10 @@ use Rattle.replay.proofs.all_blocks.Statement.{statement}
 use Rattle.replay.proofs.all_blocks.Tie as tie
 
 abbrev Inv-loop : tie.InvT-loop
-Inv-loop space₀ words₀ t₀ block₀ space words t block = (block ≤ 8) × (length space ≡ length space₀) × (length words ≡ length words₀)
+Inv-loop tally₀ space₀ words₀ t₀ block₀ tally space words t block = (block ≤ 8) × (length space ≡ length space₀) × (length words ≡ length words₀)
 
 abbrev μ-loop : tie.MeasureT-loop
-μ-loop space₀ words₀ t₀ block₀ space words t block = 8 - block
+μ-loop tally₀ space₀ words₀ t₀ block₀ tally space words t block = 8 - block
 
 loop-holds : tie.Need-loop-holds Inv-loop μ-loop
 loop-holds c = search needs

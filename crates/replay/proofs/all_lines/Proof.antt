@@ -6,10 +6,10 @@ use Rattle.replay.proofs.all_lines.Statement.{statement}
 use Rattle.replay.proofs.all_lines.Tie as tie
 
 abbrev Inv-loop : tie.InvT-loop
-Inv-loop text words₀ t₀ at₀ words t at = (at ≤ length text) × (length words ≡ length words₀)
+Inv-loop tally₀ text words₀ t₀ at₀ tally words t at = (at ≤ length text) × (length words ≡ length words₀)
 
 abbrev μ-loop : tie.MeasureT-loop
-μ-loop text words₀ t₀ at₀ words t at = length text - at
+μ-loop tally₀ text words₀ t₀ at₀ tally words t at = length text - at
 
 loop-holds : tie.Need-loop-holds Inv-loop μ-loop
 loop-holds c = search needs

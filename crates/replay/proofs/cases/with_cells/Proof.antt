@@ -4,10 +4,10 @@ use Rattle.replay.proofs.cases.with_cells.Statement.{statement}
 use Rattle.replay.proofs.cases.with_cells.Tie as tie
 
 abbrev Inv-loop : tie.InvT-loop
-Inv-loop settings w n s₀ i₀ s i = i ≤ n
+Inv-loop tally₀ screen settings w n s₀ i₀ tally s i = i ≤ n
 
 abbrev μ-loop : tie.MeasureT-loop
-μ-loop settings w n s₀ i₀ s i = n - i
+μ-loop tally₀ screen settings w n s₀ i₀ tally s i = n - i
 
 loop-holds : tie.Need-loop-holds Inv-loop μ-loop
 loop-holds c = search needs

@@ -4,10 +4,10 @@ use Rattle.worked.proofs.asking.show.Statement.{statement}
 use Rattle.worked.proofs.asking.show.Tie as tie
 
 abbrev Inv-loop : tie.InvT-loop
-Inv-loop settings reply s tables query candidates labels distances k₀ k = k ≤ reply .candidates
+Inv-loop tally₀ by reply tables query candidates labels distances k₀ tally k = k ≤ reply .candidates
 
 abbrev μ-loop : tie.MeasureT-loop
-μ-loop settings reply s tables query candidates labels distances k₀ k = reply .candidates - k
+μ-loop tally₀ by reply tables query candidates labels distances k₀ tally k = reply .candidates - k
 
 refused-requires : tie.Need-refused-requires Inv-loop μ-loop
 refused-requires c κs = search needs

@@ -27,8 +27,8 @@ slice-aggregate-savoiky-sort-stop-departures-2 c = sym (length-take-le _ _ (sear
 savoiky-sort-stop-departures-requires : tie.Need-savoiky-sort-stop-departures-requires
 savoiky-sort-stop-departures-requires c κs = search needs
 
-refusal-requires : tie.Need-refusal-requires
-refusal-requires c κs = search needs
+put-sorted-requires : tie.Need-put-sorted-requires
+put-sorted-requires c κs = search needs
 
 same-length : tie.Need-same-length
 same-length c = search needs
@@ -36,29 +36,11 @@ same-length c = search needs
 same-length-2 : tie.Need-same-length-2
 same-length-2 c = search needs
 
-returns : tie.Need-returns
-returns c = search needs
-
-put-requires : tie.Need-put-requires
-put-requires c κs = search needs
-
-put-requires-2 : tie.Need-put-requires-2
-put-requires-2 c κs = search needs
-
-put-requires-3 : tie.Need-put-requires-3
-put-requires-3 c κs = search needs
-
 same-length-3 : tie.Need-same-length-3
 same-length-3 c = search needs
 
-same-length-4 : tie.Need-same-length-4
-same-length-4 c = search needs
-
-same-length-5 : tie.Need-same-length-5
-same-length-5 c = search needs
-
-returns-2 : tie.Need-returns-2
-returns-2 c = search needs
+returns : tie.Need-returns
+returns c = search needs
 
 pub sort-in-spec : {M : Type 1} → statement M
 sort-in-spec =
@@ -71,14 +53,8 @@ sort-in-spec =
     array-borrow-prefix-other
     slice-aggregate-savoiky-sort-stop-departures-2
     savoiky-sort-stop-departures-requires
-    refusal-requires
+    put-sorted-requires
     same-length
     same-length-2
-    returns
-    put-requires
-    put-requires-2
-    put-requires-3
     same-length-3
-    same-length-4
-    same-length-5
-    returns-2)
+    returns)

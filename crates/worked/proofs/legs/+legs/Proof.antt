@@ -13,14 +13,14 @@ use Rattle.worked.proofs.legs.stop_before.Reads as stop-before-reads
 use Rattle.worked.proofs.legs.+legs.{statement}
 use Rattle.worked.proofs.legs.+legs.Tie.{close}
 
-abbrev μ-legs : Measures 4 legs-kinds.ps ℕ
-μ-legs κs a = a .1 .0
+abbrev μ-legs : Measures 5 legs-kinds.ps ℕ
+μ-legs κs a = a .1 .1 .0
 
-abbrev legs-at : ℕ → In 4 legs-kinds.ps
-legs-at t = and 4 legs-kinds.ps (is 4 legs-kinds.ps μ-legs t) legs.Pre
+abbrev legs-at : ℕ → In 5 legs-kinds.ps
+legs-at t = and 5 legs-kinds.ps (is 5 legs-kinds.ps μ-legs t) legs.Pre
 
-abbrev legs-below : ℕ → In 4 legs-kinds.ps
-legs-below t = and 4 legs-kinds.ps (falls 4 legs-kinds.ps _<_ μ-legs t) legs.Pre
+abbrev legs-below : ℕ → In 5 legs-kinds.ps
+legs-below t = and 5 legs-kinds.ps (falls 5 legs-kinds.ps _<_ μ-legs t) legs.Pre
 
 legs-returns : (t : ℕ) → legs-lts.Need-returns (
   label-at-reads.Asked,

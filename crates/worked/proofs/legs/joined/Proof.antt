@@ -4,10 +4,10 @@ use Rattle.worked.proofs.legs.joined.Statement.{statement}
 use Rattle.worked.proofs.legs.joined.Tie as tie
 
 abbrev Inv-loop : tie.InvT-loop
-Inv-loop settings s tables query labels distances stop row found₀ k₀ found k = k ≤ 26
+Inv-loop tally₀ by tables query labels distances stop row found₀ k₀ tally found k = k ≤ 26
 
 abbrev μ-loop : tie.MeasureT-loop
-μ-loop settings s tables query labels distances stop row found₀ k₀ found k = 26 - k
+μ-loop tally₀ by tables query labels distances stop row found₀ k₀ tally found k = 26 - k
 
 label-at-requires : tie.Need-label-at-requires Inv-loop μ-loop
 label-at-requires c κs = search needs

@@ -4,16 +4,16 @@ use Rattle.worked.proofs.legs.label_at.Statement.{statement}
 use Rattle.worked.proofs.legs.label_at.Tie as tie
 
 abbrev Inv-loop : tie.InvT-loop
-Inv-loop settings stops stop row labels distances r₀ r = r ≤ row
+Inv-loop tally₀ by stop row labels distances r₀ tally r = r ≤ row
 
 abbrev μ-loop : tie.MeasureT-loop
-μ-loop settings stops stop row labels distances r₀ r = r
+μ-loop tally₀ by stop row labels distances r₀ tally r = r
 
 loop-holds : tie.Need-loop-holds Inv-loop μ-loop
 loop-holds c = search needs
 
-savoiky-label-load-requires : tie.Need-savoiky-label-load-requires Inv-loop μ-loop
-savoiky-label-load-requires c κs = search needs
+load-requires : tie.Need-load-requires Inv-loop μ-loop
+load-requires c κs = search needs
 
 returns : tie.Need-returns Inv-loop μ-loop
 returns c = search needs
@@ -27,8 +27,8 @@ loop-less c = search needs
 loop-again : tie.Need-loop-again Inv-loop μ-loop
 loop-again c = search needs
 
-savoiky-label-load-requires-2 : tie.Need-savoiky-label-load-requires-2 Inv-loop μ-loop
-savoiky-label-load-requires-2 c κs = search needs
+load-requires-2 : tie.Need-load-requires-2 Inv-loop μ-loop
+load-requires-2 c κs = search needs
 
 returns-2 : tie.Need-returns-2 Inv-loop μ-loop
 returns-2 c = search needs
@@ -40,10 +40,10 @@ label-at-spec =
     Inv-loop
     μ-loop
     loop-holds
-    savoiky-label-load-requires
+    load-requires
     returns
     sub-r
     loop-less
     loop-again
-    savoiky-label-load-requires-2
+    load-requires-2
     returns-2)

@@ -1,8 +1,8 @@
 use mathlib.Core.Path.{_∙_, ap, sym}
 use Rattle.transfers_call.specs.Call.{transfersAnswer}
 use borrow.Author.Needs.{needs}
-use Rattle.exports.proofs.transfers_answer.Statement.{statement}
-use Rattle.exports.proofs.transfers_answer.Tie as tie
+use Rattle.sized_calls.proofs.transfers_answer.Statement.{statement}
+use Rattle.sized_calls.proofs.transfers_answer.Tie as tie
 
 enum-known-b : tie.Need-enum-known-b
 enum-known-b c = search needs

@@ -1,8 +1,8 @@
 use mathlib.Core.Path.{_∙_, ap, sym}
 use Rattle.lines_call.specs.Call.{linesAnswer}
 use borrow.Author.Needs.{needs}
-use Rattle.exports.proofs.lines_answer.Statement.{statement}
-use Rattle.exports.proofs.lines_answer.Tie as tie
+use Rattle.sized_calls.proofs.lines_answer.Statement.{statement}
+use Rattle.sized_calls.proofs.lines_answer.Tie as tie
 
 enum-known-g : tie.Need-enum-known-g
 enum-known-g c = search needs

@@ -5,7 +5,7 @@ use Rattle.lines_call.specs.declared.Grouped.{Grouped}
 use Rattle.lines_call.specs.Call.{LineAreas, LinesOutcome, linesOutcomeOf, linesAnswer}
 use Rattle.transfers_call.specs.declared.Built.{Built}
 use Rattle.transfers_call.specs.Call.{TransferAreas, TransfersOutcome, transfersOutcomeOf, transfersAnswer}
-use Rattle.exports.specs.Shown.{shown, shownOf, shownTransfers, shownTransfersOf}
+use Rattle.sized_calls.specs.Shown.{shown, shownOf, shownTransfers, shownTransfersOf}
 
 pub shows : (r : Answer) (g : Grouped) (x : LineAreas) (o : LinesOutcome) → r ≡ linesAnswer g → linesOutcomeOf g x ≡ o → shown r x ≡ shownOf o
 shows r g x o e h = ap (λ (a : Answer). shown a x) e ∙ ap shownOf h
