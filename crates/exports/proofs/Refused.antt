@@ -5,7 +5,7 @@ use Rattle.cell_bitset.specs.declared.CellBitSet.{CellBitSet}
 use Rattle.cell_set_call.specs.declared.CellSetAnswer.{CellSetAnswer}
 use Rattle.lines_call.specs.Call.{LineAreas}
 use Rattle.transfers_call.specs.Call.{TransferAreas}
-use Rattle.sized_calls.specs.Shown.{Shown, shown, ShownTransfers, shownTransfers}
+use Rattle.sized_calls.specs.Shown.{shown, shownTransfers}
 
 pub back : (x y : CellBitSet) → x ≡ y → _≡_ {A = CellSetAnswer} (record { code = 15; set = x }) (record { code = 15; set = y })
 back x y e = ap (λ (s : CellBitSet). record { code = 15; set = s }) e

@@ -1,5 +1,6 @@
 // Lines of the tally: the answered calls of screens 0 to 63, then the refused ones.
 use crate::words::at;
+use crate::words::same_words;
 
 // Sets the tally to these words.
 pub fn set_tally(tally: &mut [u32; 128], w: &[u32]) {
@@ -12,12 +13,5 @@ pub fn set_tally(tally: &mut [u32; 128], w: &[u32]) {
 
 // Does the tally hold these words?
 pub fn tally_is(tally: &[u32; 128], w: &[u32]) -> bool {
-    let mut i: usize = 0;
-    while i < 128 {
-        if tally[i] != at(w, i) {
-            return false;
-        }
-        i += 1;
-    }
-    w.len() == 128
+    w.len() == 128 && same_words(w, 0, tally)
 }

@@ -10,9 +10,9 @@ use lib.ListN.{length, getD, set, replicate, length-set, length-replicate, List�
 use lib.Seq.{getD-set-same, getD-set-other, getD-append-add}
 use Rattle.tally.specs.declared.Tally.{Tally}
 use Rattle.tally.specs.declared.ScreenTally.{ScreenTally}
-use Rattle.tally.specs.Tally.{more, withCall, wordsOf, shownAt, putAt, tallyWith}
+use Rattle.tally.specs.Tally.{oneMore, withCall, tallyWords, shownAt, putAt, tallyWith}
 use Rattle.tally.specs.Screen.{forScreen, tallyAfter}
-use Rattle.tally.specs.Laws.{Call, tallyOf, codesOf, answersIn, refusalsIn, validCalls, total, greatest, IsTally, zeroTally, ScreenLaws, TallyLaws}
+use Rattle.tally.specs.Laws.{ScreenCall, tallyOf, codesOf, answersIn, refusalsIn, validCalls, tallySum, greatest, IsTally, zeroTally, ScreenLaws, TallyLaws}
 use Rattle.tally.proofs.Gate.{shut, opened, shut-tally, open-tally}
 
 -- two counts
@@ -95,8 +95,8 @@ withCalls t (k ∷ ks) = withCalls (withCall t k) ks
 
 module _ (s : ℕ) (valid : s ≤ 63) where
   -- one call more in front, given the law for the calls after it
-  first : (cs : List Call) → ((vs : List ℕ) → IsTally vs → shownAt (tallyOf vs cs) s ≡ withCalls (shownAt vs s) (codesOf s cs))
-      → (ws : List ℕ) (c : Call) → IsTally ws → Dec (c .screen ≡ s)
+  first : (cs : List ScreenCall) → ((vs : List ℕ) → IsTally vs → shownAt (tallyOf vs cs) s ≡ withCalls (shownAt vs s) (codesOf s cs))
+      → (ws : List ℕ) (c : ScreenCall) → IsTally ws → Dec (c .screen ≡ s)
       → shownAt (tallyOf ws (c ∷ cs)) s ≡ withCalls (shownAt ws s) (codesOf s (c ∷ cs))
   unfolding tallyOf codesOf
   first cs law ws c is (yes d) =
@@ -107,7 +107,7 @@ module _ (s : ℕ) (valid : s ≤ 63) where
       rw (ne-eqb _ _ d) (law (tallyAfter ws (c .screen) (c .code)) (call-keeps ws is (c .screen) (c .code) (made ws (c .screen) (c .code)))
       ∙ ap (λ (z : ScreenTally). withCalls z (codesOf s cs)) (other-call ws is (c .screen) (c .code) (made ws (c .screen) (c .code)) s valid d))
 
-  after : (cs : List Call) (ws : List ℕ) → IsTally ws → shownAt (tallyOf ws cs) s ≡ withCalls (shownAt ws s) (codesOf s cs)
+  after : (cs : List ScreenCall) (ws : List ℕ) → IsTally ws → shownAt (tallyOf ws cs) s ≡ withCalls (shownAt ws s) (codesOf s cs)
   unfolding tallyOf codesOf
   after [] ws is = refl
   after (c ∷ cs) ws is = first cs (λ vs e. after cs vs e) ws c is (ℕ-discrete (c .screen) s)
@@ -117,24 +117,24 @@ with-calls : (ks : List ℕ) (a r : ℕ) → a ≤ greatest → r ≤ greatest
     → withCalls (of a r) ks ≡ of (min (a + answersIn ks) greatest) (min (r + refusalsIn ks) greatest)
 unfolding answersIn refusalsIn
 with-calls [] a r fa fr = both (omega arith) (omega arith)
-with-calls (zero ∷ ks) a r fa fr = with-calls ks (more a) r (omega arith) fr ∙ both (omega arith) (omega arith)
-with-calls (suc k ∷ ks) a r fa fr = with-calls ks a (more r) fa (omega arith) ∙ both (omega arith) (omega arith)
+with-calls (zero ∷ ks) a r fa fr = with-calls ks (oneMore a) r (omega arith) fr ∙ both (omega arith) (omega arith)
+with-calls (suc k ∷ ks) a r fa fr = with-calls ks a (oneMore r) fa (omega arith) ∙ both (omega arith) (omega arith)
 
 -- THE SUM over a list with one number changed
-total-set : (ws : List ℕ) (p v : ℕ) → p < length ws → total (set ws p v) + getD ws p 0 ≡ total ws + v
-unfolding total
+total-set : (ws : List ℕ) (p v : ℕ) → p < length ws → tallySum (set ws p v) + getD ws p 0 ≡ tallySum ws + v
+unfolding tallySum
 total-set [] p v h = absurd (omega arith)
 total-set (n ∷ ns) zero v h = omega arith
 total-set (n ∷ ns) (suc p) v h = let ih = total-set ns p v (omega arith) in omega arith
 
-at-most : (ws : List ℕ) (p : ℕ) → getD ws p 0 ≤ total ws
-unfolding total
+at-most : (ws : List ℕ) (p : ℕ) → getD ws p 0 ≤ tallySum ws
+unfolding tallySum
 at-most [] p = omega arith
 at-most (n ∷ ns) zero = omega arith
 at-most (n ∷ ns) (suc p) = let ih = at-most ns p in omega arith
 
 total-put : (ws : List ℕ) (s : ℕ) (t : ScreenTally) → length ws ≡ 128 → s ≤ 63
-    → total (putAt ws s t) + (getD ws s 0 + getD ws (s + 64) 0) ≡ total ws + (t .answered + t .refused)
+    → tallySum (putAt ws s t) + (getD ws s 0 + getD ws (s + 64) 0) ≡ tallySum ws + (t .answered + t .refused)
 total-put ws s t size valid =
     let l = length-set ws s (t .answered) in
     let one = total-set ws s (t .answered) (omega arith) in
@@ -153,15 +153,15 @@ at-most-one t zero = omega arith
 at-most-one t (suc k) = omega arith
 
 -- one call, in the sum
-module _ (ws : List ℕ) (is : IsTally ws) (c : Call) (cs : List Call) where
+module _ (ws : List ℕ) (is : IsTally ws) (c : ScreenCall) (cs : List ScreenCall) where
   abbrev next : List ℕ
   next = tallyAfter ws (c .screen) (c .code)
 
-  adds : Made ws (c .screen) (c .code) → total ws + validCalls (c ∷ cs) ≤ greatest → total next + validCalls cs ≡ total ws + validCalls (c ∷ cs)
+  adds : Made ws (c .screen) (c .code) → tallySum ws + validCalls (c ∷ cs) ≤ greatest → tallySum next + validCalls cs ≡ tallySum ws + validCalls (c ∷ cs)
   unfolding validCalls
   adds (counted h e) few =
       let v : validCalls (c ∷ cs) ≡ suc (validCalls cs) = rw (le-leb _ _ h) refl in
-      let n : total next ≡ total (putAt ws (c .screen) (withCall (shownAt ws (c .screen)) (c .code))) = ap total e in
+      let n : tallySum next ≡ tallySum (putAt ws (c .screen) (withCall (shownAt ws (c .screen)) (c .code))) = ap tallySum e in
       let t = total-put ws (c .screen) (withCall (shownAt ws (c .screen)) (c .code)) (is .size) h in
       let a = at-most ws (c .screen) in
       let r = at-most ws (c .screen + 64) in
@@ -169,11 +169,11 @@ module _ (ws : List ℕ) (is : IsTally ws) (c : Call) (cs : List Call) where
       omega arith
   adds (nowhere h e) few = rw (e, lt-leb _ _ h) refl
 
-  adds-at-most : Made ws (c .screen) (c .code) → total next + validCalls cs ≤ total ws + validCalls (c ∷ cs)
+  adds-at-most : Made ws (c .screen) (c .code) → tallySum next + validCalls cs ≤ tallySum ws + validCalls (c ∷ cs)
   unfolding validCalls
   adds-at-most (counted h e) =
       let v : validCalls (c ∷ cs) ≡ suc (validCalls cs) = rw (le-leb _ _ h) refl in
-      let n : total next ≡ total (putAt ws (c .screen) (withCall (shownAt ws (c .screen)) (c .code))) = ap total e in
+      let n : tallySum next ≡ tallySum (putAt ws (c .screen) (withCall (shownAt ws (c .screen)) (c .code))) = ap tallySum e in
       let t = total-put ws (c .screen) (withCall (shownAt ws (c .screen)) (c .code)) (is .size) h in
       let m = at-most-one (shownAt ws (c .screen)) (c .code) in
       omega arith
@@ -183,7 +183,7 @@ no-calls : validCalls [] ≡ 0
 unfolding validCalls
 no-calls = refl
 
-sums-from : (cs : List Call) (ws : List ℕ) → IsTally ws → total ws + validCalls cs ≤ greatest → total (tallyOf ws cs) ≡ total ws + validCalls cs
+sums-from : (cs : List ScreenCall) (ws : List ℕ) → IsTally ws → tallySum ws + validCalls cs ≤ greatest → tallySum (tallyOf ws cs) ≡ tallySum ws + validCalls cs
 unfolding tallyOf
 sums-from [] ws is few = let z = no-calls in omega arith
 sums-from (c ∷ cs) ws is few =
@@ -191,7 +191,7 @@ sums-from (c ∷ cs) ws is few =
     let e = adds ws is c cs m few in
     sums-from cs (tallyAfter ws (c .screen) (c .code)) (call-keeps ws is (c .screen) (c .code) m) (omega arith) ∙ e
 
-at-most-from : (cs : List Call) (ws : List ℕ) → IsTally ws → total (tallyOf ws cs) ≤ total ws + validCalls cs
+at-most-from : (cs : List ScreenCall) (ws : List ℕ) → IsTally ws → tallySum (tallyOf ws cs) ≤ tallySum ws + validCalls cs
 unfolding tallyOf
 at-most-from [] ws is = omega arith
 at-most-from (c ∷ cs) ws is =
@@ -200,12 +200,12 @@ at-most-from (c ∷ cs) ws is =
     let r = at-most-from cs (tallyAfter ws (c .screen) (c .code)) (call-keeps ws is (c .screen) (c .code) m) in
     omega arith
 
-valid-few : (c : Call) (cs : List Call) → Dec (c .screen ≤ 63) → validCalls (c ∷ cs) ≤ suc (validCalls cs)
+valid-few : (c : ScreenCall) (cs : List ScreenCall) → Dec (c .screen ≤ 63) → validCalls (c ∷ cs) ≤ suc (validCalls cs)
 unfolding validCalls
 valid-few c cs (yes h) = rw (le-leb _ _ h) (omega arith)
 valid-few c cs (no n) = let h : 63 < c .screen = omega arith in rw (lt-leb _ _ h) (omega arith)
 
-valid-at-most : (cs : List Call) → validCalls cs ≤ length cs
+valid-at-most : (cs : List ScreenCall) → validCalls cs ≤ length cs
 valid-at-most [] = let z = no-calls in omega arith
 valid-at-most (c ∷ cs) =
     let ih = valid-at-most cs in
@@ -213,8 +213,8 @@ valid-at-most (c ∷ cs) =
     omega arith
 
 -- A ZERO TALLY
-zeros-total : (n : ℕ) → _≡_ {A = ℕ} (total (replicate n 0)) 0
-unfolding total
+zeros-total : (n : ℕ) → _≡_ {A = ℕ} (tallySum (replicate n 0)) 0
+unfolding tallySum
 zeros-total zero = refl
 zeros-total (suc n) = let ih = zeros-total n in omega arith
 
@@ -244,11 +244,11 @@ the-screen codeOf =
     }
 
 -- the record's two parts, in its numbers
-record-is : (t : Tally) → length (t .answered) ≡ 64 → (s : ℕ) → s ≤ 63 → shownAt (wordsOf t) s ≡ of (getD (t .answered) s 0) (getD (t .refused) s 0)
+record-is : (t : Tally) → length (t .answered) ≡ 64 → (s : ℕ) → s ≤ 63 → shownAt (tallyWords t) s ≡ of (getD (t .answered) s 0) (getD (t .refused) s 0)
 record-is t size s h =
     let p : s + 64 ≡ length (t .answered) + s = omega arith in
     both (List·getD-append (t .answered) (t .refused) 0 s (omega arith))
-    (ap (λ (i : ℕ). getD (wordsOf t) i 0) p ∙ getD-append-add (t .answered) (t .refused) s 0)
+    (ap (λ (i : ℕ). getD (tallyWords t) i 0) p ∙ getD-append-add (t .answered) (t .refused) s 0)
 
 pub the-tally : TallyLaws
 the-tally =

@@ -2,13 +2,12 @@
 -- `the-screen` and `the-tally` prove the claims.
 use Prim.Native.Nat.{ℕ, zero, suc, _+_, _≤_, _<_, min}
 use mathlib.Core.Path.{_≡_}
-use mathlib.Core.Bool.{Bool, cond}
+use mathlib.Core.Bool.{cond}
 use mathlib.Core.List.{List, [], _∷_}
 use lib.Dec.{eqb}
 use lib.ListN.{length, getD, replicate}
-use Rattle.tally.specs.declared.ScreenTally.{ScreenTally}
 use Rattle.tally.specs.declared.Tally.{Tally}
-use Rattle.tally.specs.Tally.{withCall, wordsOf, shownAt}
+use Rattle.tally.specs.Tally.{withCall, tallyWords, shownAt}
 use Rattle.tally.specs.Screen.{screenOk, forScreen, tallyAfter}
 
 -- A CALL FOR A SCREEN, whatever its outcomes are, which have a code
@@ -21,17 +20,17 @@ pub record ScreenLaws (A : Type 0) (codeOf : A → ℕ) : Type 0 where
       → (screen ≤ 63) × (forScreen screen refused own ≡ own)
 
 -- a call: the screen that it was made for, and the code that it ended with
-pub record Call : Type 0 where
+pub record ScreenCall : Type 0 where
   pub screen : ℕ
   pub code : ℕ
 
 -- the box's tally after these calls, in their order: each step is the one that the contract of every exported call has (`counts`)
-unfoldable pub tallyOf : List ℕ → List Call → List ℕ
+unfoldable pub tallyOf : List ℕ → List ScreenCall → List ℕ
 tallyOf ws [] = ws
 tallyOf ws (c ∷ cs) = tallyOf (tallyAfter ws (c .screen) (c .code)) cs
 
 -- a screen's own calls: their codes, in their order
-unfoldable pub codesOf : ℕ → List Call → List ℕ
+unfoldable pub codesOf : ℕ → List ScreenCall → List ℕ
 codesOf s [] = []
 codesOf s (c ∷ cs) = cond (eqb (c .screen) s) (c .code ∷ codesOf s cs) (codesOf s cs)
 
@@ -47,14 +46,14 @@ refusalsIn (zero ∷ ks) = refusalsIn ks
 refusalsIn (suc k ∷ ks) = suc (refusalsIn ks)
 
 -- how many calls are made with a valid screen number
-unfoldable pub validCalls : List Call → ℕ
+unfoldable pub validCalls : List ScreenCall → ℕ
 validCalls [] = 0
 validCalls (c ∷ cs) = cond (screenOk (c .screen)) (suc (validCalls cs)) (validCalls cs)
 
 -- the sum over all screens of both counts
-unfoldable pub total : List ℕ → ℕ
-total [] = 0
-total (n ∷ ns) = n + total ns
+unfoldable pub tallySum : List ℕ → ℕ
+tallySum [] = 0
+tallySum (n ∷ ns) = n + tallySum ns
 
 -- a count's greatest value
 abbrev pub greatest : ℕ
@@ -73,7 +72,7 @@ zeroTally = replicate 128 0
 pub record TallyLaws : Type 0 where
   -- the record shows of a screen what stands at the screen's number in its two parts
   pub record-shows : (t : Tally) → length (t .answered) ≡ 64 → (s : ℕ) → s ≤ 63
-      → shownAt (wordsOf t) s ≡ record { answered = getD (t .answered) s 0; refused = getD (t .refused) s 0 }
+      → shownAt (tallyWords t) s ≡ record { answered = getD (t .answered) s 0; refused = getD (t .refused) s 0 }
   -- a call for a screen above 63 counts nowhere
   pub nowhere : (ws : List ℕ) (screen code : ℕ) → 63 < screen → tallyAfter ws screen code ≡ ws
   -- any other call: its screen shows one more, every other screen what it showed; and a tally it stays
@@ -82,17 +81,17 @@ pub record TallyLaws : Type 0 where
   pub others : (ws : List ℕ) → IsTally ws → (screen code s : ℕ) → s ≤ 63 → ((screen ≡ s) → ⊥) → shownAt (tallyAfter ws screen code) s ≡ shownAt ws s
   pub kept : (ws : List ℕ) → IsTally ws → (screen code : ℕ) → IsTally (tallyAfter ws screen code)
   -- after any calls a screen shows its own answered and refused calls more, each count cut at the greatest
-  pub shows : (ws : List ℕ) → IsTally ws → (cs : List Call) (s : ℕ) → s ≤ 63
+  pub shows : (ws : List ℕ) → IsTally ws → (cs : List ScreenCall) (s : ℕ) → s ≤ 63
       → shownAt (tallyOf ws cs) s
       ≡ record {
         answered = min (getD ws s 0 + answersIn (codesOf s cs)) greatest;
         refused = min (getD ws (s + 64) 0 + refusalsIn (codesOf s cs)) greatest;
       }
   -- it shows the same however the other screens' calls are changed, as long as its own calls meet the same outcomes
-  pub independent : (ws : List ℕ) → IsTally ws → (s : ℕ) → s ≤ 63 → (cs ds : List Call) → codesOf s cs ≡ codesOf s ds
+  pub independent : (ws : List ℕ) → IsTally ws → (s : ℕ) → s ≤ 63 → (cs ds : List ScreenCall) → codesOf s cs ≡ codesOf s ds
       → shownAt (tallyOf ws cs) s ≡ shownAt (tallyOf ws ds) s
   -- over at most 4,294,967,295 calls from a zero tally the sum is the number of calls with a valid screen; over more it is never above
-  pub sums : (cs : List Call) → length cs ≤ greatest → total (tallyOf zeroTally cs) ≡ validCalls cs
-  pub never-above : (cs : List Call) → total (tallyOf zeroTally cs) ≤ validCalls cs
+  pub sums : (cs : List ScreenCall) → length cs ≤ greatest → tallySum (tallyOf zeroTally cs) ≡ validCalls cs
+  pub never-above : (cs : List ScreenCall) → tallySum (tallyOf zeroTally cs) ≤ validCalls cs
   -- a tally that the box has zeroed is one
   pub zeroed : IsTally zeroTally

@@ -1,6 +1,6 @@
 -- A CALL FOR A SCREEN (request T-08): question 15, asked before all others: is the screen one of 0 to 63? Definitions only.
 use Prim.Native.Nat.{ℕ}
-use mathlib.Core.Bool.{Bool, true, false, cond}
+use mathlib.Core.Bool.{Bool, cond}
 use mathlib.Core.List.{List}
 use lib.Dec.{leb}
 use Rattle.tally.specs.Tally.{tallyWith}

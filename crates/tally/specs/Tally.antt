@@ -7,17 +7,17 @@ use Rattle.tally.specs.declared.Tally.{Tally}
 use Rattle.tally.specs.declared.ScreenTally.{ScreenTally}
 
 -- the box's record as the numbers that are lent
-abbrev pub wordsOf : Tally → List ℕ
-wordsOf t = t .answered ++ t .refused
+abbrev pub tallyWords : Tally → List ℕ
+tallyWords t = t .answered ++ t .refused
 
 -- a count and one more; at 4,294,967,295 it stays
-abbrev pub more : ℕ → ℕ
-more n = min (n + 1) 4294967295
+abbrev pub oneMore : ℕ → ℕ
+oneMore n = min (n + 1) 4294967295
 
 -- one screen's tally with one call more, which ended with this code: 0 is answered ("no way" is answered), any other refused
 abbrev pub withCall : ScreenTally → ℕ → ScreenTally
-withCall t zero = record { answered = more (t .answered); refused = t .refused }
-withCall t (suc k) = record { answered = t .answered; refused = more (t .refused) }
+withCall t zero = record { answered = oneMore (t .answered); refused = t .refused }
+withCall t (suc k) = record { answered = t .answered; refused = oneMore (t .refused) }
 
 -- what a screen's tally shows
 abbrev pub shownAt : List ℕ → ℕ → ScreenTally

@@ -10,7 +10,7 @@
 // Assumes nothing.
 ghost use mathlib.Core.Path.{_≡_};
 ghost use Prim.Native.Nat.{_≤_};
-ghost use Rattle.tally.specs.Tally.{more, withCall, tallyWith};
+ghost use Rattle.tally.specs.Tally.{oneMore, withCall, tallyWith};
 
 // The box's record: the answered and refused calls of screens 0 to 63. It is lent to every call, which sees its 128 numbers.
 #[repr(C)]
@@ -27,7 +27,7 @@ pub struct ScreenTally {
 
 // A count and one more; the greatest stays.
 fn one_more(count: u32) -> u32
-    ensures { λ r. ⌜ r ≡ more count ⌝ }
+    ensures { λ r. ⌜ r ≡ oneMore count ⌝ }
 {
     if count == 4294967295 {
         4294967295
@@ -36,19 +36,22 @@ fn one_more(count: u32) -> u32
     }
 }
 
-// A screen's numbers with one call more, which ended with this code.
+// A screen's numbers with one call more, which ended with this code. Both are made before the code is looked at, so that it chooses a number and
+// not a way: an answer that the caller hands on is then not copied once more for each.
 fn counted(t: ScreenTally, code: u32) -> ScreenTally
     ensures { λ r. ⌜ r ≡ withCall t code ⌝ }
 {
+    let answered = one_more(t.answered);
+    let refused = one_more(t.refused);
     if code == 0 {
         ScreenTally {
-            answered: one_more(t.answered),
+            answered: answered,
             refused: t.refused,
         }
     } else {
         ScreenTally {
             answered: t.answered,
-            refused: one_more(t.refused),
+            refused: refused,
         }
     }
 }
