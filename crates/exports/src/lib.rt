@@ -307,7 +307,8 @@ pub extern "C" fn savoiky_effective_departure(
     flags: u32,
     departure_delay: u32,
 ) -> Answer
-    ensures outcome { λ r. ⌜ r ≡ forScreen screen (refusal 15) (departureOutcome settings departure «trip_delay» flags «departure_delay») ⌝ }
+    ensures outcome { λ r. ⌜ r ≡ forScreen screen (refusal 15)
+        (departureOutcome settings departure «trip_delay» flags «departure_delay») ⌝ }
     ensures counts { λ r. ⌜ now (tally .exit) ≡ tallyAfter (now (tally .entry)) screen (r .code) ⌝ }
 {
     if LAST_SCREEN < screen {
@@ -337,7 +338,8 @@ pub extern "C" fn savoiky_effective_arrival(
     flags: u32,
     arrival_delay: u32,
 ) -> Answer
-    ensures outcome { λ r. ⌜ r ≡ forScreen screen (refusal 15) (arrivalOutcome settings arrival «time_shift_s» «trip_delay» flags «arrival_delay») ⌝ }
+    ensures outcome { λ r. ⌜ r ≡ forScreen screen (refusal 15)
+        (arrivalOutcome settings arrival «time_shift_s» «trip_delay» flags «arrival_delay») ⌝ }
     ensures counts { λ r. ⌜ now (tally .exit) ≡ tallyAfter (now (tally .entry)) screen (r .code) ⌝ }
 {
     if LAST_SCREEN < screen {
@@ -423,7 +425,8 @@ pub extern "C" fn savoiky_delay_at(
     sequence: u32,
 ) -> DelayAt
     ensures outcome { λ r. ⌜ r ≡ forScreen screen (told 15 0 noDelay)
-        (delayAtOutcome settings trips «delay_row_count» «stop_row_count» (now («delay_rows» .entry)) (now («stop_rows» .entry)) trip sequence) ⌝ }
+        (delayAtOutcome settings trips «delay_row_count» «stop_row_count» (now («delay_rows» .entry)) (now («stop_rows» .entry))
+        trip sequence) ⌝ }
     ensures counts { λ r. ⌜ now (tally .exit) ≡ tallyAfter (now (tally .entry)) screen (r .code) ⌝ }
 {
     if LAST_SCREEN < screen {
@@ -550,7 +553,8 @@ pub extern "C" fn savoiky_label_store_transit(
 ) -> u32
     ensures outcome { λ r. ⌜ labelOutcome r (now (labels .exit)) (now («label_distances» .exit))
         ≡ forScreen screen (labelOutcome 15 (now (labels .entry)) (now («label_distances» .entry)))
-        (storeOutcome settings (Transit «arrival_s» «trip_idx» «board_stop» «board_off» «alight_off» «prev_round» «time_shift_s») stops stop row
+        (storeOutcome settings (Transit «arrival_s» «trip_idx» «board_stop» «board_off» «alight_off» «prev_round» «time_shift_s»)
+        stops stop row
         (now (labels .entry)) (now («label_distances» .entry))) ⌝ }
     ensures counts { λ r. ⌜ now (tally .exit) ≡ tallyAfter (now (tally .entry)) screen r ⌝ }
 {
@@ -596,7 +600,8 @@ pub extern "C" fn savoiky_label_store_walk(
 ) -> u32
     ensures outcome { λ r. ⌜ labelOutcome r (now (labels .exit)) (now («label_distances» .exit))
         ≡ forScreen screen (labelOutcome 15 (now (labels .entry)) (now («label_distances» .entry)))
-        (storeOutcome settings (Walk «arrival_s» «from_stop» «to_stop» «duration_s» «distance_m» «prev_round») stops stop row (now (labels .entry))
+        (storeOutcome settings (Walk «arrival_s» «from_stop» «to_stop» «duration_s» «distance_m» «prev_round») stops stop row
+        (now (labels .entry))
         (now («label_distances» .entry))) ⌝ }
     ensures counts { λ r. ⌜ now (tally .exit) ≡ tallyAfter (now (tally .entry)) screen r ⌝ }
 {
@@ -727,7 +732,8 @@ pub extern "C" fn savoiky_compute_line_groups(
     work: &mut [u64],
     other: &mut [u64],
 ) -> Answer
-    ensures outcome { λ r. ⌜ shown r (lineAreas (now (lines .exit)) (now (runs .exit)) (now (entries .exit)) (now (work .exit)) (now (other .exit)))
+    ensures outcome { λ r. ⌜ shown r (lineAreas (now (lines .exit)) (now (runs .exit)) (now (entries .exit)) (now (work .exit))
+        (now (other .exit)))
         ≡ forScreen screen (shown (refusal 15) (lineAreas (now (lines .entry)) (now (runs .entry)) (now (entries .entry)) (now (work .entry))
         (now (other .entry))))
         (shownOf (linesOutcome settings (now (tables .entry)) (countsOf stops trips times windows edges)
@@ -925,7 +931,8 @@ pub extern "C" fn savoiky_run_tbr(
       areas = queryAreas (now (labels .exit)) (now («label_distances» .exit)) (now (work .exit)) (now («queue_a» .exit)) (now («queue_b» .exit))
           (now (candidates .exit));
     }
-        ≡ forScreen screen (refused 15 (queryAreas (now (labels .entry)) (now («label_distances» .entry)) (now (work .entry)) (now («queue_a» .entry))
+        ≡ forScreen screen (refused 15 (queryAreas (now (labels .entry)) (now («label_distances» .entry)) (now (work .entry))
+        (now («queue_a» .entry))
         (now («queue_b» .entry)) (now (candidates .entry))))
         (runTbrOutcome (lent (queryCountsOf settings sizes) (now (tables .entry)) (now (built .entry)) (now (transfers .entry))
         (now (patterns .entry)) (now (distances .entry)) (now (query .entry)))
@@ -987,7 +994,8 @@ pub extern "C" fn savoiky_query(
       areas = queryAreas (now (labels .exit)) (now («label_distances» .exit)) (now (work .exit)) (now («queue_a» .exit)) (now («queue_b» .exit))
           (now (candidates .exit));
     }
-        ≡ forScreen screen (refused 15 (queryAreas (now (labels .entry)) (now («label_distances» .entry)) (now (work .entry)) (now («queue_a» .entry))
+        ≡ forScreen screen (refused 15 (queryAreas (now (labels .entry)) (now («label_distances» .entry)) (now (work .entry))
+        (now («queue_a» .entry))
         (now («queue_b» .entry)) (now (candidates .entry))))
         (queryOutcome (lent (queryCountsOf settings sizes) (now (tables .entry)) (now (built .entry)) (now (transfers .entry)) (now (patterns .entry))
         (now (distances .entry)) (now (query .entry)))
