@@ -30,23 +30,83 @@ pub fn trip_of(w: &[u32]) -> GlobalTrip {
     GlobalTrip { frequency_windows: windows, ..Default::default() }
 }
 
+// The first run of a window that leaves the stop in time, and need, as document 02, T-02 words them.
+#[derive(Clone, Copy)]
+pub struct WindowRun {
+    pub window: usize,
+    pub run: i64,
+    pub departure: i64,
+    pub need: i64,
+    pub headway: i64,
+}
+
+// It is sought by halving, apart from the Rust's division and ours: of two runs the later one leaves later.
+fn window_run(window: usize, w: &[u32], offset: i64, wanted: i64) -> Option<WindowRun> {
+    let [start, end, headway] = [w[0] as i64, w[1] as i64, w[2] as i64];
+    if headway == 0 || end <= start {
+        return None;
+    }
+    let leaves = |run: i64| start + run * headway + offset;
+    // from `low` to `high`; the last of these begins no sooner than the window ends
+    let (mut low, mut high) = (0, end - start);
+    while low < high {
+        let half = (low + high) / 2;
+        (low, high) = if leaves(half) < wanted { (half + 1, high) } else { (low, half) };
+    }
+    let need = wanted - offset - start;
+    (start + low * headway < end).then_some(WindowRun { window, run: low, departure: leaves(low), need, headway })
+}
+
+// of each window that has one, in their order
+pub fn window_runs(w: &[u32], base: u32, dep: u32, after: u32) -> Vec<WindowRun> {
+    let offset = dep as i64 - base as i64;
+    w.chunks(3).enumerate().filter_map(|(i, c)| window_run(i, c, offset, after as i64)).collect()
+}
+
+// the one that leaves first, of equals that of the first window
+pub fn boarded(runs: &[WindowRun]) -> Option<WindowRun> {
+    runs.iter().copied().reduce(|best, next| if next.departure < best.departure { next } else { best })
+}
+
+impl WindowRun {
+    // window, run, quotient, remainder and wait, by T-02's sentence
+    pub fn waiting(&self, wanted: u32) -> [u32; 5] {
+        let [quotient, remainder, wait] = if self.need > 0 {
+            let remainder = self.need % self.headway;
+            [self.need / self.headway, remainder, if remainder == 0 { 0 } else { self.headway - remainder }]
+        } else {
+            [0, 0, self.departure - wanted as i64]
+        };
+        [self.window as i64, self.run, quotient, remainder, wait].map(|n| n as u32)
+    }
+}
+
+// none, or a refusal
+pub fn no_board(code: u32) -> FreqAnswer {
+    FreqAnswer { code, ..Default::default() }
+}
+
+// Departure and shift are the Rust's. Where T-02's sentence finds another departure, what no call answers.
 pub fn freq_outcome(s: Settings, count: u32, w: &[u32], base: u32, dep: u32, after: u32) -> FreqAnswer {
-    let no = |code| FreqAnswer { code, found: 0, departure: 0, time_shift_s: 0 };
     if count > 65536 {
-        return no(1);
+        return no_board(1);
     }
     if !s.in_range() {
-        return no(14);
+        return no_board(14);
     }
     if w.len() as u64 != 3 * count as u64 {
-        return no(2);
+        return no_board(2);
     }
     if w.iter().any(|&x| x > LIMIT) || base > LIMIT || dep > LIMIT || after > LIMIT {
-        return no(5);
+        return no_board(5);
     }
-    match routing::freq_board(&trip_of(w), base, dep, after) {
-        None => no(0),
-        Some((departure, shift)) => FreqAnswer { code: 0, found: 1, departure, time_shift_s: shift as u32 },
+    match (routing::freq_board(&trip_of(w), base, dep, after), boarded(&window_runs(w, base, dep, after))) {
+        (None, None) => no_board(0),
+        (Some((departure, shift)), Some(b)) if b.departure == departure as i64 => {
+            let [window, run, quotient, remainder, wait] = b.waiting(after);
+            FreqAnswer { code: 0, found: 1, departure, time_shift_s: shift as u32, window, run, quotient, remainder, wait }
+        }
+        _ => no_board(u32::MAX),
     }
 }
 
@@ -78,6 +138,24 @@ pub fn random_windows(r: &mut Random) -> (u32, Vec<u32>, u32, u32, u32) {
         _ => {}
     }
     out
+}
+
+// The same; at times the wanted time is when a run leaves, or a second beside it, and another window may begin with this run. These are drawn apart,
+// so that all else stays as it was drawn.
+pub fn random_boarding(r: &mut Random) -> (u32, Vec<u32>, u32, u32, u32) {
+    let (count, mut w, base, dep, after) = random_windows(r);
+    let mut own = Random(!r.0);
+    if count == 0 || own.below(3) > 0 || freq_outcome(OWN, count, &w, base, dep, after).code != 0 {
+        return (count, w, base, dep, after);
+    }
+    let k = 3 * own.below(count) as usize;
+    let runs = w[k + 1].saturating_sub(w[k]) / w[k + 2].max(1);
+    let run = (w[k] + own.below(runs + 1) * w[k + 2]).min(LIMIT);
+    if own.below(2) == 0 {
+        w[3 * own.below(count) as usize] = run;
+    }
+    let leaves = run as i64 + dep as i64 - base as i64;
+    (count, w, base, dep, (leaves + own.below(3) as i64 - 1).clamp(0, LIMIT as i64) as u32)
 }
 
 pub fn large(bits: u32) -> bool {

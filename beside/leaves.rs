@@ -1,29 +1,44 @@
 // The leaves beside the Rust: the same inputs to the exported calls and to docs/src, every answer compared.
 // Each input has settings of its own, one in twenty of them out of range; besides, each call is made at all ends of the ranges and one past each.
-// It prints only how many inputs of each leaf were compared, how many must be refused by 14 and how many differed, tallies too (tally.rs); status 1
-// where any did.
+// It prints only how many inputs of each leaf were compared, how many must be refused by 14 and how many differed, tallies too (tally.rs), and what
+// the boardings have met (boardings.rs); status 1 where any differed or something was never met.
+// MOCK=1: frequency boarding alone, by its stand-in (mock_boarding.rs).
 #![allow(dead_code, unused)]
 include!(concat!(env!("BESIDE"), "/parts.rs"));
 include!(concat!(env!("BESIDE"), "/ours.rs"));
+include!(concat!(env!("BESIDE"), "/boardings.rs"));
+#[cfg(mock)]
+include!(concat!(env!("BESIDE"), "/mock_boarding.rs"));
 
 const RANDOM: u64 = 1_000_000;
 
-// A leaf's tally: how many inputs, how many of them must be refused by 14, how many differed.
+// A leaf's tally: how many inputs, how many of them must be refused by 14, how many differed; where it must meet things, how often it has.
 struct Tally {
     name: &'static str,
     inputs: u64,
     refused: u64,
     differed: u64,
+    met: Vec<(&'static str, u64)>,
 }
 
 impl Tally {
     fn new(name: &'static str) -> Self {
-        Tally { name, inputs: 0, refused: 0, differed: 0 }
+        Tally { name, inputs: 0, refused: 0, differed: 0, met: vec![] }
     }
     fn same(&mut self, s: Settings, yes: bool) {
         self.inputs += 1;
         self.refused += !s.in_range() as u64;
         self.differed += !yes as u64;
+    }
+    fn fine(&self) -> bool {
+        self.differed == 0 && self.inputs >= RANDOM && self.refused > 0 && self.met.iter().all(|m| m.1 > 0)
+    }
+    fn print(&self) {
+        println!("{}: {} compared ({} refused by 14), {} differed", self.name, self.inputs, self.refused, self.differed);
+        if !self.met.is_empty() {
+            let met: Vec<String> = self.met.iter().map(|(thing, n)| format!("{thing} {n}")).collect();
+            println!("  answered with: {}", met.join(", "));
+        }
     }
 }
 
@@ -118,40 +133,6 @@ fn rounds(r: &mut Random) -> Tally {
     }
     for _ in 0..RANDOM {
         one(r.any_settings(), r.any(), r.any());
-    }
-    t
-}
-
-fn frequency(r: &mut Random) -> Tally {
-    let mut t = Tally::new("frequency boarding");
-    let mut one = |s: Settings, count: u32, w: &[u32], base: u32, dep: u32, after: u32| {
-        let want = freq_outcome(s, count, w, base, dep, after);
-        t.same(s, unsafe { savoiky_freq_board(s, count, w.as_ptr(), w.len(), base, dep, after) } == want);
-    };
-    for start in 0..5 {
-        for end in 0..8 {
-            for headway in 0..5 {
-                for base in 0..4 {
-                    for dep in 0..6 {
-                        for after in 0..9 {
-                            one(r.any_settings(), 1, &[start, end, headway], base, dep, after);
-                        }
-                    }
-                }
-            }
-        }
-    }
-    let most: Vec<u32> = (0..65536 * 3 + 3).map(|i| [600, 1200, 300][i as usize % 3]).collect();
-    let ends = range_ends().into_iter().map(|(s, _)| s);
-    for (s, n) in [0, 1, 65535, 65536, 65537].into_iter().map(|n| (OWN, n)).chain(ends.flat_map(|s| [0, 1, 65537].map(|n| (s, n)))) {
-        one(s, n, &most[..n as usize * 3], 600, 660, 961);
-        one(s, n, &most[..n as usize * 3], 600, 660, 661);
-        one(s, n, &most[..1], 600, 660, 661);
-        one(s, n, &most[..n as usize * 3], 600, LIMIT + 1, 661);
-    }
-    for _ in 0..RANDOM {
-        let (count, w, base, dep, after) = random_windows(r);
-        one(r.any_settings(), count, &w, base, dep, after);
     }
     t
 }
@@ -267,14 +248,21 @@ fn labels(r: &mut Random) -> Tally {
     t
 }
 
+#[cfg(not(mock))]
 fn main() {
     let mut r = Random(0x5EED);
     let tallies = [cells(&mut r), walks(&mut r), rounds(&mut r), frequency(&mut r), delays(&mut r), clock(&mut r), labels(&mut r)];
-    for t in &tallies {
-        println!("{}: {} compared ({} refused by 14), {} differed", t.name, t.inputs, t.refused, t.differed);
-    }
+    tallies.iter().for_each(|t| t.print());
     let ends_wrong = range_ends().iter().any(|(s, code)| s.code(0) != *code);
-    if !tally_fine() || ends_wrong || tallies.iter().any(|t| t.differed > 0 || t.inputs < RANDOM || t.refused == 0) {
-        std::process::exit(1);
+    std::process::exit(!(tally_fine() && !ends_wrong && tallies.iter().all(|t| t.fine())) as i32);
+}
+
+#[cfg(mock)]
+fn main() {
+    let t = frequency(&mut Random(0x5EED));
+    if t.differed > 0 && std::env::var("FIRST").is_ok() {
+        println!("first difference after {} boardings", t.inputs);
     }
+    t.print();
+    std::process::exit(!(tally_fine() && t.fine()) as i32);
 }

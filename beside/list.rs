@@ -5,7 +5,7 @@
 //   1 cells: the screen that the sets are made for and the union is looked into; n, k, k cells set, m, j, j cells set, probe; then: code, code of
 //      looking into the union, probe held, empty, intersects, probe held by the union, union's bytes reserved
 //   2 walk: duration, mode, wheelchair; then code, value          3 rounds: wanted, transfers; then code, value
-//   4 frequency: count, length, words, base, departure, wanted; then code, found, departure, shift
+//   4 frequency: count, length, words, base, departure, wanted; then code, found, departure, shift, window, run, quotient, remainder, wait
 //   5 departure: time, trip delay, flags, own; then code, value   6 arrival: time, shift, trip delay, flags, own; then code, value
 //   7 margin: trips, rows, stop rows, length, words, length, words; then code, value
 //   8 one stop time: the tables as in 7, trip, sequence, time, shift; then code, skipped, departure, arrival
@@ -303,10 +303,10 @@ fn numbers(r: &mut Random, s: &mut Screens) {
     answer_line(s, 2, h, &[d, m, w], walk_outcome(h, d, m, w));
     let (h, x, y) = (r.any_settings(), r.any(), r.any());
     answer_line(s, 3, h, &[x, y], rounds_outcome(h, x, y));
-    let (h, (count, w, base, dep, after), screen) = (r.any_settings(), random_windows(r), s.any());
-    let no = FreqAnswer { code: 15, found: 0, departure: 0, time_shift_s: 0 };
-    let f = for_screen(screen, no, freq_outcome(h, count, &w, base, dep, after));
-    let all = [&[count, w.len() as u32][..], &w, &[base, dep, after, f.code, f.found, f.departure, f.time_shift_s]].concat();
+    let (h, (count, w, base, dep, after), screen) = (r.any_settings(), random_boarding(r), s.any());
+    let f = for_screen(screen, no_board(15), freq_outcome(h, count, &w, base, dep, after));
+    let told = [f.code, f.found, f.departure, f.time_shift_s, f.window, f.run, f.quotient, f.remainder, f.wait];
+    let all = [&[count, w.len() as u32][..], &w, &[base, dep, after], &told].concat();
     line(s, 4, screen, h, &all, &[f.code]);
     let (h, time, trip, flags, own, shift) = (r.any_settings(), r.time(), r.signed(), r.below(9), r.signed(), r.signed());
     answer_line(s, 5, h, &[time, trip, flags, own], oracle_departure(h, time, trip, flags, own));

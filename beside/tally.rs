@@ -2,7 +2,7 @@
 // screen, and the tally is then compared with a count of ours, every byte; one call in 16 is made before for a screen above 63 as well, with the same
 // arguments: it must be refused by 15, and leave the tally and every slice lent to be written as they came. Of each thread: a tally, a count and random
 // numbers of its own; about once in 1,024 calls the tally is set anew, at times to the greatest counts. `--cfg timed`, for the timings: the call alone, for
-// one screen, nothing compared. What is called is the library or, for MOCK=1, the stand-ins (mock.rs).
+// one screen, nothing compared. What is called is the library or, for MOCK=1, the stand-ins (mock.rs, mock_boarding.rs).
 #[cfg(not(mock))]
 use sys as exported;
 
@@ -269,9 +269,7 @@ metered! {
     savoiky_cell_bitset_is_empty(set: CellBitSet) -> Answer { Answer { code: 15, value: 0 } };
     savoiky_walk_duration(duration: u32, pathway_mode: u32, wheelchair: u32) -> Answer { Answer { code: 15, value: 0 } };
     savoiky_max_rounds(wanted: u32, transfers: u32) -> Answer { Answer { code: 15, value: 0 } };
-    savoiky_freq_board(count: u32, windows: *const u32, windows_len: usize, base: u32, dep: u32, after: u32) -> FreqAnswer {
-        FreqAnswer { code: 15, found: 0, departure: 0, time_shift_s: 0 }
-    };
+    savoiky_freq_board(count: u32, windows: *const u32, windows_len: usize, base: u32, dep: u32, after: u32) -> FreqAnswer { no_board(15) };
     savoiky_effective_departure(departure: u32, trip_delay: u32, flags: u32, departure_delay: u32) -> Answer { Answer { code: 15, value: 0 } };
     savoiky_effective_arrival(arrival: u32, time_shift_s: u32, trip_delay: u32, flags: u32, arrival_delay: u32) -> Answer { Answer { code: 15, value: 0 } };
     savoiky_skipped(flags: u32) -> Answer { Answer { code: 15, value: 0 } };

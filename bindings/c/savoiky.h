@@ -156,19 +156,28 @@ SavoikyAnswer savoiky_walk_duration(SavoikyTally *tally, uint32_t screen, Savoik
 SavoikyAnswer savoiky_max_rounds(SavoikyTally *tally, uint32_t screen, SavoikySettings settings, uint32_t wanted,
     uint32_t transfers);
 
-/* What the entry answers: the code; then found 1 with the departure and the shift, or found 0 and zeros. */
+/* What the entry answers: the code; then found 1 with the boarding's numbers, or found 0 and zeros. The window is numbered from 0; the run's
+ * number is n, the whole headways from the window's start to it; quotient and remainder are those of need by the headway.
+ */
 typedef struct SavoikyFreqAnswer {
     uint32_t code;
     uint32_t found;
     uint32_t departure;
     uint32_t time_shift_s;
+    uint32_t window;
+    uint32_t run;
+    uint32_t quotient;
+    uint32_t remainder;
+    uint32_t wait;
 } SavoikyFreqAnswer;
-SAVOIKY_SIZE(SavoikyFreqAnswer, 16);
+SAVOIKY_SIZE(SavoikyFreqAnswer, 36);
 
 /* The earliest run of a frequency trip that leaves here no sooner than `after`: `count` windows of three words each (start,
  * end, headway), the departure of the trip's first stop time (base), its departure here (dep). Runs leave the first stop at
- * start, start + headway and so on, before end. Found 0: none. Questions 1 (at most 65,536 windows), 2 (three words for each),
- * 5 (every number at most 1,048,575).
+ * start, start + headway and so on, before end. Found 0: none, and zeros. Else its departure here, its time_shift_s, its window (from
+ * 0), its run (n, the whole headways from the window's start to it) and the wait from `after` to its departure. Where need = after -
+ * (dep - base) - start is above zero, quotient and remainder are need's by the headway, else 0. Of windows with the same departure the
+ * first counts. Questions 1 (at most 65,536 windows), 2 (three words for each), 5 (every number at most 1,048,575).
  */
 SavoikyFreqAnswer savoiky_freq_board(SavoikyTally *tally, uint32_t screen, SavoikySettings settings, uint32_t count,
     const uint32_t *windows, size_t windows_len, uint32_t base, uint32_t dep, uint32_t after);

@@ -1,5 +1,5 @@
 /* worked.c: Timetable K of document 01 and a second one, laid out, built, asked and answered in words; Timetable K under other
-   settings; and what the box's tally shows then. An example to copy from; savoiky.h has the layouts. */
+   settings; the waiting for a frequent bus; and what the box's tally shows then. An example to copy from; savoiky.h has the layouts. */
 #include <stdbool.h>
 #include <stdio.h>
 #include <stdlib.h>
@@ -313,6 +313,36 @@ static void other_settings(Timetable slow, const Timetable *built) {
     print_settings(screen, settings);
 }
 
+/* The waiting for the next run of a frequency trip, which leaves its first stop at 600 and this one at 660: the headway in minutes where it is whole
+   minutes, the wait in minutes rounded up. */
+static void print_waiting(uint32_t screen, uint32_t wanted) {
+    const uint32_t windows[] = {/* start, end, headway */ 600, 7200, 600, 7200, 12600, 1800};
+    SavoikyFreqAnswer b = savoiky_freq_board(&tally, screen, SAVOIKY_DEFAULT_SETTINGS, LENGTH(windows) / 3, windows, LENGTH(windows), 600,
+        660, wanted);
+    check("freq_board", b.code);
+    printf("  at %u: ", (unsigned)wanted);
+    if (b.found == 0) {
+        printf("no run\n");
+        return;
+    }
+    unsigned headway = windows[3 * b.window + 2], minutes = b.wait / 60 + (b.wait % 60 != 0);
+    if (headway % 60 == 0)
+        printf("every %u minutes, %u to wait\n", headway / 60, minutes);
+    else
+        printf("every %u seconds, %u minutes to wait\n", headway, minutes);
+    printf("    window %u, run %u, departure %u, shift %d, quotient %u, remainder %u, wait %u s\n", (unsigned)b.window, (unsigned)b.run,
+        (unsigned)b.departure, (int)(int32_t)b.time_shift_s, (unsigned)b.quotient, (unsigned)b.remainder, (unsigned)b.wait);
+}
+
+static void waiting(void) {
+    uint32_t screen = part(6, "A trip every ten minutes, later every thirty");
+    print_waiting(screen, 500);
+    print_waiting(screen, 1020);
+    print_waiting(screen, 1860);
+    print_waiting(screen, 7261);
+    print_waiting(screen, 11000);
+}
+
 /* a call for a screen that there may not be: is it admitted, and does the tally count it? */
 static void print_screen(uint32_t screen) {
     const SavoikyTally before = tally;
@@ -351,6 +381,7 @@ int main(void) {
     build(screen, settings, &falling);
     ask(screen, settings, &falling, 90, 120, 3);
     other_settings(slow, &timetable_k);
+    waiting();
     print_tally();
     return 0;
 }

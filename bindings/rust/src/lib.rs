@@ -48,6 +48,9 @@
 //!
 //! [`Tables::query`] is what a board asks; [`Tables::run_tbr`] answers as the Rust does that this is a port of. Tables need not be
 //! built here: [`Tables::new`] takes lines, departures and transfers made by hand.
+//!
+//! [`earliest_freq_board`] finds the next run of a trip that has windows, and how long a guest waits for it:
+//! [`FreqBoard::sentence`] gives "every 10 minutes, 4 to wait".
 #![deny(unsafe_code)]
 #![warn(missing_docs)]
 

@@ -68,8 +68,13 @@ pub struct FreqAnswer {
     pub found: u32,
     pub departure: u32,
     pub time_shift_s: u32,
+    pub window: u32,
+    pub run: u32,
+    pub quotient: u32,
+    pub remainder: u32,
+    pub wait: u32,
 }
-const _: () = assert!(std::mem::size_of::<FreqAnswer>() == 16 && std::mem::align_of::<FreqAnswer>() == 4);
+const _: () = assert!(std::mem::size_of::<FreqAnswer>() == 36 && std::mem::align_of::<FreqAnswer>() == 4);
 
 #[repr(C)]
 #[derive(Clone, Copy, PartialEq, Debug, Default)]

@@ -104,8 +104,10 @@ fn frequency_boarding() {
     let t = &mut Tally::new();
     let windows = [FrequencyWindow { start_s: 600, end_s: 1200, headway_s: 300 }];
     let mut board = |after| earliest_freq_board(t, 0, S, &windows, 600, 660, after).unwrap();
-    assert_eq!(board(660), Some(FreqBoard { departure_s: 660, time_shift_s: 0 }));
-    assert_eq!(board(661), Some(FreqBoard { departure_s: 960, time_shift_s: 300 }));
+    let first =
+        FreqBoard { departure_s: 660, time_shift_s: 0, window: 0, run: 0, quotient: 0, remainder: 0, wait_s: 0, headway_s: 300 };
+    assert_eq!(board(660), Some(first));
+    assert_eq!(board(661), Some(FreqBoard { departure_s: 960, time_shift_s: 300, run: 1, remainder: 1, wait_s: 299, ..first }));
     assert_eq!(board(961), None);
 }
 

@@ -271,8 +271,10 @@ pub extern "C" fn savoiky_max_rounds(
 
 // The earliest run of a frequency trip that leaves here no sooner than `after`: `count` windows of three words each (start,
 // end, headway), the departure of the trip's first stop time (base), its departure here (dep). Runs leave the first stop at
-// start, start + headway and so on, before end. Found 0: none. Questions 1 (at most 65,536 windows), 2 (three words for each),
-// 5 (every number at most 1,048,575).
+// start, start + headway and so on, before end. Found 0: none, and zeros. Else its departure here, its time_shift_s, its window (from
+// 0), its run (n, the whole headways from the window's start to it) and the wait from `after` to its departure. Where need = after -
+// (dep - base) - start is above zero, quotient and remainder are need's by the headway, else 0. Of windows with the same departure the
+// first counts. Questions 1 (at most 65,536 windows), 2 (three words for each), 5 (every number at most 1,048,575).
 #[no_mangle]
 pub extern "C" fn savoiky_freq_board(
     tally: &mut [u32; 128],

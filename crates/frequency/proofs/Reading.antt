@@ -9,7 +9,7 @@ use native.Mathlib.Nat.{mul-le-mul-right, eq-or-lt-of-le}
 use lib.Dec.{eqb, ltb, leb}
 use lib.IntN.{ℤ, pos, negsuc, natAbs, subℕ}
 use borrow.Author.Tests.{le-leb, leb-true, leb-false, ltb-true}
-use Rattle.signed.specs.Signed.{ofBits, bitsOf}
+use Rattle.signed.specs.Signed.{ofBits}
 use Rattle.signed.proofs.Laws.{of-sub}
 use Rattle.loops.specs.Iter.{Hit, hit, miss}
 use Rattle.loops.proofs.Iter.{and-left, and-right, first-found, first-none, first-before, iter-keeps}
@@ -17,10 +17,10 @@ use Rattle.loops.proofs.Search.{clash, split}
 use Rattle.frequency.specs.declared.BoardedRun.{BoardedRun}
 use Rattle.frequency.specs.declared.FreqBoard.{FreqBoard}
 use Rattle.frequency.specs.declared.FreqBoard.the-variants.{Nothing, Board}
-use Rattle.frequency.specs.Gtfs.{Window, runStart, isRun, leavesNotBefore, isBoardable, firstRun, boardHit, earlierOf, boardNext, earliestFreqBoard, Nominal}
+use Rattle.frequency.specs.Gtfs.{Window, runStart, isRun, leavesNotBefore, isBoardable, firstRun, boardRun, boardHit, earlierOf, boardNext, earliestFreqBoard, Nominal}
 use Rattle.frequency.specs.Reading.{Boards, Earliest, Answers, none, earliest}
-use Rattle.frequency.proofs.Runs.{boardable-says, run-number}
-use Rattle.frequency.proofs.Best.{found-says, earlier-none}
+use Rattle.frequency.proofs.Runs.{boardable-says, found-says, run-number}
+use Rattle.frequency.proofs.Best.{earlier-none}
 
 module _ (window : ℕ → Window) (base dep after : ℕ) where
   test : (n i k : ℕ) → Boards n window base dep after i k → isBoardable (window i) base dep after k ≡ true
@@ -72,7 +72,7 @@ module _ (window : ℕ → Window) (base dep after : ℕ) where
     stay a s f =
         earliest
         (record {
-          boards = later-window n (a .window) (a .run) (s .boards);
+          boards = later-window n (a .headways .window) (a .headways .run) (s .boards);
           departs = s .departs;
           shifted = s .shifted;
           least = by-window (s .least) f;
@@ -90,7 +90,7 @@ module _ (window : ℕ → Window) (base dep after : ℕ) where
       t = runStart w m
 
       new : BoardedRun
-      new = record { departure = t + dep - base; «time_shift_s» = bitsOf (subℕ t base); window = n; run = m }
+      new = boardRun w n base dep after m
 
       new-departs : t + dep - base + base ≡ t + dep
       new-departs = omega (arith, found-says w base dep after m e .wanted)
@@ -112,7 +112,7 @@ module _ (window : ℕ → Window) (base dep after : ℕ) where
             first = λ i k b l. omega (arith, new-departs, f i k (earlier-window n i k b l));
           })
 
-      found : (x : FreqBoard) → Answers n window base dep after x → Answers (suc n) window base dep after (earlierOf x (boardHit w n base dep (hit m)))
+      found : (x : FreqBoard) → Answers n window base dep after x → Answers (suc n) window base dep after (earlierOf x (boardHit w n base dep after (hit m)))
       unfolding new
       found Nothing (none p) = replace (λ i k b. absurd (p i k b))
       found (Board a) (earliest s) = go (leb (a .departure) (t + dep - base)) refl
@@ -124,7 +124,7 @@ module _ (window : ℕ → Window) (base dep after : ℕ) where
     step : (x : FreqBoard) → Answers n window base dep after x → Answers (suc n) window base dep after (boardNext window base dep after n x)
     step x s = go (firstRun w base dep after) refl
       where
-        go : (h : Hit) → firstRun w base dep after ≡ h → Answers (suc n) window base dep after (earlierOf x (boardHit w n base dep h))
+        go : (h : Hit) → firstRun w base dep after ≡ h → Answers (suc n) window base dep after (earlierOf x (boardHit w n base dep after h))
         go (hit m) e = found m e x s
         go miss e = subst (λ (y : FreqBoard). Answers (suc n) window base dep after y) (earlier-none x) (keep x e s)
 
@@ -160,11 +160,11 @@ size-sub l a b u v = go (ltb a b) refl
 -- What a query asks of the numbers.
 module _ (n : ℕ) (window : ℕ → Window) (base dep after : ℕ) (nominal : Nominal n window base dep after) (b : BoardedRun) (e : earliestFreqBoard n window base dep after ≡ Board b) where
   -- the run starts before the largest end
-  pub start-bound : runStart (window (b .window)) (b .run) < 1048575
+  pub start-bound : runStart (window (b .headways .window)) (b .headways .run) < 1048575
   start-bound =
-      let w = window (b .window) in
-      let r : runStart w (b .run) < w .end = ltb-true _ _ (and-right (not (eqb (w .headway) 0)) (ltb (runStart w (b .run)) (w .end)) (board-is window base dep after n b e .boards .runs)) in
-      omega (arith, nominal .ends (b .window) (board-is window base dep after n b e .boards .among))
+      let w = window (b .headways .window) in
+      let r : runStart w (b .headways .run) < w .end = ltb-true _ _ (and-right (not (eqb (w .headway) 0)) (ltb (runStart w (b .headways .run)) (w .end)) (board-is window base dep after n b e .boards .runs)) in
+      omega (arith, nominal .ends (b .headways .window) (board-is window base dep after n b e .boards .among))
 
   pub departure-after : after ≤ b .departure
   departure-after = omega (arith, board-is window base dep after n b e .departs, board-is window base dep after n b e .boards .wanted)
@@ -173,11 +173,11 @@ module _ (n : ℕ) (window : ℕ → Window) (base dep after : ℕ) (nominal : N
   departure-bound = omega (arith, start-bound, board-is window base dep after n b e .departs)
 
   -- the shift means run start less base, and is no larger than a time
-  pub shift-means : ofBits (b .«time_shift_s») ≡ subℕ (runStart (window (b .window)) (b .run)) base
+  pub shift-means : ofBits (b .«time_shift_s») ≡ subℕ (runStart (window (b .headways .window)) (b .headways .run)) base
   shift-means = ap ofBits (board-is window base dep after n b e .shifted) ∙ of-sub _ base (omega (arith, start-bound)) (omega (arith, nominal .template))
 
   pub shift-size : natAbs (ofBits (b .«time_shift_s»)) ≤ 1048575
   shift-size = subst (λ (z : ℤ). natAbs z ≤ 1048575) (sym shift-means) (size-sub 1048575 _ base (omega (arith, start-bound)) (nominal .template))
 
-  pub window-bound : b .window < 65536
+  pub window-bound : b .headways .window < 65536
   window-bound = omega (arith, board-is window base dep after n b e .boards .among, nominal .few)

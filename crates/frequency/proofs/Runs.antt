@@ -1,29 +1,39 @@
 -- The first run of a window that can be boarded, by division: one law for each way the answer comes about.
-use Prim.Native.Nat.{ℕ, suc, _+_, _*_, _-_, _/_, _<_, _≤_}
+use Prim.Native.Nat.{ℕ, zero, suc, _+_, _*_, _-_, _/_, _%_, _<_, _≤_}
 use mathlib.Core.Path.{_≡_, refl, ap, ap₂, sym, _∙_}
-use mathlib.Core.Bool.{Bool, true, false, _&&_, not}
+use mathlib.Core.Bool.{Bool, true, false, cond, _&&_, not}
 use mathlib.Core.Logic.{⊎-elim}
 use native.Mathlib.Omega.{arith}
-use native.Mathlib.Nat.{div-mul-le-self, lt-div-mul-add, mul-le-mul-left, mul-le-mul-right, zero-mul, suc-mul, mul-one}
+use native.Mathlib.Nat.{div-add-mod', mod-lt, mul-le-mul-left, mul-le-mul-right, zero-mul, suc-mul, mul-one, add-mul, one-mul}
 use lib.Dec.{eqb, ltb}
-use borrow.Author.Tests.{lt-ltb, le-leb, lt-leb, ne-eqb, eqb-false, ltb-true, leb-true, not-true}
-use Rattle.loops.specs.Iter.{hit, miss}
-use Rattle.loops.proofs.Iter.{and-left, and-right}
-use Rattle.loops.proofs.Search.{first-is, first-isnt, split}
+use lib.IntN.{natAbs}
+use borrow.Author.Tests.{lt-ltb, le-ltb, le-leb, lt-leb, eq-eqb, ne-eqb, eqb-true, eqb-false, ltb-true, leb-true, not-true}
+use Rattle.loops.specs.Iter.{Hit, hit, miss}
+use Rattle.loops.proofs.Iter.{and-left, and-right, first-found}
+use Rattle.loops.proofs.Search.{clash, first-is, first-isnt, split}
+use Rattle.frequency.specs.declared.Headways.{Headways}
 use Rattle.frequency.specs.declared.Run.{Run}
-use Rattle.frequency.specs.Gtfs.{Window, runStart, isRun, leavesNotBefore, isBoardable, firstRun}
-use Rattle.frequency.specs.Found.{noRun, runOf}
+use Rattle.frequency.specs.Gtfs.{Window, runStart, isRun, leavesNotBefore, isBoardable, firstRun, need, headwaysOf, waitOf}
+use Rattle.frequency.specs.Found.{noRun, runOf, roundedUp, windowRun, headwaysBy, Remains}
+use Rattle.frequency.proofs.Integers.{above-later, above-first, size-later}
 
 -- k headways of h are enough for n seconds, and one less is not: n / h, rounded up
 pub record Covers (n h k : ℕ) : Type 0 where
   pub enough : n ≤ k * h
   pub least : k * h < n + h
 
-pub covers-div : (n h : ℕ) → 0 < h → Covers n h ((n + (h - 1)) / h)
-covers-div n h p =
-    let u : n + (h - 1) < (n + (h - 1)) / h * h + h = lt-div-mul-add p in
-    let d : (n + (h - 1)) / h * h ≤ n + (h - 1) = div-mul-le-self (n + (h - 1)) h in
-    record { enough = omega arith; least = omega arith }
+pub covers-div : (n h : ℕ) → 0 < h → Covers n h (roundedUp (n / h) (n % h))
+covers-div n h p = go (eqb (n % h) 0) refl
+  where
+    go : (t : Bool) → eqb (n % h) 0 ≡ t → Covers n h (cond t (n / h) (n / h + 1))
+    go true e = let z = eqb-true (n % h) 0 e in record { enough = omega (arith, div-add-mod' n h); least = omega (arith, div-add-mod' n h) }
+    go false e =
+        let z : 0 < n % h = ⊎-elim (λ (q : 0 < n % h). q) (λ (q : n % h ≤ 0). absurd (eqb-false (n % h) 0 e (omega arith))) (split 0 (n % h)) in
+        let m : (n / h + 1) * h ≡ n / h * h + h = add-mul (n / h) 1 h ∙ ap (λ (x : ℕ). n / h * h + x) (one-mul h) in
+        record { enough = omega (arith, div-add-mod' n h, mod-lt n {m = h} p); least = omega (arith, div-add-mod' n h) }
+
+pub covers-by : (n h k : ℕ) → 0 < h → k ≡ roundedUp (n / h) (n % h) → Covers n h k
+covers-by n h k p e = rw e (covers-div n h p)
 
 covers-less : (n h k j : ℕ) → Covers n h k → j < k → j * h < n
 covers-less n h k j c l = omega (arith, mul-le-mul-right {m = suc j} {n = k} h l, suc-mul j h, c .least)
@@ -90,9 +100,129 @@ module _ (w : Window) (base dep after : ℕ) where
         (λ (u : k ≤ j). omega (arith, mul-le-mul-right {m = k} {n = j} (w .headway) u, b .runs))
         (split j k))
 
--- what the code hands on, by what the search finds
-pub found-none : (w : Window) (base dep after : ℕ) {r : Run} → r ≡ noRun → firstRun w base dep after ≡ miss → r ≡ runOf w (firstRun w base dep after)
-found-none w base dep after n e = n ∙ sym (ap (runOf w) e)
+-- the run that a search found
+pub found-says : (w : Window) (base dep after k : ℕ) → firstRun w base dep after ≡ hit k → Boardable w base dep after k
+unfolding firstRun
+found-says w base dep after k e = boardable-says w base dep after k (first-found (isBoardable w base dep after) 0 (w .end - w .start - 0) k e)
 
-pub found-run : (w : Window) (base dep after k : ℕ) {t : ℕ} → t ≡ runStart w k → firstRun w base dep after ≡ hit k → record { start = t; number = k } ≡ runOf w (firstRun w base dep after)
-found-run w base dep after k s e = ap (λ (x : ℕ). record { start = x; number = k }) s ∙ sym (ap (runOf w) e)
+numberOf : Hit → ℕ
+numberOf (hit k) = k
+numberOf miss = 0
+
+isHit : Hit → Bool
+isHit (hit k) = true
+isHit miss = false
+
+-- its number, and the wait for it
+module _ (w : Window) (base dep after k : ℕ) (e : firstRun w base dep after ≡ hit k) where
+  abbrev h : ℕ
+  h = w .headway
+
+  pub first-number : after + base ≤ w .start + dep → k ≡ 0
+  unfolding numberOf
+  first-number l =
+      let s = found-says w base dep after k e in
+      ap numberOf (sym e ∙ run-first w base dep after (s .spaced) (omega (arith, s .runs)) l)
+
+  module _ (l : w .start + dep < after + base) where
+    abbrev n : ℕ
+    n = after + base - (w .start + dep)
+
+    pub later-number : k ≡ roundedUp (n / h) (n % h)
+    unfolding numberOf isHit
+    later-number =
+        let c = covers-div n h (found-says w base dep after k e .spaced) in
+        let s : 0 < h = found-says w base dep after k e .spaced in
+        ⊎-elim
+        (λ (u : runStart w (roundedUp (n / h) (n % h)) < w .end). ap numberOf (sym e ∙ run-later w base dep after (roundedUp (n / h) (n % h)) s c u l))
+        (λ (u : w .end ≤ runStart w (roundedUp (n / h) (n % h))). absurd (clash (ap isHit e) (ap isHit (run-past w base dep after (roundedUp (n / h) (n % h)) s c u l))))
+        (split (runStart w (roundedUp (n / h) (n % h))) (w .end))
+
+    left : cond (eqb (n % h) 0) 0 (h - n % h) ≡ runStart w k + dep - base - after
+    left = go (eqb (n % h) 0) refl ∙ sym (ap (λ (j : ℕ). runStart w j + dep - base - after) later-number)
+      where
+        go : (t : Bool) → eqb (n % h) 0 ≡ t → cond t 0 (h - n % h) ≡ runStart w (cond t (n / h) (n / h + 1)) + dep - base - after
+        go true q = let z = eqb-true (n % h) 0 q in omega (arith, div-add-mod' n h)
+        go false q =
+            let m : (n / h + 1) * h ≡ n / h * h + h = add-mul (n / h) 1 h ∙ ap (λ (x : ℕ). n / h * h + x) (one-mul h) in
+            omega (arith, div-add-mod' n h, mod-lt n {m = h} (found-says w base dep after k e .spaced))
+
+  -- in both cases it is from the wanted time to the departure
+  pub wait-is : waitOf w base dep after (runStart w k + dep - base) ≡ runStart w k + dep - base - after
+  wait-is =
+      ⊎-elim
+      (λ (l : w .start + dep < after + base). ap₂ wait (above-later w base dep after l) (size-later w base dep after l) ∙ left l)
+      (λ (l : after + base ≤ w .start + dep). ap (λ (x : Bool). wait x (natAbs (need w base dep after))) (above-first w base dep after l))
+      (split (w .start + dep) (after + base))
+    where
+      wait : Bool → ℕ → ℕ
+      wait x m = cond x (cond (eqb (m % h) 0) 0 (h - m % h)) (runStart w k + dep - base - after)
+
+-- what the code hands on, by what the search finds
+module _ (w : Window) (i base dep after : ℕ) where
+  pub found-none : {r : Run} → r ≡ noRun → firstRun w base dep after ≡ miss → r ≡ windowRun w i base dep after
+  found-none n e = n ∙ sym (ap (runOf w i) e)
+
+  pub found-run : (k : ℕ) {t : ℕ} → t ≡ runStart w k → firstRun w base dep after ≡ hit k → record { start = t; window = i; run = k } ≡ windowRun w i base dep after
+  found-run k q e = ap (λ (x : ℕ). record { start = x; window = i; run = k }) q ∙ sym (ap (runOf w i) e)
+
+-- quotient and remainder follow from n and the wait
+module _ (w : Window) (base dep after i k : ℕ) (e : firstRun w base dep after ≡ hit k) where
+  abbrev wait : ℕ
+  wait = runStart w k + dep - base - after
+
+  abbrev late : Bool
+  late = ltb (w .start + dep) (after + base)
+
+  module _ (l : w .start + dep < after + base) where
+    abbrev m : ℕ
+    m = after + base - (w .start + dep)
+
+    by-quotient : cond (eqb wait 0) k (k - 1) ≡ m / w .headway
+    by-quotient = go (eqb (m % w .headway) 0) refl (later-number w base dep after k e l) (left w base dep after k e l)
+      where
+        go : (t : Bool) → eqb (m % w .headway) 0 ≡ t → k ≡ cond t (m / w .headway) (m / w .headway + 1) → cond t 0 (w .headway - m % w .headway) ≡ wait
+            → cond (eqb wait 0) k (k - 1) ≡ m / w .headway
+        go true q c v = ap (λ (t : Bool). cond t k (k - 1)) (eq-eqb wait 0 (sym v)) ∙ c
+        go false q c v =
+            let p = mod-lt m {m = w .headway} (found-says w base dep after k e .spaced) in
+            ap (λ (t : Bool). cond t k (k - 1)) (ne-eqb wait 0 (λ z. omega (arith, z, v, p))) ∙ omega (arith, c)
+
+    by-remainder : cond (eqb wait 0) 0 (w .headway - wait) ≡ m % w .headway
+    by-remainder = go (eqb (m % w .headway) 0) refl (left w base dep after k e l)
+      where
+        go : (t : Bool) → eqb (m % w .headway) 0 ≡ t → cond t 0 (w .headway - m % w .headway) ≡ wait → cond (eqb wait 0) 0 (w .headway - wait) ≡ m % w .headway
+        go true q v = ap (λ (t : Bool). cond t 0 (w .headway - wait)) (eq-eqb wait 0 (sym v)) ∙ sym (eqb-true (m % w .headway) 0 q)
+        go false q v =
+            let p = mod-lt m {m = w .headway} (found-says w base dep after k e .spaced) in
+            ap (λ (t : Bool). cond t 0 (w .headway - wait)) (ne-eqb wait 0 (λ z. omega (arith, z, v, p))) ∙ omega (arith, v, p)
+
+  pub headways-are : headwaysBy i k (w .headway) late wait ≡ headwaysOf w i base dep after k
+  headways-are =
+      ⊎-elim
+      (λ (l : w .start + dep < after + base).
+      ap (λ (t : Bool). headwaysBy i k (w .headway) t wait) (lt-ltb (w .start + dep) (after + base) l)
+      ∙ ap₂ (λ (x y : ℕ). record { window = i; run = k; quotient = x; remainder = y }) (by-quotient l) (by-remainder l)
+      ∙ sym (ap₂ of (above-later w base dep after l) (size-later w base dep after l)))
+      (λ (l : after + base ≤ w .start + dep).
+      ap (λ (t : Bool). headwaysBy i k (w .headway) t wait) (le-ltb (w .start + dep) (after + base) l)
+      ∙ sym (ap (λ (t : Bool). of t (natAbs (need w base dep after))) (above-first w base dep after l)))
+      (split (w .start + dep) (after + base))
+    where
+      of : Bool → ℕ → Headways
+      of t x = record { window = i; run = k; quotient = cond t (x / w .headway) 0; remainder = cond t (x % w .headway) 0 }
+
+  pub remains : Remains k (w .headway) late wait
+  remains = record { some = λ t p. some-run (ltb-true (w .start + dep) (after + base) t); within = λ t p. no-more (ltb-true (w .start + dep) (after + base) t) }
+    where
+      some-run : w .start + dep < after + base → 0 < k
+      some-run l = pos-run k (found-says w base dep after k e .wanted) l
+        where
+          pos-run : (j : ℕ) → after + base ≤ runStart w j + dep → w .start + dep < after + base → 0 < j
+          pos-run zero q l = absurd (omega (arith, q, zero-mul (w .headway)))
+          pos-run (suc j) q l = omega arith
+
+      no-more : w .start + dep < after + base → wait ≤ w .headway
+      no-more l =
+          let c = covers-by (after + base - (w .start + dep)) (w .headway) k (found-says w base dep after k e .spaced) (later-number w base dep after k e l) in
+          omega (arith, c .least)

@@ -1,14 +1,14 @@
 -- The Rust's computation gives the departure and the shift of `earliestFreqBoard`, for all numbers in the bounds: neither its limit
 -- of 32 tries nor its test of the departure's sign nor a saturating sum ever acts.
-use Prim.Native.Nat.{ℕ, zero, suc, _+_, _*_, _-_, _/_, _%_, _<_, _≤_}
+use Prim.Native.Nat.{ℕ, suc, _+_, _-_, _<_, _≤_}
 use mathlib.Core.Path.{_≡_, refl, ap, ap₂, sym, _∙_}
 use mathlib.Core.Bool.{Bool, true, false, cond, _&&_, _||_}
 use mathlib.Core.Logic.{⊎-elim}
 use mathlib.Core.Option.{Option, none, some}
 use native.Mathlib.Omega.{arith}
-use native.Mathlib.Nat.{mod-eq-of-lt, mod-lt, div-add-mod', add-mul, one-mul, zero-mul, min-eq-left}
+use native.Mathlib.Nat.{mod-eq-of-lt, zero-mul, min-eq-left}
 use lib.Dec.{eqb, ltb, leb}
-use lib.IntN.{ℤ, pos, negsuc, negℤ, subℕ, _+ℤ_, _-ℤ_, +ℤ-assoc, +ℤ-comm, negℤ-+ℤ, negℤ-negℤ}
+use lib.IntN.{ℤ, pos, subℕ, _-ℤ_}
 use lib.Signed.{leZ}
 use borrow.Author.Tests.{lt-ltb, le-ltb, le-leb, lt-leb, eqb-true, eqb-false, leb-true, leb-false, ltb-true, ltb-false}
 use Rattle.loops.specs.Iter.{Hit, hit, miss}
@@ -19,43 +19,12 @@ use Rattle.signed.proofs.Laws.{of-low, of-sub}
 use Rattle.frequency.specs.declared.FreqBoard.{FreqBoard}
 use Rattle.frequency.specs.declared.FreqBoard.the-variants.{Nothing, Board}
 use Rattle.frequency.specs.Gtfs.{Window, runStart, firstRun, boardHit, windowBoard, earlierOf, boardNext, earliestFreqBoard, Nominal}
-use Rattle.frequency.specs.Rust.{asU32, maxI64, saturatingAdd, saturatingMul, divCeil, maxTries, boardOffset, tMin, firstTry, tries, rustWindow, keepBest, rustBoard, pairOf}
-use Rattle.frequency.proofs.Runs.{Covers, run-miss, run-first, run-later, run-past}
-
--- integers, as differences of numbers
-sub-pos : (a b : ℕ) → b ≤ a → subℕ a b ≡ pos (a - b)
-sub-pos a b h = ap (λ (t : Bool). cond t (negsuc (b - suc a)) (pos (a - b))) (le-ltb a b h)
-
-sub-neg : (a b : ℕ) → a < b → subℕ a b ≡ negsuc (b - suc a)
-sub-neg a b h = ap (λ (t : Bool). cond t (negsuc (b - suc a)) (pos (a - b))) (lt-ltb a b h)
-
-minus : (a b : ℕ) → pos a -ℤ pos b ≡ subℕ a b
-minus a zero = ap pos (omega arith) ∙ sym (sub-pos a 0 (omega arith))
-minus a (suc b) = refl
-
--- t + (dep - base) and after - (dep - base)
-plus-offset : (t base dep : ℕ) → pos t +ℤ boardOffset base dep ≡ subℕ (t + dep) base
-plus-offset t base dep = sym (+ℤ-assoc (pos t) (pos dep) (negℤ (pos base))) ∙ minus (t + dep) base
-
-less-offset : (after base dep : ℕ) → pos after -ℤ boardOffset base dep ≡ subℕ (after + base) dep
-less-offset after base dep =
-    ap (λ (z : ℤ). pos after +ℤ z) (negℤ-+ℤ (pos dep) (negℤ (pos base)) ∙ ap (λ (z : ℤ). negℤ (pos dep) +ℤ z) (negℤ-negℤ (pos base)) ∙ +ℤ-comm (negℤ (pos dep)) (pos base))
-    ∙ sym (+ℤ-assoc (pos after) (pos base) (negℤ (pos dep)))
-    ∙ minus (after + base) dep
+use Rattle.frequency.specs.Rust.{asU32, maxI64, saturatingAdd, saturatingMul, divCeil, maxTries, tMin, firstTry, tries, rustWindow, keepBest, rustBoard, pairOf}
+use Rattle.frequency.proofs.Integers.{sub-pos, sub-neg, minus, plus-offset, less-offset}
+use Rattle.frequency.proofs.Runs.{Covers, covers-div, run-miss, run-first, run-later, run-past}
 
 small : (n : ℕ) → n < 4294967296 → asU32 (pos n) ≡ n
 small n h = mod-eq-of-lt h
-
--- div_ceil covers
-covers-ceil : (n h : ℕ) → 0 < h → Covers n h (divCeil n h)
-covers-ceil n h p = go (eqb (n % h) 0) refl
-  where
-    go : (t : Bool) → eqb (n % h) 0 ≡ t → Covers n h (cond t (n / h) (n / h + 1))
-    go true e = let z = eqb-true (n % h) 0 e in record { enough = omega (arith, div-add-mod' n h); least = omega (arith, div-add-mod' n h) }
-    go false e =
-        let z : 0 < n % h = ⊎-elim (λ (q : 0 < n % h). q) (λ (q : n % h ≤ 0). absurd (eqb-false (n % h) 0 e (omega arith))) (split 0 (n % h)) in
-        let m : (n / h + 1) * h ≡ n / h * h + h = add-mul (n / h) 1 h ∙ ap (λ (x : ℕ). n / h * h + x) (one-mul h) in
-        record { enough = omega (arith, div-add-mod' n h, mod-lt n {m = h} p); least = omega (arith, div-add-mod' n h) }
 
 -- the shift is the same
 same-shift : (t base : ℕ) → t < 2147483648 → base < 2147483648 → ofBits t -ℤ ofBits base ≡ ofBits (bitsOf (subℕ t base))
@@ -107,7 +76,7 @@ module _ (w : Window) (base dep after : ℕ) (s : w .start ≤ 1048575) (d : w .
     number = divCeil late (w .headway)
 
     covers : Covers late (w .headway) number
-    covers = covers-ceil late (w .headway) h
+    covers = covers-div late (w .headway) h
 
     aligned : firstTry w (pos (after + base - dep)) ≡ runStart w number
     aligned =
@@ -127,10 +96,10 @@ module _ (w : Window) (base dep after : ℕ) (s : w .start ≤ 1048575) (d : w .
     t h l = runStart w (number h l)
 
     pair-none : {x : Option (ℕ × ℤ)} → x ≡ none → firstRun w base dep after ≡ miss → x ≡ ours
-    pair-none e m = e ∙ sym (ap (λ (x : Hit). pairOf (boardHit w i base dep x)) m)
+    pair-none e m = e ∙ sym (ap (λ (x : Hit). pairOf (boardHit w i base dep after x)) m)
 
     pair-hit : (k t : ℕ) {x : Option (ℕ × ℤ)} → x ≡ some (t + dep - base, ofBits (bitsOf (subℕ t base))) → t ≡ runStart w k → firstRun w base dep after ≡ hit k → x ≡ ours
-    pair-hit k t e q m = e ∙ ap (λ (y : ℕ). some (y + dep - base, ofBits (bitsOf (subℕ y base)))) q ∙ sym (ap (λ (x : Hit). pairOf (boardHit w i base dep x)) m)
+    pair-hit k t e q m = e ∙ ap (λ (y : ℕ). some (y + dep - base, ofBits (bitsOf (subℕ y base)))) q ∙ sym (ap (λ (x : Hit). pairOf (boardHit w i base dep after x)) m)
 
     abbrev After : ℤ → Option (ℕ × ℤ)
     After z = cond (leZ (pos (w .end)) z) none (tries w base dep after maxTries (firstTry w z))

@@ -1,17 +1,20 @@
--- Frequency boarding (document 01, item 3; GTFS frequencies.txt). Definitions only.
+-- Frequency boarding (document 01, item 3; GTFS frequencies.txt), and the waiting for it (document 02, T-02). Definitions only.
 -- A trip with windows runs again and again. A window has a start, an end and a headway: its runs leave the trip's first stop at
 -- the start, one headway later and so on, before the end. The trip's stop times are a template: a run leaves each stop as long
 -- after its own start as the template does after its base, the template's first departure.
 -- GTFS asks for positive headways and windows that do not overlap; here both may fail. exact_times is not read.
 -- The definitions try the runs one by one, where the code divides.
-use Prim.Native.Nat.{ℕ, _+_, _*_, _-_, _/_, _<_, _≤_}
+use Prim.Native.Nat.{ℕ, _+_, _*_, _-_, _/_, _%_, _<_, _≤_}
 use mathlib.Core.Bool.{Bool, cond, _&&_, not}
 use mathlib.Core.List.{List}
 use lib.Dec.{eqb, ltb, leb}
 use lib.ListN.{length, getD}
-use lib.IntN.{subℕ}
+use lib.IntN.{ℤ, pos, natAbs, subℕ, _-ℤ_}
+use lib.Signed.{leZ}
 use Rattle.loops.specs.Iter.{Hit, hit, miss, firstIn, range}
 use Rattle.signed.specs.Signed.{bitsOf}
+use Rattle.frequency.specs.declared.Headways.{Headways}
+use Rattle.frequency.specs.declared.BoardedRun.{BoardedRun}
 use Rattle.frequency.specs.declared.FreqBoard.{FreqBoard}
 use Rattle.frequency.specs.declared.FreqBoard.the-variants.{Nothing, Board}
 
@@ -56,17 +59,63 @@ isBoardable w base dep after k = isRun w k && leavesNotBefore base dep after (ru
 unfoldable pub firstRun : Window → ℕ → ℕ → ℕ → Hit
 firstRun w base dep after = firstIn (isBoardable w base dep after) 0 (w .end - w .start)
 
--- Boarding run k of window i, which starts at t: its departure, and its time shift, t - base, as the bits of an i32.
-abbrev pub boardStart : (start window base dep run : ℕ) → FreqBoard
-boardStart t i base dep k = Board (record { departure = t + dep - base; «time_shift_s» = bitsOf (subℕ t base); window = i; run = k })
+-- WAITING (document 02, T-02). The offset: how long after its base the template leaves the boarding stop; below zero where dep is less than base.
+abbrev pub boardOffset : (base dep : ℕ) → ℤ
+boardOffset base dep = pos dep -ℤ pos base
 
-abbrev pub boardHit : Window → ℕ → ℕ → ℕ → Hit → FreqBoard
-boardHit w i base dep (hit k) = boardStart (runStart w k) i base dep k
-boardHit w i base dep miss = Nothing
+-- need = wanted time - offset - start: above zero where run 0 leaves before the wanted time, by so much
+abbrev pub need : (w : Window) (base dep after : ℕ) → ℤ
+need w base dep after = (pos after -ℤ boardOffset base dep) -ℤ pos (w .start)
+
+abbrev pub isAbove : ℤ → Bool
+isAbove z = not (leZ z (pos 0))
+
+-- run k of window i. The number n of whole headways from the window's start to it is k. Quotient and exact remainder are those of need by the
+-- headway if need is above zero, otherwise 0 and 0.
+abbrev pub headwaysOf : (w : Window) (window base dep after run : ℕ) → Headways
+headwaysOf w i base dep after k =
+    let z = need w base dep after in
+    record {
+      window = i;
+      run = k;
+      quotient = cond (isAbove z) (natAbs z / w .headway) 0;
+      remainder = cond (isAbove z) (natAbs z % w .headway) 0;
+    }
+
+-- The wait: if need is above zero, it is zero for remainder zero, else headway - remainder; otherwise departure - wanted time.
+abbrev pub waitOf : (w : Window) (base dep after departure : ℕ) → ℕ
+waitOf w base dep after d =
+    let z = need w base dep after in
+    let r = natAbs z % w .headway in
+    cond (isAbove z) (cond (eqb r 0) 0 (w .headway - r)) (d - after)
+
+-- what is told of a boarding
+abbrev pub boardingOf : (departure shift : ℕ) (headways : Headways) (wait : ℕ) → BoardedRun
+boardingOf d s h w = record { departure = d; «time_shift_s» = s; headways = h; wait = w }
+
+-- Boarding run k of window i: its departure, and its time shift, which is its start - base as the bits of an i32.
+abbrev pub boardRun : (w : Window) (window base dep after run : ℕ) → BoardedRun
+boardRun w i base dep after k =
+    let t = runStart w k in
+    let d = t + dep - base in
+    boardingOf d (bitsOf (subℕ t base)) (headwaysOf w i base dep after k) (waitOf w base dep after d)
+
+-- Boarding a trip without windows, which leaves the stop at dep: its shift is dep - planned, its scheduled departure there; it has no window and no
+-- headways, and the wait is departure - wanted time.
+abbrev pub noHeadways : Headways
+noHeadways = record { window = 0; run = 0; quotient = 0; remainder = 0 }
+
+abbrev pub boardPlain : (planned dep after : ℕ) → BoardedRun
+boardPlain planned dep after = boardingOf dep (bitsOf (subℕ dep planned)) noHeadways (dep - after)
+
+-- the boarding of the run that was found in window i, if one was
+abbrev pub boardHit : (w : Window) (window base dep after : ℕ) → Hit → FreqBoard
+boardHit w i base dep after (hit k) = Board (boardRun w i base dep after k)
+boardHit w i base dep after miss = Nothing
 
 -- the earliest boarding of window i
 abbrev pub windowBoard : (w : Window) (number base dep after : ℕ) → FreqBoard
-windowBoard w i base dep after = boardHit w i base dep (firstRun w base dep after)
+windowBoard w i base dep after = boardHit w i base dep after (firstRun w base dep after)
 
 -- the one that departs earlier; equal ones keep the first
 abbrev pub earlierOf : FreqBoard → FreqBoard → FreqBoard

@@ -1,4 +1,5 @@
 pub mod Gtfs
 pub mod Found
 pub mod Reading
+pub mod Waits
 pub mod Rust

@@ -1,6 +1,5 @@
 -- What the earliest boarding is, in plain terms: no search and no order of looking stands here. `proofs/Reading` shows that
 -- `earliestFreqBoard` is it. Definitions only.
--- For a law: no contract rests on this.
 use Prim.Native.Nat.{ℕ, _+_, _<_, _≤_}
 use mathlib.Core.Path.{_≡_}
 use mathlib.Core.Bool.{true}
@@ -20,14 +19,14 @@ pub record Boards (n : ℕ) (window : ℕ → Window) (base dep after i k : ℕ)
 -- b is the earliest boarding of the first n windows
 pub record Earliest (n : ℕ) (window : ℕ → Window) (base dep after : ℕ) (b : BoardedRun) : Type 0 where
   -- it is a run that leaves at the wanted time or later
-  pub boards : Boards n window base dep after (b .window) (b .run)
+  pub boards : Boards n window base dep after (b .headways .window) (b .headways .run)
   -- its departure and its shift are that run's
-  pub departs : b .departure + base ≡ runStart (window (b .window)) (b .run) + dep
-  pub shifted : b .«time_shift_s» ≡ bitsOf (subℕ (runStart (window (b .window)) (b .run)) base)
+  pub departs : b .departure + base ≡ runStart (window (b .headways .window)) (b .headways .run) + dep
+  pub shifted : b .«time_shift_s» ≡ bitsOf (subℕ (runStart (window (b .headways .window)) (b .headways .run)) base)
   -- no such run departs earlier
   pub least : (i k : ℕ) → Boards n window base dep after i k → b .departure + base ≤ runStart (window i) k + dep
   -- and none of a window before its own departs as early
-  pub first : (i k : ℕ) → Boards n window base dep after i k → i < b .window → b .departure + base < runStart (window i) k + dep
+  pub first : (i k : ℕ) → Boards n window base dep after i k → i < b .headways .window → b .departure + base < runStart (window i) k + dep
 
 -- the answer is the earliest boarding, or there is none to board
 pub data Answers (n : ℕ) (window : ℕ → Window) (base dep after : ℕ) : FreqBoard → Type 0 where

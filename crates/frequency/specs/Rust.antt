@@ -13,7 +13,7 @@ use Rattle.loops.specs.Iter.{range}
 use Rattle.signed.specs.Signed.{ofBits}
 use Rattle.frequency.specs.declared.FreqBoard.{FreqBoard}
 use Rattle.frequency.specs.declared.FreqBoard.the-variants.{Nothing, Board}
-use Rattle.frequency.specs.Gtfs.{Window}
+use Rattle.frequency.specs.Gtfs.{Window, boardOffset}
 
 -- `x as u32` of an i64: its lowest 32 bits
 abbrev pub asU32 : ℤ → ℕ
@@ -38,10 +38,6 @@ divCeil n d = cond (eqb (n % d) 0) (n / d) (n / d + 1)
 -- MAX_FREQ_DEPS_PER_WINDOW
 abbrev pub maxTries : ℕ
 maxTries = 32
-
--- `board_offset`
-abbrev pub boardOffset : ℕ → ℕ → ℤ
-boardOffset base dep = pos dep -ℤ pos base
 
 -- `t_min`, from `need_t`
 abbrev pub tMin : Window → ℕ → ℕ → ℕ → ℤ

@@ -1,2 +1,3 @@
 pub mod FrequencyCall
 pub mod FrequencyExamples
+pub mod Told

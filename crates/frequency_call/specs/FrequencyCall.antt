@@ -45,12 +45,34 @@ freqCode S count ws base dep after =
 
 -- no boarding is handed out: n is the number of the question that refused, or 0 where no run can be boarded
 abbrev pub noBoard : ℕ → FreqAnswer
-noBoard n = record { code = n; found = 0; departure = 0; «time_shift_s» = 0 }
+noBoard n =
+    record {
+      code = n;
+      found = 0;
+      departure = 0;
+      «time_shift_s» = 0;
+      window = 0;
+      run = 0;
+      quotient = 0;
+      remainder = 0;
+      wait = 0;
+    }
 
 -- a boarding as the entry hands it out; that there is none is a success too
 abbrev pub boardAnswer : FreqBoard → FreqAnswer
 boardAnswer Nothing = noBoard 0
-boardAnswer (Board b) = record { code = 0; found = 1; departure = b .departure; «time_shift_s» = b .«time_shift_s» }
+boardAnswer (Board b) =
+    record {
+      code = 0;
+      found = 1;
+      departure = b .departure;
+      «time_shift_s» = b .«time_shift_s»;
+      window = b .headways .window;
+      run = b .headways .run;
+      quotient = b .headways .quotient;
+      remainder = b .headways .remainder;
+      wait = b .wait;
+    }
 
 -- what the entry answers whose questions gave this number, and whose boarding is b where all are yes
 abbrev pub freqAnswer : ℕ → FreqBoard → FreqAnswer

@@ -1,1 +1,2 @@
 pub mod FrequencyCall
+pub mod Told

@@ -1,7 +1,9 @@
-// frequency_call: the exported call of frequency boarding (document 01, item 3). It asks its questions, then hands on to `frequency`.
-// Place: a call crate; only `exports` and programs use it.
-// Specs (claim): the questions and the outcome of the call (FrequencyCall). Runs and boarding are defined in `frequency`.
-// Proves: the call's outcome is the defined one, on every input; document 01's worked rows (proofs/FrequencyExamples).
+// frequency_call: the exported call of frequency boarding (document 01, item 3; document 02, T-02). It asks its questions, then hands on to
+// `frequency`.
+// Place: a call crate; only `exports`, the demands and programs use it.
+// Specs (claims): the questions and the outcome of the call (FrequencyCall), what its answer tells (Told). Runs and boarding: `frequency`.
+// Proves: the call's outcome is the defined one, on every input; it tells the earliest boarding with its waiting, or that there is none
+// (`freq-told`); the worked rows of documents 01 and 02 (proofs/FrequencyExamples).
 // Assumes nothing.
 ghost use mathlib.Core.Path.{_≡_};
 ghost use Prim.Native.Nat.{_<_};
@@ -13,13 +15,19 @@ use frequency::FreqBoard;
 // The most windows.
 const WINDOW_LIMIT: u32 = 65536;
 
-// What the entry answers: the code; then found 1 with the departure and the shift, or found 0 and zeros.
+// What the entry answers: the code; then found 1 with the boarding's numbers, or found 0 and zeros. The window is numbered from 0; the run's
+// number is n, the whole headways from the window's start to it; quotient and remainder are those of need by the headway.
 #[repr(C)]
 pub struct FreqAnswer {
     pub code: u32,
     pub found: u32,
     pub departure: u32,
     pub time_shift_s: u32,
+    pub window: u32,
+    pub run: u32,
+    pub quotient: u32,
+    pub remainder: u32,
+    pub wait: u32,
 }
 
 // No boarding: the number of the question that refused, or 0 where no run can be boarded.
@@ -31,6 +39,11 @@ pub fn no_board(code: u32) -> FreqAnswer
         found: 0,
         departure: 0,
         time_shift_s: 0,
+        window: 0,
+        run: 0,
+        quotient: 0,
+        remainder: 0,
+        wait: 0,
     }
 }
 
@@ -108,5 +121,10 @@ pub fn freq_board(
         found: 1,
         departure: b.departure,
         time_shift_s: b.time_shift_s,
+        window: b.headways.window,
+        run: b.headways.run,
+        quotient: b.headways.quotient,
+        remainder: b.headways.remainder,
+        wait: b.wait,
     }
 }

@@ -15,7 +15,7 @@ use Rattle.label.specs.declared.Label.{Label}
 use Rattle.label.specs.declared.Label.the-variants.{Empty, Access, Transit, Walk}
 use Rattle.label.specs.Table.{recordOf}
 use Rattle.departures.specs.declared.DepartureRow.{DepartureRow}
-use Rattle.frequency.specs.Gtfs.{earliestFreqBoard}
+use Rattle.frequency.specs.Gtfs.{boardPlain, earliestFreqBoard}
 use Rattle.model.specs.Tables.{never, Tables, Origin, Query, roundsOf, changeBefore, isEgress, egressWalk, stops, trips, stopCount, stopAt, departure, noPickup, noDropOff, noWindows, edgesFrom, edgeTo, walkTime, position, permitted}
 use Rattle.model.specs.Search.{reachedBy, Arrivals, Boardings, State, tripWindow, delayOf, skipped, arrivalNow, marginOf, prunable, boardAt, notBefore, departuresAt, markAt, lineAt, bestAfter, improve, relax, alightings, scanTripForward, dominated, pruned, passedOver, boarding, board, scanDepartures, scanStops, walkFrom, walkAll, stamped, emptied, roundStart, ridePhase, walkPhase, idle, rounds, setOut, access, newArrivals, begin, bestTarget, rowTarget, candidatesFrom, final, searchAnswer}
 use Rattle.model.specs.Promise.{effective}
@@ -105,25 +105,25 @@ module _ (T : Tables) (Q : Query) where
   sim-blocked t o (b ∷ bs) = ap (λ (z : Bool). ((eqb (lineAt T (b .0)) (lineAt T t) && ltb (position T (b .0)) (position T t)) && leb (b .1) o) || z) (sim-blocked t o bs)
 
   -- a boarding
-  abbrev boardedAt : ℕ → ℕ → BoardedRun
-  boardedAt t o = record { departure = effective T Q .departs t o; «time_shift_s» = shiftAt T Q t o; window = 0; run = 0 }
+  abbrev boardedAt : ℕ → ℕ → ℕ → BoardedRun
+  boardedAt t o after = boardPlain (departure T t o) (effective T Q .departs t o) after
 
-  calm-board : (t o after : ℕ) → noWindows T t ≡ true → boardAt T Q (delayOf Q t) t o after ≡ elim (ltb (effective T Q .departs t o) after) [ true ↦ Nothing | false ↦ Board (boardedAt t o) ]
+  calm-board : (t o after : ℕ) → noWindows T t ≡ true → boardAt T Q (delayOf Q t) t o after ≡ elim (ltb (effective T Q .departs t o) after) [ true ↦ Nothing | false ↦ Board (boardedAt t o after) ]
   unfolding boardAt
   calm-board t o after w =
-      ap (λ (b : Bool). elim b as (λ z. FreqBoard) [ true ↦ elim (ltb (effective T Q .departs t o) after) [ true ↦ Nothing | false ↦ Board (boardedAt t o) ] | false ↦ earliestFreqBoard (T .timetable .trip t .windows) (tripWindow T t) (departure T t 0) (effective T Q .departs t o) after ]) w
+      ap (λ (b : Bool). elim b as (λ z. FreqBoard) [ true ↦ elim (ltb (effective T Q .departs t o) after) [ true ↦ Nothing | false ↦ Board (boardedAt t o after) ] | false ↦ earliestFreqBoard (T .timetable .trip t .windows) (tripWindow T t) (departure T t 0) (effective T Q .departs t o) after ]) w
 
   -- one listed departure
   sim-boarding : (stamp after t o : ℕ) (s : State) → noWindows T t ≡ true
-      → boarding T Q stamp after (delayOf Q t) t o s ≡ elim (PlainSearch.skips N stamp after t o (stateOf s)) [ true ↦ Nothing | false ↦ Board (boardedAt t o) ]
+      → boarding T Q stamp after (delayOf Q t) t o s ≡ elim (PlainSearch.skips N stamp after t o (stateOf s)) [ true ↦ Nothing | false ↦ Board (boardedAt t o after) ]
   unfolding boarding pruned passedOver PlainSearch.skips PlainSearch.passed
   sim-boarding stamp after t o s w =
       go (permitted T Q t) (prunable T Q (delayOf Q t) t && dominated T Q t o (s .boardings .lineBoards)) (prunable T Q (delayOf Q t) t && PlainSearch.blocked N t o (s .boardings .lineBoards)) (ap (λ (z : Bool). prunable T Q (delayOf Q t) t && z) (sim-blocked t o (s .boardings .lineBoards)))
       (noPickup T t o) (skipped T Q (delayOf Q t) t o) (ltb (effective T Q .departs t o) after) (λ x. leb (s .arrivals .best) x || passedOver T Q stamp t o x (s .boardings)) (boardAt T Q (delayOf Q t) t o after) (calm-board t o after w)
     where
-      go : (A B B′ : Bool) → B ≡ B′ → (C S D : Bool) (F : ℕ → Bool) (z : FreqBoard) → z ≡ elim D as (λ y. FreqBoard) [ true ↦ Nothing | false ↦ Board (boardedAt t o) ]
+      go : (A B B′ : Bool) → B ≡ B′ → (C S D : Bool) (F : ℕ → Bool) (z : FreqBoard) → z ≡ elim D as (λ y. FreqBoard) [ true ↦ Nothing | false ↦ Board (boardedAt t o after) ]
           → _≡_ {A = FreqBoard} (elim (((not A || B) || C) || S) [ true ↦ Nothing | false ↦ elim z [ Nothing ↦ Nothing | Board b ↦ elim (F (b .departure)) [ true ↦ Nothing | false ↦ Board b ] ] ])
-          (elim ((((not A || B′) || not (not (C || S))) || D) || F (effective T Q .departs t o)) [ true ↦ Nothing | false ↦ Board (boardedAt t o) ])
+          (elim ((((not A || B′) || not (not (C || S))) || D) || F (effective T Q .departs t o)) [ true ↦ Nothing | false ↦ Board (boardedAt t o after) ])
       go false B B′ b C S D F z e = refl
       go true true true b C S D F z e = refl
       go true true false b C S D F z e = absurd (no-both refl b)
@@ -178,7 +178,7 @@ module _ (T : Tables) (Q : Query) where
 
       pick : (b : Bool) → PlainSearch.skips N stamp after (d .trip) (d .offset) (stateOf s) ≡ b → stateOf (scanDepartures T Q false false round stamp x after ds s) ≡ PlainSearch.departures N round stamp after (map pairOf ds) (stateOf s)
           → (PlainSearch.skips N stamp after (d .trip) (d .offset) (stateOf s) ≡ false → stateOf (scanDepartures T Q false false round stamp x after ds n) ≡ PlainSearch.departures N round stamp after (map pairOf ds) n′)
-          → stateOf (F (elim b [ true ↦ Nothing | false ↦ Board (boardedAt (d .trip) (d .offset)) ])) ≡ elim b [ true ↦ PlainSearch.departures N round stamp after (map pairOf ds) (stateOf s) | false ↦ PlainSearch.departures N round stamp after (map pairOf ds) n′ ]
+          → stateOf (F (elim b [ true ↦ Nothing | false ↦ Board (boardedAt (d .trip) (d .offset) after) ])) ≡ elim b [ true ↦ PlainSearch.departures N round stamp after (map pairOf ds) (stateOf s) | false ↦ PlainSearch.departures N round stamp after (map pairOf ds) n′ ]
       pick true e p q = p
       pick false e p q = q e
 

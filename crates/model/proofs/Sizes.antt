@@ -16,8 +16,8 @@ use Rattle.signed.proofs.Laws.{of-sub, moved-low, moved-high, size-high}
 use Rattle.frequency.specs.declared.BoardedRun.{BoardedRun}
 use Rattle.frequency.specs.declared.FreqBoard.{FreqBoard}
 use Rattle.frequency.specs.declared.FreqBoard.the-variants.{Nothing, Board}
-use Rattle.frequency.specs.Gtfs.{Window, runStart, firstRun, boardHit, windowBoard, earlierOf, boardNext, earliestFreqBoard}
-use Rattle.frequency.proofs.Best.{found-says}
+use Rattle.frequency.specs.Gtfs.{Window, runStart, firstRun, boardRun, boardPlain, boardHit, windowBoard, earlierOf, boardNext, earliestFreqBoard}
+use Rattle.frequency.proofs.Runs.{found-says}
 use Rattle.stop_delay.specs.declared.StopDelay.{StopDelay}
 use Rattle.stop_delay.specs.Times.{departureGiven, arrivalGiven, sizeOf, shifted}
 use Rattle.stop_delay.proofs.Times.{shifted-near}
@@ -80,12 +80,12 @@ earlier-soon (Board a) (Board b) p q = go (leb (a .departure) (b .departure))
 window-soon : (w : Window) (i base dep after : ℕ) → w .end ≤ timeLimit → base ≤ timeLimit → dep ≤ 2097150 → Soonest (windowBoard w i base dep after)
 window-soon w i base dep after u v n = go (firstRun w base dep after) refl
   where
-    go : (h : Hit) → firstRun w base dep after ≡ h → Soonest (boardHit w i base dep h)
+    go : (h : Hit) → firstRun w base dep after ≡ h → Soonest (boardHit w i base dep after h)
     go miss e = nothing
     go (hit k) e =
         let s = found-says w base dep after k e in
         let r : runStart w k < timeLimit = omega (arith, s .runs) in
-        soon {b = record { departure = runStart w k + dep - base; «time_shift_s» = bitsOf (subℕ (runStart w k) base); window = i; run = k }}
+        soon {b = boardRun w i base dep after k}
         (record { departs = omega arith; shift = bits-sub timeLimit (runStart w k) base (omega arith) (omega arith) (omega arith) (omega arith) })
 
 module _ (T : Tables) (Q : Query) (D : Door T Q) where
@@ -163,22 +163,12 @@ module _ (T : Tables) (Q : Query) (D : Door T Q) where
         go : (x y : Bool) → Soonest (elim x [
           | true ↦ elim y [
             | true ↦ Nothing
-            | false ↦ Board (record {
-              departure = departureNow T Q (delayOf Q t) t o;
-              «time_shift_s» = bitsOf (subℕ (departureNow T Q (delayOf Q t) t o) (departure T t o));
-              window = 0;
-              run = 0;
-            })
+            | false ↦ Board (boardPlain (departure T t o) (departureNow T Q (delayOf Q t) t o) after)
           ]
           | false ↦ earliestFreqBoard (T .timetable .trip t .windows) (tripWindow T t) (departure T t 0) (departureNow T Q (delayOf Q t) t o) after
         ])
         go true true = nothing
         go true false =
-            soon {b = record {
-              departure = departureNow T Q (delayOf Q t) t o;
-              «time_shift_s» = bitsOf (subℕ (departureNow T Q (delayOf Q t) t o) (departure T t o));
-              window = 0;
-              run = 0;
-            }}
+            soon {b = boardPlain (departure T t o) (departureNow T Q (delayOf Q t) t o) after}
             (record { departs = omega (arith, departure-early); shift = shift-small })
         go false y = windows-soon after

@@ -7,15 +7,13 @@ use mathlib.Core.List.{List, [], _∷_, _++_}
 use mathlib.Core.Option.{Option, none, some}
 use lib.ListN.{length, getD, set, replicate}
 use lib.Dec.{ltb, leb, eqb}
-use lib.IntN.{subℕ}
 use Rattle.loops.specs.Iter.{Hit, hit, miss, someIn}
-use Rattle.signed.specs.Signed.{bitsOf}
 use Rattle.cell_bitset.specs.declared.CellBitSet.{CellBitSet}
 use Rattle.cell_bitset.specs.CellSet.{emptySet, withCell, meets, holdsNone}
 use Rattle.frequency.specs.declared.BoardedRun.{BoardedRun}
 use Rattle.frequency.specs.declared.FreqBoard.{FreqBoard}
 use Rattle.frequency.specs.declared.FreqBoard.the-variants.{Nothing, Board}
-use Rattle.frequency.specs.Gtfs.{Window, windowFrom, earliestFreqBoard}
+use Rattle.frequency.specs.Gtfs.{Window, windowFrom, boardPlain, earliestFreqBoard}
 use Rattle.stop_delay.specs.declared.StopDelay.{StopDelay}
 use Rattle.stop_delay.specs.Times.{skippedAt, effectiveDeparture, effectiveArrival}
 use Rattle.label.specs.declared.Label.{Label}
@@ -163,14 +161,13 @@ module _ (T : Tables) (Q : Query) where
   abbrev pub marginOf : ℕ
   marginOf = margin (Q .delays) (Q .settings .«margin_cap»)
 
-  -- BOARDING trip t at offset o, not before `after`: departure and time shift. A frequency trip: its earliest run.
+  -- BOARDING trip t at offset o, not before `after`: departure, time shift and waiting. A frequency trip: its earliest run.
   unfoldable pub boardAt : Hit → ℕ → ℕ → ℕ → FreqBoard
   boardAt adj t o after =
       elim (noWindows T t) [
         | true ↦ elim (ltb (departureNow adj t o) after) [
           | true ↦ Nothing
-          | false ↦ let dep = departureNow adj t o in
-              Board (record { departure = dep; «time_shift_s» = bitsOf (subℕ dep (departure T t o)); window = 0; run = 0 })
+          | false ↦ Board (boardPlain (departure T t o) (departureNow adj t o) after)
         ]
         | false ↦ earliestFreqBoard (T .timetable .trip t .windows) (tripWindow T t) (departure T t 0) (departureNow adj t o) after
       ]

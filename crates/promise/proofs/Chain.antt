@@ -20,6 +20,7 @@ use Rattle.promise.specs.Claims.{PromiseKept}
 use Rattle.promise.specs.Chain.{Chain, TransferChain, callersList, DoorElse, TransfersPass}
 use Rattle.promise.specs.Demands.{lentAnswer, Demands}
 use Rattle.tally.proofs.Laws.{the-tally}
+use Rattle.frequency_call.proofs.Told.{freq-told}
 use Rattle.promise.proofs.Screens.{screen-query, screen-rust}
 use Rattle.promise.proofs.Unflagged.{other-transfers, other-transfers-rust}
 use Rattle.promise.proofs.Building.{chain-tables}
@@ -63,6 +64,7 @@ the-demands =
       tally = the-tally;
       demand2-query = demand2-query;
       demand2-rust = demand2-rust;
+      waiting = freq-told;
       demand3-query = demand3-query;
       demand3-rust-call = demand3-rust-call;
       steady-query = steady-query;

@@ -1,10 +1,11 @@
 -- THE THREE DEMANDS, of the exported calls `query` and `run_tbr`, on lent slices; then the chain, in the order in which a board calls: build, ask,
 -- answer. Each field is a claim over all slices; `the-demands` (proofs/Chain) inhabits the record, `whole-K` (proofs/ChainInstance) shows that the
--- chain's hypotheses can be met. The contracts of the calls (`query_call`, `lines_call`, `departures_call`, `transfers_call`) equate what they answer
--- and write with the outcomes named here. Definitions only.
+-- chain's hypotheses can be met. The contracts of the calls (`query_call`, `frequency_call`, `lines_call`, `departures_call`, `transfers_call`) equate what
+-- they answer and write with the outcomes named here. Definitions only.
 use mathlib.Core.Path.{_≡_}
 use mathlib.Core.Bool.{false}
 use Rattle.tally.specs.Laws.{TallyLaws}
+use Rattle.frequency_call.specs.Told.{FreqLaws}
 use Rattle.model.specs.Search.{SearchAnswer, useArcFlags, flagsInUse, runTbr, query}
 use Rattle.model.specs.Promise.{scheduled, effective, LinesBuilt, TransfersBuilt, CalmConditions, PlainConditions, PlainDay, SteadyConditions}
 use Rattle.model.specs.Promise.{SteadyDay}
@@ -37,6 +38,8 @@ pub record Demands : Type 0 where
   -- DEMAND 2, on any slices
   pub demand2-query : (x : Lent) → LawsMet x (queryOutcome x) (lentAnswer x) (flagsInUse (tablesOf x) (queryOf x))
   pub demand2-rust : (x : Lent) → LawsMet x (runTbrOutcome x) (rustAnswerOf x) (useArcFlags (tablesOf x) (queryOf x))
+  -- frequency boarding, of every input of its call: the earliest boarding by GTFS, with its waiting (document 02, T-02), or none
+  pub waiting : FreqLaws
   -- DEMAND 3: on a plain day, by scheduled times; of `run_tbr` wherever the Rust's `use_arc_flags` is false
   pub demand3-query : (x : Lent) → PlainDay (tablesOf x) (queryOf x) → PromiseMet x (queryOutcome x) (lentAnswer x) (scheduled (tablesOf x))
   pub demand3-rust-call : (x : Lent) → PlainDay (tablesOf x) (queryOf x) → useArcFlags (tablesOf x) (queryOf x) ≡ false

@@ -1,5 +1,5 @@
 // promise: the three demands of the exported calls, from the building calls to the query. There is no code here: the contracts of the calls (crates
-// `query_call`, `lines_call`, `departures_call`, `transfers_call`) equate them with the outcomes that the claims are about.
+// `query_call`, `frequency_call`, `lines_call`, `departures_call`, `transfers_call`) equate them with the outcomes that the claims are about.
 // Place: above the calls; programs and auditors read it.
 // Specs, all of them claims: what is claimed of a call (Claims); what ties the building calls' outcomes to what a query is lent (Chain); the
 // demands themselves, one record (Demands).

@@ -102,19 +102,29 @@ fn windows(tally: &mut [u32; 128], screen: u32, settings: Settings, w: &[u32]) -
     if w.len() < e {
         return false;
     }
-    let o = first_nine(rest(w, e));
+    let o = rest(w, e);
     let a = exports::savoiky_freq_board(
         tally,
         screen,
         settings,
         at(w, 1),
         part(w, 3, n),
-        o.0,
-        o.1,
-        o.2,
+        at(o, 0),
+        at(o, 1),
+        at(o, 2),
     );
-    let got = [a.code, a.found, a.departure, a.time_shift_s];
-    same_words(&[o.3, o.4, o.5, o.6], 0, &got)
+    let got = [
+        a.code,
+        a.found,
+        a.departure,
+        a.time_shift_s,
+        a.window,
+        a.run,
+        a.quotient,
+        a.remainder,
+        a.wait,
+    ];
+    same_words(o, 3, &got)
 }
 
 // One stop time: skipped, departure and arrival under what the tables say of it.

@@ -8,12 +8,10 @@ use native.Mathlib.Nat.{add-zero}
 use lib.ListN.{length, getD, take, drop, length-drop}
 use lib.Seq.{getD-drop, getD-take, length-take-le}
 use lib.Dec.{ltb, eqb}
-use lib.IntN.{subℕ}
 use borrow.Author.Tests.{lt-ltb, le-ltb, eq-eqb, ne-eqb}
 use Rattle.loops.proofs.Iter.{iter-as}
-use Rattle.signed.specs.Signed.{bitsOf}
 use Rattle.tables.specs.Sane.{Sane}
-use Rattle.frequency.specs.Gtfs.{Window, windowFrom, windowCount, windowIn, earliestFreqBoard, boardNext, earlierOf, windowBoard, Nominal}
+use Rattle.frequency.specs.Gtfs.{Window, windowFrom, windowCount, windowIn, boardPlain, earliestFreqBoard, boardNext, earlierOf, windowBoard, Nominal}
 use Rattle.loops.specs.Iter.{Hit, hit, miss}
 use Rattle.loops.proofs.Search.{hit-below}
 use Rattle.tables.specs.declared.Counts.{Counts}
@@ -25,6 +23,7 @@ use Rattle.delay_rows.specs.declared.Found.{Found}
 use Rattle.delay_rows.specs.declared.Found.the-variants.{At}
 use Rattle.delay_rows.specs.Delays.{delayRow, stopDelay}
 use Rattle.delay_rows.specs.Flat.{delaysAlone, delayTables, foundOf}
+use Rattle.frequency.specs.declared.BoardedRun.{BoardedRun}
 use Rattle.frequency.specs.declared.FreqBoard.{FreqBoard}
 use Rattle.frequency.specs.declared.FreqBoard.the-variants.{Nothing as NoBoard, Board}
 use Rattle.model.specs.Tables.{Tables, Query, departure, noPickup, noWindows, modeWanted, usable, permitted, stops}
@@ -89,7 +88,7 @@ pick b l x y = elim b [ true ↦ elim l [ true ↦ NoBoard | false ↦ x ] | fal
 
 module _ (T : Tables) (Q : Query) (h : Hit) (i o after : ℕ) where
   abbrev planned : FreqBoard
-  planned = Board (record { departure = departureNow T Q h i o; «time_shift_s» = bitsOf (subℕ (departureNow T Q h i o) (departure T i o)); window = 0; run = 0 })
+  planned = Board (boardPlain (departure T i o) (departureNow T Q h i o) after)
 
   abbrev frequent : FreqBoard
   frequent = freqBoardAt (T .timetable) i (departureNow T Q h i o) after
@@ -114,12 +113,11 @@ module _ (T : Tables) (Q : Query) (h : Hit) (i o after : ℕ) where
         sym (ap (λ (b : Bool). pick true b planned frequent) (ap (λ (d : ℕ). ltb d after) (sym ed) ∙ lt-ltb dep after l))
         ∙ sym (ap (λ (b : Bool). pick b early planned frequent) (none-is true (eq-eqb n 0 z))) ∙ sym board-is
 
-    pub board-planned : (p s : ℕ) → n ≡ 0 → after ≤ dep → p ≡ timeOf t (firstOf t c i + o) 2 → s ≡ bitsOf (subℕ dep p)
-        → Board (record { departure = dep; «time_shift_s» = s; window = 0; run = 0 }) ≡ boardAt T Q h i o after
-    board-planned p s z l ep es =
+    pub board-planned : (p : ℕ) (b : BoardedRun) → n ≡ 0 → after ≤ dep → p ≡ timeOf t (firstOf t c i + o) 2 → b ≡ boardPlain p dep after → Board b ≡ boardAt T Q h i o after
+    board-planned p b z l ep eb =
         let q : p ≡ departure T i o = ep ∙ rw e refl in
-        let s′ : s ≡ bitsOf (subℕ (departureNow T Q h i o) (departure T i o)) = es ∙ ap₂ (λ (x y : ℕ). bitsOf (subℕ x y)) ed q in
-        ap₂ (λ (x y : ℕ). Board (record { departure = x; «time_shift_s» = y; window = 0; run = 0 })) ed s′
+        ap (λ (x : BoardedRun). Board x) eb
+        ∙ ap₂ (λ (x y : ℕ). Board (boardPlain x y after)) q ed
         ∙ sym (ap (λ (b : Bool). pick true b planned frequent) (ap (λ (d : ℕ). ltb d after) (sym ed) ∙ le-ltb dep after l))
         ∙ sym (ap (λ (b : Bool). pick b early planned frequent) (none-is true (eq-eqb n 0 z))) ∙ sym board-is
 

@@ -21,7 +21,6 @@ ghost use Rattle.model.specs.Search.{delayOf, delayAt, skipped, departureNow, a
 ghost use Rattle.trip_boarding.specs.Reads.{hitOf, Known, Ground, Event, Agree, Asks};
 ghost use Rattle.trip_boarding.specs.Frequency.{freqBoardAt};
 use delay_rows::Found;
-use frequency::BoardedRun;
 use frequency::FreqBoard;
 use query_types::Terms;
 use stop_delay::StopDelay;
@@ -204,12 +203,7 @@ pub fn board_at(
         return FreqBoard::Nothing;
     }
     let planned = event_word(tables, c, trip, off, 2);
-    FreqBoard::Board(BoardedRun {
-        departure: dep,
-        time_shift_s: signed::difference(dep, planned),
-        window: 0,
-        run: 0,
-    })
+    FreqBoard::Board(frequency::board_plain(planned, dep, after))
 }
 
 // Is the trip not usable, without pickup at the offset, or skipping it? Modes are not asked.

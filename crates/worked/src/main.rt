@@ -13,12 +13,16 @@ mod second;
 mod town;
 mod words;
 
+use crate::words::at;
 use crate::words::number;
 use crate::words::refused;
 use crate::words::say;
 use crate::words::say_number;
+use crate::words::signed_number;
 use crate::words::tell;
+use crate::words::wide;
 use door::Settings;
+use frequency_call::FreqAnswer;
 
 // A value, or the question that refused it.
 fn answer(a: door::Answer) {
@@ -42,15 +46,63 @@ fn rounds(tally: &mut [u32; 128], screen: u32, settings: Settings, wanted: u32, 
     );
 }
 
-fn boarding(tally: &mut [u32; 128], screen: u32, settings: Settings, wanted: u32) {
-    let windows = [600u32, 1200, 300];
-    let a = exports::savoiky_freq_board(tally, screen, settings, 1, &windows, 600, 660, wanted);
-    let n = [wanted, a.departure, a.time_shift_s];
-    if a.found == 0 {
-        tell(b"  wanted #: none\n", &n);
+// Whole minutes, a begun one counted.
+fn minutes(seconds: u32) -> u32 {
+    let whole = seconds / 60;
+    if seconds % 60 == 0 {
+        return whole;
+    }
+    whole + 1
+}
+
+// Every so often, so long to wait: the headway in minutes where it is whole minutes, else in seconds; the wait in minutes.
+fn waiting(headway: u32, wait: u32) {
+    if headway % 60 != 0 {
+        tell(b"every # seconds, # min to wait", &[headway, minutes(wait)]);
         return;
     }
-    tell(b"  wanted #: departs #, shift #\n", &n);
+    tell(
+        b"every # minutes, # to wait",
+        &[headway / 60, minutes(wait)],
+    );
+}
+
+// Where the run stands; need, where it is above zero, by the headway.
+fn place(a: FreqAnswer, headway: u32) {
+    if a.quotient == 0 && a.remainder == 0 {
+        tell(b" (window #, run #, wait #)\n", &[a.window, a.run, a.wait]);
+        return;
+    }
+    tell(
+        b" (window #, run #, need # * # + #, wait #)\n",
+        &[a.window, a.run, a.quotient, headway, a.remainder, a.wait],
+    );
+}
+
+// A boarding with its waiting (document 02, T-02), of a template from 600, boarding at 660.
+fn boarding(
+    tally: &mut [u32; 128],
+    screen: u32,
+    settings: Settings,
+    count: u32,
+    windows: &[u32],
+    wanted: u32,
+) {
+    let a = exports::savoiky_freq_board(tally, screen, settings, count, windows, 600, 660, wanted);
+    if a.code != 0 {
+        refused(a.code);
+        return;
+    }
+    if a.found == 0 {
+        tell(b"  wanted #: none\n", &[wanted]);
+        return;
+    }
+    tell(b"  wanted #: departs #, shift ", &[wanted, a.departure]);
+    signed_number(a.time_shift_s);
+    say(b"; ");
+    let headway = at(windows, 3 * wide(a.window) + 2);
+    waiting(headway, a.wait);
+    place(a, headway);
 }
 
 fn walk(
@@ -99,10 +151,19 @@ fn query_rounds(tally: &mut [u32; 128], screen: u32, settings: Settings) {
 }
 
 fn boardings(tally: &mut [u32; 128], screen: u32, settings: Settings) {
+    let one = [600u32, 1200, 300];
+    let long = [600u32, 7200, 600];
+    let two = [600u32, 1200, 300, 1200, 1800, 90];
     say(b"Frequency boarding: window 600 to 1200 every 300, template from 600, boarding at 660\n");
-    boarding(tally, screen, settings, 660);
-    boarding(tally, screen, settings, 661);
-    boarding(tally, screen, settings, 961);
+    boarding(tally, screen, settings, 1, &one, 660);
+    boarding(tally, screen, settings, 1, &one, 661);
+    boarding(tally, screen, settings, 1, &one, 400);
+    boarding(tally, screen, settings, 1, &one, 960);
+    boarding(tally, screen, settings, 1, &one, 961);
+    say(b"The same, window 600 to 7200 every 600\n");
+    boarding(tally, screen, settings, 1, &long, 1020);
+    say(b"The same, windows 600 to 1200 every 300 and 1200 to 1800 every 90\n");
+    boarding(tally, screen, settings, 2, &two, 1300);
 }
 
 fn arrival(tally: &mut [u32; 128], screen: u32, settings: Settings) {

@@ -17,6 +17,15 @@ pub fn say_number(text: &[u8], n: u32) {
     number(n);
 }
 
+// A number that may be below zero: an i32's bits.
+pub fn signed_number(bits: u32) {
+    if bits < 2147483648 {
+        number(bits);
+        return;
+    }
+    say_number(b"-", 4294967295 - bits + 1);
+}
+
 fn two_digits(n: u32) {
     if n < 10 {
         say_number(b":0", n);

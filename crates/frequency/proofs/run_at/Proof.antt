@@ -1,4 +1,5 @@
 use borrow.Author.Needs.{needs}
+use native.Mathlib.Omega.{arith}
 use Rattle.frequency.proofs.run_at.Statement.{statement}
 use Rattle.frequency.proofs.run_at.Tie as tie
 
@@ -35,11 +36,11 @@ mul-headway-2 c = search needs
 shared-slice-read-headway : tie.Need-shared-slice-read-headway
 shared-slice-read-headway c = search needs
 
+cast-first-run : tie.Need-cast-first-run
+cast-first-run c = omega (arith, c .before .before .before .before .pre .0 .few)
+
 first-run-requires : tie.Need-first-run-requires
-first-run-requires c κs =
-    let n = c .before .before .before .before .pre .0 in
-    let u = c .before .before .before .before .pre .1 in
-    ((n .starts _ u, n .ends _ u, n .headways _ u), (n .template, n .departs, n .ready))
+first-run-requires c κs = let n = c .before .before .before .before .pre .0 in let u = c .before .before .before .before .pre .1 in ((n .starts _ u, n .ends _ u, n .headways _ u), (n .template, n .departs, n .ready))
 
 returns : tie.Need-returns
 returns c = search needs
@@ -59,5 +60,6 @@ run-at-spec =
     add-headway
     mul-headway-2
     shared-slice-read-headway
+    cast-first-run
     first-run-requires
     returns)

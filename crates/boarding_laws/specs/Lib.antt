@@ -1,0 +1,4 @@
+pub mod Waiting
+pub mod Boarding
+pub mod Search
+pub mod Claims
