@@ -67,6 +67,7 @@ boardOffset base dep = pos dep -ℤ pos base
 abbrev pub need : (w : Window) (base dep after : ℕ) → ℤ
 need w base dep after = (pos after -ℤ boardOffset base dep) -ℤ pos (w .start)
 
+-- is a number above zero?
 abbrev pub isAbove : ℤ → Bool
 isAbove z = not (leZ z (pos 0))
 
