@@ -18,7 +18,7 @@ pub record QueryBoards (T : Tables) (Q : Query) : Type 0 where
   -- every boarding: wait = departure - wanted time
   pub waits : (adj : Hit) (t o after : ℕ) (b : BoardedRun) → boardAt T Q adj t o after ≡ Board b → b .wait + after ≡ b .departure
   -- of a trip without windows: window 0, n 0, quotient 0, remainder 0, and its effective departure
-  pub plain : (adj : Hit) (t o after : ℕ) (b : BoardedRun) → noWindows T t ≡ true → boardAt T Q adj t o after ≡ Board b
+  pub ordinary : (adj : Hit) (t o after : ℕ) (b : BoardedRun) → noWindows T t ≡ true → boardAt T Q adj t o after ≡ Board b
       → (b .headways ≡ noHeadways) × (b .departure ≡ departureNow T Q adj t o)
   -- of a frequency trip: the earliest run of its windows, with its waiting
   pub frequent : (adj : Hit) (t o after : ℕ) (b : BoardedRun) → noWindows T t ≡ false → boardAt T Q adj t o after ≡ Board b

@@ -3,7 +3,7 @@ use Prim.Native.Nat.{ℕ, _+_, _-_, _<_, _≤_}
 use mathlib.Core.Path.{_≡_, refl, ap, ap₂, sym, _∙_}
 use mathlib.Core.Bool.{Bool, true, false, cond}
 use native.Mathlib.Omega.{arith}
-use lib.Dec.{ltb}
+use lib.Dec.{ltb, leb}
 use lib.IntN.{subℕ}
 use borrow.Author.Tests.{le-leb, lt-leb, lt-ltb, le-ltb, ltb-true, ltb-false}
 use Rattle.loops.specs.Iter.{Hit, hit, miss, range}
@@ -21,6 +21,16 @@ use Rattle.frequency.proofs.Runs.{found-says, wait-is, headways-are, re
 pub earlier-none : (x : FreqBoard) → x ≡ earlierOf x Nothing
 earlier-none Nothing = refl
 earlier-none (Board a) = refl
+
+-- what both of two boardings have, the earlier one has
+pub earlier-keeps : (P : FreqBoard → Type 0) (x y : FreqBoard) → P x → P y → P (earlierOf x y)
+earlier-keeps P Nothing y p q = q
+earlier-keeps P (Board a) Nothing p q = p
+earlier-keeps P (Board a) (Board b) p q = go (leb (a .departure) (b .departure))
+  where
+    go : (t : Bool) → P (cond t (Board a) (Board b))
+    go true = p
+    go false = q
 
 pub earlier-old : (a b : BoardedRun) → a .departure ≤ b .departure → Board a ≡ earlierOf (Board a) (Board b)
 earlier-old a b l = sym (ap (λ (t : Bool). cond t (Board a) (Board b)) (le-leb (a .departure) (b .departure) l))

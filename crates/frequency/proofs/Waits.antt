@@ -5,7 +5,7 @@ use mathlib.Core.Bool.{Bool, true, false, cond}
 use mathlib.Core.Logic.{⊎-elim}
 use native.Mathlib.Omega.{arith}
 use native.Mathlib.Nat.{div-add-mod', mod-lt}
-use lib.Dec.{eqb, leb}
+use lib.Dec.{eqb}
 use lib.IntN.{ℤ, pos, natAbs}
 use Rattle.loops.specs.Iter.{Hit, hit, miss}
 use Rattle.loops.proofs.Iter.{iter-keeps}
@@ -13,9 +13,10 @@ use Rattle.loops.proofs.Search.{clash, split}
 use Rattle.frequency.specs.declared.BoardedRun.{BoardedRun}
 use Rattle.frequency.specs.declared.FreqBoard.{FreqBoard}
 use Rattle.frequency.specs.declared.FreqBoard.the-variants.{Nothing, Board}
-use Rattle.frequency.specs.Gtfs.{Window, runStart, firstRun, need, isAbove, boardRun, boardHit, earlierOf, boardNext, earliestFreqBoard}
+use Rattle.frequency.specs.Gtfs.{Window, runStart, firstRun, need, isAbove, boardRun, boardHit, boardNext, earliestFreqBoard}
 use Rattle.frequency.specs.Waits.{NeedAbove, NeedNotAbove, Waits}
 use Rattle.frequency.proofs.Integers.{sub-pos, plus-offset, above-later, above-first, size-later, need-size}
+use Rattle.frequency.proofs.Best.{earlier-keeps}
 use Rattle.frequency.proofs.Runs.{found-says, first-number, later-number, wait-is}
 
 -- of the first run of a window that can be boarded
@@ -78,33 +79,24 @@ module _ (w : Window) (base dep after i k : ℕ) (e : firstRun w base dep after 
 
 module _ (window : ℕ → Window) (base dep after : ℕ) where
   -- a boarding that is found is one of a window's first run
-  data Drawn : FreqBoard → Type 0 where
-    nothing : Drawn Nothing
-    drawn : {b : BoardedRun} (i k : ℕ) → firstRun (window i) base dep after ≡ hit k → b ≡ boardRun (window i) i base dep after k → Drawn (Board b)
+  data Chosen : FreqBoard → Type 0 where
+    nothing : Chosen Nothing
+    chosen : {b : BoardedRun} (i k : ℕ) → firstRun (window i) base dep after ≡ hit k → b ≡ boardRun (window i) i base dep after k → Chosen (Board b)
 
-  earlier-drawn : (x y : FreqBoard) → Drawn x → Drawn y → Drawn (earlierOf x y)
-  earlier-drawn Nothing y p q = q
-  earlier-drawn (Board a) Nothing p q = p
-  earlier-drawn (Board a) (Board b) p q = go (leb (a .departure) (b .departure))
-    where
-      go : (t : Bool) → Drawn (cond t (Board a) (Board b))
-      go true = p
-      go false = q
+  window-chosen : (i : ℕ) (x : Hit) → firstRun (window i) base dep after ≡ x → Chosen (boardHit (window i) i base dep after x)
+  window-chosen i (hit k) e = chosen i k e refl
+  window-chosen i miss e = nothing
 
-  window-drawn : (i : ℕ) (x : Hit) → firstRun (window i) base dep after ≡ x → Drawn (boardHit (window i) i base dep after x)
-  window-drawn i (hit k) e = drawn i k e refl
-  window-drawn i miss e = nothing
-
-  all-drawn : (n : ℕ) → Drawn (earliestFreqBoard n window base dep after)
+  all-chosen : (n : ℕ) → Chosen (earliestFreqBoard n window base dep after)
   unfolding earliestFreqBoard
-  all-drawn n =
-      iter-keeps (λ k x. Drawn x) (boardNext window base dep after) 0 (n - 0) Nothing nothing
-      (λ k x l u p. earlier-drawn x _ p (window-drawn k (firstRun (window k) base dep after) refl))
+  all-chosen n =
+      iter-keeps (λ k x. Chosen x) (boardNext window base dep after) 0 (n - 0) Nothing nothing
+      (λ k x l u p. earlier-keeps Chosen x _ p (window-chosen k (firstRun (window k) base dep after) refl))
 
   -- WHAT THE NUMBERS OF A BOARDING MEAN
   pub board-waits : (n : ℕ) (b : BoardedRun) → earliestFreqBoard n window base dep after ≡ Board b → Waits (window (b .headways .window)) base dep after b
-  board-waits n b e = of (subst Drawn e (all-drawn n))
+  board-waits n b e = of (subst Chosen e (all-chosen n))
     where
-      of : Drawn (Board b) → Waits (window (b .headways .window)) base dep after b
-      of (drawn i k f q) =
+      of : Chosen (Board b) → Waits (window (b .headways .window)) base dep after b
+      of (chosen i k f q) =
           subst (λ (x : BoardedRun). Waits (window (x .headways .window)) base dep after x) (sym q) (run-waits (window i) base dep after i k f)

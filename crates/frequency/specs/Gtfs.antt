@@ -106,8 +106,8 @@ boardRun w i base dep after k =
 abbrev pub noHeadways : Headways
 noHeadways = record { window = 0; run = 0; quotient = 0; remainder = 0 }
 
-abbrev pub boardPlain : (planned dep after : ℕ) → BoardedRun
-boardPlain planned dep after = boardingOf dep (bitsOf (subℕ dep planned)) noHeadways (dep - after)
+abbrev pub boardOrdinary : (planned dep after : ℕ) → BoardedRun
+boardOrdinary planned dep after = boardingOf dep (bitsOf (subℕ dep planned)) noHeadways (dep - after)
 
 -- the boarding of the run that was found in window i, if one was
 abbrev pub boardHit : (w : Window) (window base dep after : ℕ) → Hit → FreqBoard

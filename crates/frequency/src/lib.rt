@@ -11,7 +11,7 @@
 // Assumes nothing.
 ghost use mathlib.Core.Path.{_≡_};
 ghost use Prim.Native.Nat.{_-_, _≤_, _<_};
-ghost use Rattle.frequency.specs.Gtfs.{noHeadways, boardingOf, boardPlain};
+ghost use Rattle.frequency.specs.Gtfs.{noHeadways, boardingOf, boardOrdinary};
 ghost use Rattle.frequency.specs.Gtfs.{windowCount, windowFrom, windowIn, earliestFreqBoard, Nominal};
 ghost use Rattle.frequency.specs.Found.{noRun, roundedUp, windowRun, earlierRun, headwaysBy, Remains, boardOf, Drawn};
 
@@ -87,9 +87,9 @@ fn boarding_of(departure: u32, time_shift_s: u32, headways: Headways, after: u32
 }
 
 // Boarding a trip without windows: it leaves at dep, planned is its scheduled departure.
-pub fn board_plain(planned: u32, dep: u32, after: u32) -> BoardedRun
+pub fn board_ordinary(planned: u32, dep: u32, after: u32) -> BoardedRun
     requires { ⌜ (planned ≤ 1048575) × (dep < 4194304) × (after ≤ dep) ⌝ }
-    ensures { λ r. ⌜ r ≡ boardPlain planned dep after ⌝ }
+    ensures { λ r. ⌜ r ≡ boardOrdinary planned dep after ⌝ }
 {
     boarding_of(dep, signed::difference(dep, planned), no_headways(), after)
 }

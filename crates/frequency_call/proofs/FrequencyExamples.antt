@@ -11,7 +11,7 @@ use Rattle.door.proofs.House.{four, noTripTried}
 use Rattle.frequency_call.specs.declared.FreqAnswer.{FreqAnswer}
 use Rattle.frequency.specs.declared.FreqBoard.{FreqBoard}
 use Rattle.frequency.specs.declared.FreqBoard.the-variants.{Nothing, Board}
-use Rattle.frequency.specs.Gtfs.{windowIn, firstRun, boardPlain, earliestFreqBoard}
+use Rattle.frequency.specs.Gtfs.{windowIn, firstRun, boardOrdinary, earliestFreqBoard}
 use Rattle.frequency_call.specs.FrequencyCall.{freqOutcome}
 
 -- what is asked
@@ -120,7 +120,7 @@ pub wide : same (boardNumbers (wideBoard (0 ∷ 1048575 ∷ 1048574 ∷ []) 0 41
     && same (boardNumbers (wideBoard (0 ∷ 1048575 ∷ 1048574 ∷ []) 0 4194303 5242877)) (5242877 ∷ 1048574 ∷ 0 ∷ 1 ∷ 1 ∷ 0 ∷ 0 ∷ [])
     && same (boardNumbers (wideBoard (1048572 ∷ 1048575 ∷ 1 ∷ []) 0 4194303 134217727)) []
     -- a trip without windows, planned at 100, delayed by 20, wanted at 90
-    && same (boardNumbers (Board (boardPlain 100 120 90))) (120 ∷ 20 ∷ 0 ∷ 0 ∷ 0 ∷ 0 ∷ 30 ∷ [])
+    && same (boardNumbers (Board (boardOrdinary 100 120 90))) (120 ∷ 20 ∷ 0 ∷ 0 ∷ 0 ∷ 0 ∷ 30 ∷ [])
     ≡ true
 unfolding boardNumbers wideBoard same earliestFreqBoard firstRun iter first
 wide = refl

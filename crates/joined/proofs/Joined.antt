@@ -17,7 +17,7 @@ use Rattle.walk_time.proofs.Laws.{rounds-most}
 use Rattle.frequency.specs.declared.BoardedRun.{BoardedRun}
 use Rattle.frequency.specs.declared.FreqBoard.{FreqBoard}
 use Rattle.frequency.specs.declared.FreqBoard.the-variants.{Nothing, Board}
-use Rattle.frequency.specs.Gtfs.{boardPlain, earliestFreqBoard}
+use Rattle.frequency.specs.Gtfs.{boardOrdinary, earliestFreqBoard}
 use Rattle.frequency.proofs.Reading.{board-is}
 use Rattle.label.specs.declared.Label.{Label}
 use Rattle.label.specs.declared.Label.the-variants.{Empty, Access, Transit, Walk}
@@ -95,13 +95,13 @@ module _ (T : Tables) (Q : Query) where
       go : (x y : Bool) → ltb dep after ≡ y → Since after (elim x [
         | true ↦ elim y [
           | true ↦ Nothing
-          | false ↦ Board (boardPlain (departure T t o) dep after)
+          | false ↦ Board (boardOrdinary (departure T t o) dep after)
         ]
         | false ↦ earliestFreqBoard (T .timetable .trip t .windows) (tripWindow T t) (departure T t 0) dep after
       ])
       go true true e = no-boarding
       go true false e =
-          since {b = boardPlain (departure T t o) dep after} (ltb-false dep after e)
+          since {b = boardOrdinary (departure T t o) dep after} (ltb-false dep after e)
       go false y e = frequent _ refl
 
   -- a stop's earliest arrival is none, or that of a label in a row below

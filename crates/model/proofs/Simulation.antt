@@ -15,7 +15,7 @@ use Rattle.label.specs.declared.Label.{Label}
 use Rattle.label.specs.declared.Label.the-variants.{Empty, Access, Transit, Walk}
 use Rattle.label.specs.Table.{recordOf}
 use Rattle.departures.specs.declared.DepartureRow.{DepartureRow}
-use Rattle.frequency.specs.Gtfs.{boardPlain, earliestFreqBoard}
+use Rattle.frequency.specs.Gtfs.{boardOrdinary, earliestFreqBoard}
 use Rattle.model.specs.Tables.{never, Tables, Origin, Query, roundsOf, changeBefore, isEgress, egressWalk, stops, trips, stopCount, stopAt, departure, noPickup, noDropOff, noWindows, edgesFrom, edgeTo, walkTime, position, permitted}
 use Rattle.model.specs.Search.{reachedBy, Arrivals, Boardings, State, tripWindow, delayOf, skipped, arrivalNow, marginOf, prunable, boardAt, notBefore, departuresAt, markAt, lineAt, bestAfter, improve, relax, alightings, scanTripForward, dominated, pruned, passedOver, boarding, board, scanDepartures, scanStops, walkFrom, walkAll, stamped, emptied, roundStart, ridePhase, walkPhase, idle, rounds, setOut, access, newArrivals, begin, bestTarget, rowTarget, candidatesFrom, final, searchAnswer}
 use Rattle.model.specs.Promise.{effective}
@@ -106,7 +106,7 @@ module _ (T : Tables) (Q : Query) where
 
   -- a boarding
   abbrev boardedAt : ℕ → ℕ → ℕ → BoardedRun
-  boardedAt t o after = boardPlain (departure T t o) (effective T Q .departs t o) after
+  boardedAt t o after = boardOrdinary (departure T t o) (effective T Q .departs t o) after
 
   calm-board : (t o after : ℕ) → noWindows T t ≡ true → boardAt T Q (delayOf Q t) t o after ≡ elim (ltb (effective T Q .departs t o) after) [ true ↦ Nothing | false ↦ Board (boardedAt t o after) ]
   unfolding boardAt

@@ -4,7 +4,7 @@ use mathlib.Core.Path.{_≡_, refl, sym, subst}
 use mathlib.Core.Logic.{⊎-elim}
 use mathlib.Core.Bool.{Bool, true, false, cond, _||_}
 use native.Mathlib.Omega.{arith}
-use lib.Dec.{ltb, leb}
+use lib.Dec.{ltb}
 use lib.IntN.{ℤ, pos, negsuc, natAbs, subℕ}
 use borrow.Author.Tests.{ltb-true, ltb-false}
 use Rattle.door.specs.Door.{timeLimit}
@@ -16,7 +16,8 @@ use Rattle.signed.proofs.Laws.{of-sub, moved-low, moved-high, size-high}
 use Rattle.frequency.specs.declared.BoardedRun.{BoardedRun}
 use Rattle.frequency.specs.declared.FreqBoard.{FreqBoard}
 use Rattle.frequency.specs.declared.FreqBoard.the-variants.{Nothing, Board}
-use Rattle.frequency.specs.Gtfs.{Window, runStart, firstRun, boardRun, boardPlain, boardHit, windowBoard, earlierOf, boardNext, earliestFreqBoard}
+use Rattle.frequency.specs.Gtfs.{Window, runStart, firstRun, boardRun, boardOrdinary, boardHit, windowBoard, boardNext, earliestFreqBoard}
+use Rattle.frequency.proofs.Best.{earlier-keeps}
 use Rattle.frequency.proofs.Runs.{found-says}
 use Rattle.stop_delay.specs.declared.StopDelay.{StopDelay}
 use Rattle.stop_delay.specs.Times.{departureGiven, arrivalGiven, sizeOf, shifted}
@@ -67,15 +68,6 @@ pub record Soon (b : BoardedRun) : Type 0 where
 data Soonest : FreqBoard → Type 0 where
   nothing : Soonest Nothing
   soon : {b : BoardedRun} → Soon b → Soonest (Board b)
-
-earlier-soon : (x y : FreqBoard) → Soonest x → Soonest y → Soonest (earlierOf x y)
-earlier-soon Nothing y p q = q
-earlier-soon (Board a) Nothing p q = p
-earlier-soon (Board a) (Board b) p q = go (leb (a .departure) (b .departure))
-  where
-    go : (t : Bool) → Soonest (cond t (Board a) (Board b))
-    go true = p
-    go false = q
 
 window-soon : (w : Window) (i base dep after : ℕ) → w .end ≤ timeLimit → base ≤ timeLimit → dep ≤ 2097150 → Soonest (windowBoard w i base dep after)
 window-soon w i base dep after u v n = go (firstRun w base dep after) refl
@@ -147,7 +139,7 @@ module _ (T : Tables) (Q : Query) (D : Door T Q) where
         let w = T .timetable .trip t .windows in
         let dep = departureNow T Q (delayOf Q t) t o in
         iter-keeps (λ k x. Soonest x) (boardNext (tripWindow T t) (departure T t 0) dep after) 0 (w - 0) Nothing nothing
-        (λ k x l h p. earlier-soon x _ p
+        (λ k x l h p. earlier-keeps Soonest x _ p
         (window-soon (tripWindow T t k) k (departure T t 0) dep after (D .window-end t k u (omega arith))
         (D .departure-small t 0 u (omega arith)) departure-early))
 
@@ -163,12 +155,12 @@ module _ (T : Tables) (Q : Query) (D : Door T Q) where
         go : (x y : Bool) → Soonest (elim x [
           | true ↦ elim y [
             | true ↦ Nothing
-            | false ↦ Board (boardPlain (departure T t o) (departureNow T Q (delayOf Q t) t o) after)
+            | false ↦ Board (boardOrdinary (departure T t o) (departureNow T Q (delayOf Q t) t o) after)
           ]
           | false ↦ earliestFreqBoard (T .timetable .trip t .windows) (tripWindow T t) (departure T t 0) (departureNow T Q (delayOf Q t) t o) after
         ])
         go true true = nothing
         go true false =
-            soon {b = boardPlain (departure T t o) (departureNow T Q (delayOf Q t) t o) after}
+            soon {b = boardOrdinary (departure T t o) (departureNow T Q (delayOf Q t) t o) after}
             (record { departs = omega (arith, departure-early); shift = shift-small })
         go false y = windows-soon after

@@ -13,7 +13,7 @@ use Rattle.cell_bitset.specs.CellSet.{emptySet, withCell, meets, holdsNone}
 use Rattle.frequency.specs.declared.BoardedRun.{BoardedRun}
 use Rattle.frequency.specs.declared.FreqBoard.{FreqBoard}
 use Rattle.frequency.specs.declared.FreqBoard.the-variants.{Nothing, Board}
-use Rattle.frequency.specs.Gtfs.{Window, windowFrom, boardPlain, earliestFreqBoard}
+use Rattle.frequency.specs.Gtfs.{Window, windowFrom, boardOrdinary, earliestFreqBoard}
 use Rattle.stop_delay.specs.declared.StopDelay.{StopDelay}
 use Rattle.stop_delay.specs.Times.{skippedAt, effectiveDeparture, effectiveArrival}
 use Rattle.label.specs.declared.Label.{Label}
@@ -167,7 +167,7 @@ module _ (T : Tables) (Q : Query) where
       elim (noWindows T t) [
         | true ↦ elim (ltb (departureNow adj t o) after) [
           | true ↦ Nothing
-          | false ↦ Board (boardPlain (departure T t o) (departureNow adj t o) after)
+          | false ↦ Board (boardOrdinary (departure T t o) (departureNow adj t o) after)
         ]
         | false ↦ earliestFreqBoard (T .timetable .trip t .windows) (tripWindow T t) (departure T t 0) (departureNow adj t o) after
       ]

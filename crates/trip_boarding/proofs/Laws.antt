@@ -11,7 +11,7 @@ use lib.Dec.{ltb, eqb}
 use borrow.Author.Tests.{lt-ltb, le-ltb, eq-eqb, ne-eqb}
 use Rattle.loops.proofs.Iter.{iter-as}
 use Rattle.tables.specs.Sane.{Sane}
-use Rattle.frequency.specs.Gtfs.{Window, windowFrom, windowCount, windowIn, boardPlain, earliestFreqBoard, boardNext, earlierOf, windowBoard, Nominal}
+use Rattle.frequency.specs.Gtfs.{Window, windowFrom, windowCount, windowIn, boardOrdinary, earliestFreqBoard, boardNext, earlierOf, windowBoard, Nominal}
 use Rattle.loops.specs.Iter.{Hit, hit, miss}
 use Rattle.loops.proofs.Search.{hit-below}
 use Rattle.tables.specs.declared.Counts.{Counts}
@@ -88,7 +88,7 @@ pick b l x y = elim b [ true ↦ elim l [ true ↦ NoBoard | false ↦ x ] | fal
 
 module _ (T : Tables) (Q : Query) (h : Hit) (i o after : ℕ) where
   abbrev planned : FreqBoard
-  planned = Board (boardPlain (departure T i o) (departureNow T Q h i o) after)
+  planned = Board (boardOrdinary (departure T i o) (departureNow T Q h i o) after)
 
   abbrev frequent : FreqBoard
   frequent = freqBoardAt (T .timetable) i (departureNow T Q h i o) after
@@ -113,11 +113,11 @@ module _ (T : Tables) (Q : Query) (h : Hit) (i o after : ℕ) where
         sym (ap (λ (b : Bool). pick true b planned frequent) (ap (λ (d : ℕ). ltb d after) (sym ed) ∙ lt-ltb dep after l))
         ∙ sym (ap (λ (b : Bool). pick b early planned frequent) (none-is true (eq-eqb n 0 z))) ∙ sym board-is
 
-    pub board-planned : (p : ℕ) (b : BoardedRun) → n ≡ 0 → after ≤ dep → p ≡ timeOf t (firstOf t c i + o) 2 → b ≡ boardPlain p dep after → Board b ≡ boardAt T Q h i o after
+    pub board-planned : (p : ℕ) (b : BoardedRun) → n ≡ 0 → after ≤ dep → p ≡ timeOf t (firstOf t c i + o) 2 → b ≡ boardOrdinary p dep after → Board b ≡ boardAt T Q h i o after
     board-planned p b z l ep eb =
         let q : p ≡ departure T i o = ep ∙ rw e refl in
         ap (λ (x : BoardedRun). Board x) eb
-        ∙ ap₂ (λ (x y : ℕ). Board (boardPlain x y after)) q ed
+        ∙ ap₂ (λ (x y : ℕ). Board (boardOrdinary x y after)) q ed
         ∙ sym (ap (λ (b : Bool). pick true b planned frequent) (ap (λ (d : ℕ). ltb d after) (sym ed) ∙ le-ltb dep after l))
         ∙ sym (ap (λ (b : Bool). pick b early planned frequent) (none-is true (eq-eqb n 0 z))) ∙ sym board-is
 

@@ -203,7 +203,7 @@ pub fn board_at(
         return FreqBoard::Nothing;
     }
     let planned = event_word(tables, c, trip, off, 2);
-    FreqBoard::Board(frequency::board_plain(planned, dep, after))
+    FreqBoard::Board(frequency::board_ordinary(planned, dep, after))
 }
 
 // Is the trip not usable, without pickup at the offset, or skipping it? Modes are not asked.

@@ -26,11 +26,11 @@ returns-2 c = let s = c .before .before .before .before .before .before .before 
 event-word-requires : tie.Need-event-word-requires
 event-word-requires c κs = search needs
 
-board-plain-requires : tie.Need-board-plain-requires
-board-plain-requires c κs = let s = c .before .before .before .before .before .before .before .before in (omega (arith, c .event-word .ensures, s .pre .0 .sane .ranges .departure (firstOf (now (s .args .tables)) (s .args .c) (s .args .trip) + s .args .off) (event-time _ _ _ _ (s .pre .0 .sane) (s .pre .1 .1 .0))), omega (arith, c .before .before .before .before .departure-now .ensures .0), omega arith)
+board-ordinary-requires : tie.Need-board-ordinary-requires
+board-ordinary-requires c κs = let s = c .before .before .before .before .before .before .before .before in (omega (arith, c .event-word .ensures, s .pre .0 .sane .ranges .departure (firstOf (now (s .args .tables)) (s .args .c) (s .args .trip) + s .args .off) (event-time _ _ _ _ (s .pre .0 .sane) (s .pre .1 .1 .0))), omega (arith, c .before .before .before .before .departure-now .ensures .0), omega arith)
 
 returns-3 : tie.Need-returns-3
-returns-3 c = let s = c .before .before .before .before .before .before .before .before .before in λ T Q g. board-planned T Q (hitOf (s .args .adj)) (s .args .trip) (s .args .off) (s .args .after) (now (s .args .tables)) (s .args .c) _ _ (g .timetable) (c .before .before .before .before .trip .ensures .0) (c .before .before .before .before .before .departure-now .ensures .1 T Q g) _ _ (c .before .before .before .if1 .left) (c .before .before .if2 .left) (c .before .event-word .ensures) (c .board-plain .ensures)
+returns-3 c = let s = c .before .before .before .before .before .before .before .before .before in λ T Q g. board-planned T Q (hitOf (s .args .adj)) (s .args .trip) (s .args .off) (s .args .after) (now (s .args .tables)) (s .args .c) _ _ (g .timetable) (c .before .before .before .before .trip .ensures .0) (c .before .before .before .before .before .departure-now .ensures .1 T Q g) _ _ (c .before .before .before .if1 .left) (c .before .before .if2 .left) (c .before .event-word .ensures) (c .board-ordinary .ensures)
 
 pub board-at-spec : {M : Type 1} → statement M
 board-at-spec =
@@ -42,5 +42,5 @@ board-at-spec =
     returns
     returns-2
     event-word-requires
-    board-plain-requires
+    board-ordinary-requires
     returns-3)

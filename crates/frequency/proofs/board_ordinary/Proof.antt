@@ -4,8 +4,8 @@ use native.Mathlib.Omega.{arith}
 use mathlib.Core.Path.{_∙_, ap₂}
 use Prim.Native.Nat.{_-_, ℕ}
 use borrow.Author.Needs.{needs}
-use Rattle.frequency.proofs.board_plain.Statement.{statement}
-use Rattle.frequency.proofs.board_plain.Tie as tie
+use Rattle.frequency.proofs.board_ordinary.Statement.{statement}
+use Rattle.frequency.proofs.board_ordinary.Tie as tie
 
 difference-requires : tie.Need-difference-requires
 difference-requires c κs = (omega arith, omega arith)
@@ -22,6 +22,6 @@ returns c =
     c .boarding-of .ensures
     ∙ ap₂ (λ (s : ℕ) (h : Headways). boardingOf (a .dep) s h (a .dep - a .after)) (c .before .before .difference .ensures) (c .before .no-headways .ensures)
 
-pub board-plain-spec : {M : Type 1} → statement M
-board-plain-spec =
+pub board-ordinary-spec : {M : Type 1} → statement M
+board-ordinary-spec =
     tie.close (tie.spec difference-requires no-headways-requires boarding-of-requires returns)
