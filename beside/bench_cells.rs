@@ -1,6 +1,7 @@
 // Cell sets in cache, timed beside the Rust changing a set in place: nanoseconds a call (least of 201 passes), at 64 and at 512 cells.
 // `copy` is the call that only hands a tally's address, screen, settings and sets in and an answer out, by value through C; `by value` is the Rust's
-// work on a set handed in and out so.
+// work on a set handed in and out so, `to value` the ratio of ours to that. `intersects` is timed on sets that share no cell, so that every word is
+// read, and on sets that share a cell of the first word (`first word`).
 #![allow(dead_code, unused)]
 include!(concat!(env!("ORACLE"), "/oracle.rs"));
 include!(concat!(env!("BESIDE"), "/ffi.rs"));
@@ -109,7 +110,17 @@ extern "C" fn value_empty(a: CellBitSet) -> bool {
 }
 
 fn row(name: &str, cells: u32, ours: f64, rust: f64, copy: f64, value: f64) {
-    println!("{name:<12} {cells:>4} cells: ours {ours:5.1}   Rust {rust:5.1}   ratio {:4.1}   copy {copy:5.1}   by value {value:5.1}", ours / rust);
+    let times = format!("ours {ours:5.1}   Rust {rust:5.1}   ratio {:4.1}   copy {copy:5.1}   by value {value:5.1}", ours / rust);
+    println!("{name:<22} {cells:>4} cells: {times}   to value {:5.2}", ours / value);
+}
+
+fn meeting(name: &str, cells: u32, (a, oa): (&[CellBitSet], &[Oracle]), (b, ob): (&[CellBitSet], &[Oracle])) {
+    let tally = std::ptr::addr_of_mut!(TIMED_TALLY);
+    let ours = least(|i| { black_box(unsafe { savoiky_cell_bitset_intersects(OWN, black_box(a[i]), black_box(b[i])) }); });
+    let rust = least(|i| { black_box(rust_meets(black_box(&oa[i]), black_box(&ob[i]))); });
+    let copy = least(|i| { black_box(in_two(tally, TIMED, OWN, black_box(a[i]), black_box(b[i]))); });
+    let value = least(|i| { black_box(value_meets(black_box(a[i]), black_box(b[i]))); });
+    row(name, cells, ours, rust, copy, value);
 }
 
 fn main() {
@@ -140,13 +151,10 @@ fn main() {
             least(|i| a[i] = value_set(a[i], c[i])),
         );
         row("set_bit", cells, set.0, set.1, set.2, set.3);
-        let meets = (
-            least(|i| { black_box(unsafe { savoiky_cell_bitset_intersects(OWN, black_box(a[i]), black_box(b[i])) }); }),
-            least(|i| { black_box(rust_meets(black_box(&oa[i]), black_box(&ob[i]))); }),
-            least(|i| { black_box(in_two(tally, TIMED, OWN, black_box(a[i]), black_box(b[i]))); }),
-            least(|i| { black_box(value_meets(black_box(a[i]), black_box(b[i]))); }),
-        );
-        row("intersects", cells, meets.0, meets.1, meets.2, meets.3);
+        meeting("intersects", cells, (&a, &oa), (&b, &ob));
+        // one cell, the same in both
+        let (f, of): (Vec<_>, Vec<_>) = (0..SETS as u32).map(|i| fresh(i % 64)).unzip();
+        meeting("intersects, first word", cells, (&f, &of), (&f, &of));
         let union = (
             least(|i| a[i] = unsafe { savoiky_cell_bitset_union_with(OWN, a[i], b[i]) }.set),
             least(|i| rust_union(&mut oa[i], &ob[i])),

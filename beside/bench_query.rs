@@ -5,6 +5,9 @@
 //   zeroing   zeroing areas of these sizes, by the program
 //   doors%    of a query, its doors: questions 1 to 3 (a refusal by 3 that reads all runs) and the pass that asks 4 to 6 at once (a refusal by 6 after
 //             that pass, less one before it); clear%: zeroing
+// The last rows have 65,536 walk edges, and 4,096 patterns of 500 cells, each with about half of them: under each stands which share of the rows the
+// flags skip, and between what the ratio lies in its passes (the p-th calls of all queries are pass p). They draw from numbers of their own.
+// `bench_query walks`: these rows alone.
 #![allow(dead_code, unused)]
 include!(concat!(env!("BESIDE"), "/query_parts.rs"));
 use std::hint::black_box;
@@ -12,10 +15,20 @@ use std::time::Instant;
 
 const QUERIES: usize = 60;
 const PASSES: usize = 5;
+// of the rows with many walk edges
+const WALK_PASSES: usize = 7;
 // segments that a queue half holds
 const HALF: usize = 8192;
-const CELLS: u32 = 16;
-const PATTERNS: u32 = 64;
+
+// walk edges (all stops have as many, or one more), cells, patterns, and how many of a hundred cells a pattern holds
+struct Flags {
+    edges: u32,
+    cells: u32,
+    patterns: u32,
+    held: u32,
+}
+// as many edges and patterns as there may be
+const WALKS: Flags = Flags { edges: 65_536, cells: 500, patterns: 4096, held: 50 };
 
 fn median(v: &mut Vec<f64>) -> f64 {
     v.sort_by(|a, b| a.partial_cmp(b).unwrap());
@@ -67,26 +80,26 @@ fn network(r: &mut Random, stops: u32, trips: u32, each: u32) -> StaticEpoch {
     e
 }
 
-// two walk edges a stop; cells, and patterns that hold some of them, for edges and transfers
-fn walks_and_flags(r: &mut Random, e: &mut StaticEpoch) {
+// walk edges; cells, and patterns that hold some of them, for edges and transfers
+fn walks_and_flags(r: &mut Random, e: &mut StaticEpoch, n: &Flags) {
     let stops = e.stops.len() as u32;
     e.walk_adj = vec![vec![]; stops as usize];
     for from in 0..stops {
-        for _ in 0..2 {
+        for _ in n.edges * from / stops..n.edges * (from + 1) / stops {
             e.walk_adj[from as usize].push(e.walk_edges.len());
             let (to_stop_idx, duration_s) = (r.below(stops), 60 + r.below(540));
             e.walk_edges.push(WalkEdge { from_stop_idx: from, to_stop_idx, duration_s, distance_m: 100.0, pathway_mode: None });
-            e.arc_flag_pattern.push(r.below(PATTERNS));
+            e.arc_flag_pattern.push(r.below(n.patterns));
         }
     }
-    e.num_cells = CELLS;
-    e.stop_partition = (0..stops).map(|s| s * CELLS / stops).collect();
-    for _ in 0..PATTERNS {
-        let mut p = gtfs::cell_bitset::CellBitSet::new(CELLS);
-        (0..CELLS).filter(|_| r.yes(60)).for_each(|c| p.set_bit(c as usize));
+    e.num_cells = n.cells;
+    e.stop_partition = (0..stops).map(|s| s * n.cells / stops).collect();
+    for _ in 0..n.patterns {
+        let mut p = gtfs::cell_bitset::CellBitSet::new(n.cells);
+        (0..n.cells).filter(|_| r.yes(n.held)).for_each(|c| p.set_bit(c as usize));
         e.flag_patterns.push(p);
     }
-    e.trip_transfers.iter_mut().flatten().flatten().for_each(|x| x.flag_pattern = r.below(PATTERNS));
+    e.trip_transfers.iter_mut().flatten().flatten().for_each(|x| x.flag_pattern = r.below(n.patterns));
 }
 
 fn put_query(r: &mut Random, c: &mut Case, rounds: u32, off: bool) {
@@ -149,12 +162,14 @@ struct Times {
     zeroing: Vec<f64>,
     ways: usize,
     differed: usize,
+    // walk edges and transfers that the flags skip, of all queries
+    skipped: [usize; 2],
 }
 
-fn one(t: &mut Times, c: &Case, x: &Lent, a: &mut Areas) {
+fn one(t: &mut Times, c: &Case, x: &Lent, a: &mut Areas, passes: usize) {
     let egress = c.egress.iter().map(|(s, e)| (*s, e.clone())).collect();
     let (last, idle) = (refused_last(x), no_origins(x));
-    for _ in 0..PASSES {
+    for _ in 0..passes {
         let reply = timed(&mut t.query, || ask_ours(Call::Query, black_box(x), a));
         let (best, candidates) = timed(&mut t.rust, || black_box(routing::tbr::search(&c.e, &c.q, c.start, &c.origins, &egress, c.off)));
         t.ways += best.is_some() as usize;
@@ -166,22 +181,44 @@ fn one(t: &mut Times, c: &Case, x: &Lent, a: &mut Areas) {
     }
     // the doors apart, so that these tables do not push the others out of the cache
     let (late, runs) = (refused_late(x), refused_runs(x));
-    for _ in 0..PASSES {
+    for _ in 0..passes {
         t.differed += (timed(&mut t.late, || ask_ours(Call::Query, black_box(&late), a)).code != 6) as usize;
         t.differed += (timed(&mut t.early, || ask_ours(Call::Query, black_box(&last), a)).code != 6) as usize;
         t.differed += (timed(&mut t.runs, || ask_ours(Call::Query, black_box(&runs), a)).code != 3) as usize;
     }
 }
 
-fn row(r: &mut Random, name: &str, c: &mut Case, rounds: u32, off: bool) -> usize {
+// how many walk edges and transfers the flags skip
+fn skipped(c: &Case) -> [usize; 2] {
+    let target = target_cells(c);
+    let skips: Vec<bool> = c.e.flag_patterns.iter().map(|p| flags_on(c) && !p.intersects(&target)).collect();
+    let edges = c.e.arc_flag_pattern.iter().filter(|p| skips[**p as usize]).count();
+    [edges, c.e.trip_transfers.iter().flatten().flatten().filter(|x| skips[x.flag_pattern as usize]).count()]
+}
+
+// the least and the greatest ratio of the passes, each that of two medians
+fn spread(ours: &[f64], rust: &[f64], passes: usize) -> String {
+    let of = |v: &[f64], p: usize| median(&mut v.iter().copied().skip(p).step_by(passes).collect());
+    let mut ratios: Vec<f64> = (0..passes).map(|p| of(ours, p) / of(rust, p)).collect();
+    ratios.sort_by(|a, b| a.partial_cmp(b).unwrap());
+    format!("{:.2} to {:.2}", ratios[0], ratios[passes - 1])
+}
+
+fn share(t: &Times, k: usize, of: usize) -> f64 {
+    100.0 * t.skipped[k] as f64 / (QUERIES * of) as f64
+}
+
+fn row(r: &mut Random, name: &str, c: &mut Case, rounds: u32, off: bool, passes: usize) -> usize {
     let mut t = Times::default();
     let sizes = lend(r, c, false).sizes;
     let mut a = areas(r, &sizes, 4 * HALF);
     for _ in 0..QUERIES {
         put_query(r, c, rounds, off);
         let x = lend(r, c, false);
-        one(&mut t, c, &x, &mut a);
+        one(&mut t, c, &x, &mut a, passes);
+        t.skipped.iter_mut().zip(skipped(c)).for_each(|(n, k)| *n += k);
     }
+    let spreads = [&t.query, &t.run_tbr].map(|ours| spread(ours, &t.rust, passes));
     let (ours, tbr, rust) = (median(&mut t.query), median(&mut t.run_tbr), median(&mut t.rust));
     let (idle, refused, zeroing) = (median(&mut t.idle), median(&mut t.refused), median(&mut t.zeroing));
     let (flags, ways) = (if off { "off" } else { "on" }, 100 * t.ways / t.rust.len());
@@ -191,34 +228,54 @@ fn row(r: &mut Random, name: &str, c: &mut Case, rounds: u32, off: bool) -> usiz
         ours / rust,
         tbr / rust
     );
+    if passes == WALK_PASSES {
+        let (edges, transfers) = (share(&t, 0, sizes.edges as usize), share(&t, 1, sizes.transfers as usize));
+        let skips = format!("{} walk edges, {edges:.0} % of them skipped, of the transfers {transfers:.0} %", sizes.edges);
+        println!("  {skips}; ratios in {passes} passes {}, of run_tbr {}", spreads[0], spreads[1]);
+    }
     t.differed
 }
 
-fn day(r: &mut Random, stops: u32, trips: u32, each: u32) -> (String, Case) {
+fn day(r: &mut Random, stops: u32, trips: u32, each: u32, flags: &Flags) -> (String, Case) {
     let mut e = network(r, stops, trips, each);
-    walks_and_flags(r, &mut e);
+    walks_and_flags(r, &mut e, flags);
     let transfers: usize = e.trip_transfers.iter().flatten().map(|l| l.len()).sum();
     let name = format!("{} trips, {stops} stops, {} times, {transfers} transfers", e.trips.len(), e.stop_times.len());
     (name, unasked(e))
 }
 
+// two walk edges a stop
+fn few_walks(r: &mut Random) -> usize {
+    let few = |stops: u32| Flags { edges: 2 * stops, cells: 16, patterns: 64, held: 60 };
+    let (name, mut c) = day(r, 1000, 2000, 20, &few(1000));
+    let mut differed = 0;
+    for (rounds, off) in [(4, true), (4, false), (12, true), (12, false)] {
+        differed += row(r, &name, &mut c, rounds, off, PASSES);
+    }
+    for trips in [500, 1000, 2000, 4000] {
+        let (name, mut c) = day(r, trips / 2, trips, 10, &few(trips / 2));
+        for off in [true, false] {
+            differed += row(r, &name, &mut c, 4, off, PASSES);
+        }
+    }
+    differed
+}
+
+fn many_walks(r: &mut Random) -> usize {
+    let (name, mut c) = day(r, 1000, 2000, 20, &WALKS);
+    [(4, true), (4, false), (12, false)].into_iter().map(|(rounds, off)| row(r, &name, &mut c, rounds, off, WALK_PASSES)).sum()
+}
+
 fn main() {
-    let mut r = Random(2026);
     let head = ["rounds", "flags", "query", "run_tbr", "Rust", "ratio", "ratio", "idle", "refused", "zeroing", "doors%", "clear%", "ways%"];
     let wide = [6, 5, 7, 7, 7, 6, 7, 7, 7, 7, 6, 6, 5];
     let names: Vec<String> = head.iter().zip(wide).map(|(h, w)| format!("{h:>w$}")).collect();
     println!("{:<54} {}", "microseconds, medians; doors and clearing counted", names.join(" "));
     let mut differed = 0;
-    let (name, mut c) = day(&mut r, 1000, 2000, 20);
-    for (rounds, off) in [(4, true), (4, false), (12, true), (12, false)] {
-        differed += row(&mut r, &name, &mut c, rounds, off);
+    if std::env::args().nth(1).as_deref() != Some("walks") {
+        differed += few_walks(&mut Random(2026));
     }
-    for trips in [500, 1000, 2000, 4000] {
-        let (name, mut c) = day(&mut r, trips / 2, trips, 10);
-        for off in [true, false] {
-            differed += row(&mut r, &name, &mut c, 4, off);
-        }
-    }
+    differed += many_walks(&mut Random(2027));
     println!("{differed} answers differed");
     std::process::exit((differed > 0) as i32);
 }

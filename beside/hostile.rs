@@ -2,13 +2,14 @@
 // right or wrong; settings at the ends of their ranges and one past each in turn, then random ones, some out of range. Each must answer as the
 // independent doors here say, or as the Rust where all is well, and leave every word so. Every slice is an allocation of its own, exactly as
 // long as it says, so that a memory checker sees an access past its end. For every ten of them a search that is answered more often
-// (drawn.rs) is put to `run_tbr` and `query` besides. All are for random screens, some above 63 (tally.rs). It prints for each call how many
-// were made, how many were refused, how many of them by 14, and how many differed, tallies too; status 1 where any did, or where a call never
-// refused by 14 or by 15 or never answered.
+// (drawn.rs) is put to `run_tbr` and `query` besides; for each of them, two cell sets of any length that share a cell at most (set_pairs.rs) are put
+// to `intersects`. All are for random screens, some above 63 (tally.rs). It prints for each call how many were made, how many were refused, how
+// many of them by 14, and how many differed, tallies too; status 1 where any did, or where a call never refused by 14 or by 15 or never answered.
 #![allow(dead_code, unused)]
 include!(concat!(env!("BESIDE"), "/query_parts.rs"));
 include!(concat!(env!("BESIDE"), "/timetables.rs"));
 include!(concat!(env!("BESIDE"), "/ours.rs"));
+include!(concat!(env!("BESIDE"), "/set_pairs.rs"));
 include!(concat!(env!("BESIDE"), "/damage.rs"));
 include!(concat!(env!("BESIDE"), "/drawn.rs"));
 include!(concat!(env!("BESIDE"), "/jobs.rs"));
@@ -90,6 +91,13 @@ fn cell_calls(r: &mut Random, h: Settings) -> [(bool, u32); 7] {
         (new_right, code), (sized_right, code), (set_right, only), yes(held, a.get(at).is_some_and(|b| b >> (cell % 8) & 1 == 1)),
         yes(meets, a.iter().zip(&b).any(|(x, y)| x & y != 0)), (joined_right, only), yes(empty, a.iter().all(|b| *b == 0)),
     ]
+}
+
+// two sets of any length that share a cell at most, at or beside the end of the shorter one
+fn close_call(r: &mut Random, h: Settings) -> (bool, u32) {
+    let reserved = [0, 1].map(|_| if r.yes(80) { r.below(73) } else { wild(r) });
+    let [a, b] = close_pair(r, reserved);
+    (yes_agrees(unsafe { savoiky_cell_bitset_intersects(h, a, b) }, h, share_a_cell(&a, &b)), h.code(0))
 }
 
 // the calls that take numbers only
@@ -218,6 +226,8 @@ const EACH_END: usize = 20;
 
 fn job(seed: u64, count: u64) -> Counts {
     let (mut r, mut t) = (Random(seed), [[0; 4]; 27]);
+    // pairs of sets draw from numbers of their own
+    let mut own = Random(!seed);
     let ends = range_ends();
     for i in 0..count {
         let h = ends.get(i as usize / EACH_END).map_or_else(|| r.any_settings(), |e| e.0);
@@ -230,6 +240,7 @@ fn job(seed: u64, count: u64) -> Counts {
         all.extend(building_calls(&mut r, h));
         all.extend(search_calls(&x, &a));
         count_calls(&mut t, all);
+        count_calls(&mut t[4..5], vec![close_call(&mut own, h)]);
         if i % 10 == 0 {
             let (x, a) = lively_search(&mut r, i / 10);
             count_calls(&mut t[25..], search_calls(&x, &a).to_vec());

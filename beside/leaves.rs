@@ -1,37 +1,47 @@
 // The leaves beside the Rust: the same inputs to the exported calls and to docs/src, every answer compared.
 // Each input has settings of its own, one in twenty of them out of range; besides, each call is made at all ends of the ranges and one past each.
 // It prints only how many inputs of each leaf were compared, how many must be refused by 14 and how many differed, tallies too (tally.rs), and what
-// the boardings have met (boardings.rs); status 1 where any differed or something was never met.
-// MOCK=1: frequency boarding alone, by its stand-in (mock_boarding.rs).
+// the boardings (boardings.rs) and the cell sets of any length (meetings.rs) have met; status 1 where any differed or something was never met.
+// MOCK=1: frequency boarding and `intersects` alone, by their stand-ins (mock_boarding.rs, mock_cells.rs).
 #![allow(dead_code, unused)]
 include!(concat!(env!("BESIDE"), "/parts.rs"));
 include!(concat!(env!("BESIDE"), "/ours.rs"));
 include!(concat!(env!("BESIDE"), "/boardings.rs"));
+include!(concat!(env!("BESIDE"), "/set_pairs.rs"));
+include!(concat!(env!("BESIDE"), "/meetings.rs"));
 #[cfg(mock)]
 include!(concat!(env!("BESIDE"), "/mock_boarding.rs"));
+#[cfg(mock)]
+include!(concat!(env!("BESIDE"), "/mock_cells.rs"));
 
 const RANDOM: u64 = 1_000_000;
 
-// A leaf's tally: how many inputs, how many of them must be refused by 14, how many differed; where it must meet things, how often it has.
+// A leaf's tally: how many inputs, how many there must be at least, how many of them must be refused by 14, how many differed, which the first;
+// where it must meet things, how often it has.
 struct Tally {
     name: &'static str,
     inputs: u64,
+    least: u64,
     refused: u64,
     differed: u64,
+    first: u64,
     met: Vec<(&'static str, u64)>,
 }
 
 impl Tally {
     fn new(name: &'static str) -> Self {
-        Tally { name, inputs: 0, refused: 0, differed: 0, met: vec![] }
+        Tally { name, inputs: 0, least: RANDOM, refused: 0, differed: 0, first: 0, met: vec![] }
     }
     fn same(&mut self, s: Settings, yes: bool) {
         self.inputs += 1;
         self.refused += !s.in_range() as u64;
-        self.differed += !yes as u64;
+        if !yes {
+            self.first = if self.differed == 0 { self.inputs } else { self.first };
+            self.differed += 1;
+        }
     }
     fn fine(&self) -> bool {
-        self.differed == 0 && self.inputs >= RANDOM && self.refused > 0 && self.met.iter().all(|m| m.1 > 0)
+        self.differed == 0 && self.inputs >= self.least && self.refused > 0 && self.met.iter().all(|m| m.1 > 0)
     }
     fn print(&self) {
         println!("{}: {} compared ({} refused by 14), {} differed", self.name, self.inputs, self.refused, self.differed);
@@ -251,7 +261,9 @@ fn labels(r: &mut Random) -> Tally {
 #[cfg(not(mock))]
 fn main() {
     let mut r = Random(0x5EED);
-    let tallies = [cells(&mut r), walks(&mut r), rounds(&mut r), frequency(&mut r), delays(&mut r), clock(&mut r), labels(&mut r)];
+    // apart, so that all else stays as it was drawn
+    let met = meetings(&mut Random(0x5E75));
+    let tallies = [cells(&mut r), met, walks(&mut r), rounds(&mut r), frequency(&mut r), delays(&mut r), clock(&mut r), labels(&mut r)];
     tallies.iter().for_each(|t| t.print());
     let ends_wrong = range_ends().iter().any(|(s, code)| s.code(0) != *code);
     std::process::exit(!(tally_fine() && !ends_wrong && tallies.iter().all(|t| t.fine())) as i32);
@@ -259,10 +271,12 @@ fn main() {
 
 #[cfg(mock)]
 fn main() {
-    let t = frequency(&mut Random(0x5EED));
-    if t.differed > 0 && std::env::var("FIRST").is_ok() {
-        println!("first difference after {} boardings", t.inputs);
+    let tallies = [frequency(&mut Random(0x5EED)), meetings(&mut Random(0x5E75))];
+    for (t, what) in tallies.iter().zip(["boardings", "pairs of cell sets"]) {
+        if t.differed > 0 && std::env::var("FIRST").is_ok() {
+            println!("first difference after {} {what}", t.first);
+        }
+        t.print();
     }
-    t.print();
-    std::process::exit(!(tally_fine() && t.fine()) as i32);
+    std::process::exit(!(tally_fine() && tallies.iter().all(|t| t.fine())) as i32);
 }

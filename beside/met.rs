@@ -1,6 +1,6 @@
 // What the answered searches have met: how often each thing of document 01's domain was there. A run that never met one of them shows too little.
 
-const THINGS: [&str; 43] = [
+const THINGS: [&str; 47] = [
     "arc flags put off by the switch", "arc flags in use that skip some row", "arc flags on that skip nothing", "segments queued", "a queue half that is just full",
     "a frequency trip ridden", "a mark at a stop without windows", "windows at a stop without mark", "a negative shift", "a window of headway 0 or that ends before it begins",
     "a delay row", "a skipped stop", "an unknown trip", "unknown trips repeated", "a delay past the margin's cap", "a delay near the limit",
@@ -10,23 +10,30 @@ const THINGS: [&str; 43] = [
     "a distance that is a NaN in a label", "rows in no run, or runs that share rows or fall", "answered after damage or with hostile words",
     "settings other than the Rust's own numbers", "transfers all of one time that is not 120", "of a sample, line_scan decides what is left",
     "of a sample, candidate_slack decides", "of a sample, margin_cap decides",
+    "flags that skip some row, over 64 cells", "flags that skip some row, a pattern of the target's cell alone",
+    "flags that skip some row, a pattern of one other cell", "flags that skip some row, a pattern of cells past the target's words",
 ];
 
 // of so many answered searches one is asked of the Rust again, with one of the three numbers of a query put back to the Rust's own
 const SAMPLE: u64 = 8;
 
 // groups of counts: name, the least value, how many values, the last one meaning it or more
-const GROUPS: [(&str, u32, usize); 5] = [("rounds", 4, 9), ("wanted rounds", 0, 14), ("transfers", 0, 12), ("row of a label", 0, 13), ("row of the best total", 0, 13)];
+const GROUPS: [(&str, u32, usize); 6] = [
+    ("rounds", 4, 9), ("wanted rounds", 0, 14), ("transfers", 0, 12), ("row of a label", 0, 13), ("row of the best total", 0, 13),
+    ("word of a target's cell where flags skip some row", 0, 8),
+];
 
 struct Met {
     answered: u64,
-    things: [u64; 43],
-    groups: [[u64; 14]; 5],
+    things: [u64; 47],
+    groups: [[u64; 14]; 6],
+    // of each of CELL_COUNTS (cell_searches.rs), where flags skip some row
+    cells: [u64; CELL_COUNTS.len()],
 }
 
 impl Default for Met {
     fn default() -> Met {
-        Met { answered: 0, things: [0; 43], groups: [[0; 14]; 5] }
+        Met { answered: 0, things: [0; 47], groups: [[0; 14]; 6], cells: [0; CELL_COUNTS.len()] }
     }
 }
 
@@ -145,11 +152,11 @@ impl Met {
             return;
         }
         self.answered += 1;
-        let sample = self.answered % SAMPLE == 0;
+        let (sample, skipping) = (self.answered % SAMPLE == 0, want.flagged && !idle);
         let all = [
             &flags_met(c, a, ran, want.flagged, idle)[..], &windows_met(c, ran), &delays_met(c), &hand_made_met(c),
             &trips_met(c, !c.q.excluded_trip_ids.is_empty()), &ends_met(c, x, ran, damaged),
-            &settings_met(c, ran, sample),
+            &settings_met(c, ran, sample), &cells_met(c, skipping),
         ];
         self.things.iter_mut().zip(all.concat()).for_each(|(n, yes)| *n += yes as u64);
         self.group(0, routing::tbr::rounds(&c.q) as u32);
@@ -159,12 +166,17 @@ impl Met {
         ran.0.labels.iter().for_each(|l| rows[l.0 % 13] = true);
         (0..13).filter(|r| rows[*r]).for_each(|r| self.group(3, r as u32));
         ran.0.candidates.last().into_iter().for_each(|k| self.group(4, k.2 as u32));
+        if skipping {
+            target_cells(c).words().iter().enumerate().filter(|w| *w.1 != 0).for_each(|w| self.group(5, w.0 as u32));
+            CELL_COUNTS.iter().zip(&mut self.cells).for_each(|(cells, n)| *n += (*cells == c.e.num_cells) as u64);
+        }
     }
 
     fn join(&mut self, other: &Met) {
         self.answered += other.answered;
         self.things.iter_mut().zip(other.things).for_each(|(a, b)| *a += b);
         self.groups.iter_mut().flatten().zip(other.groups.iter().flatten()).for_each(|(a, b)| *a += b);
+        self.cells.iter_mut().zip(other.cells).for_each(|(a, b)| *a += b);
     }
 
     fn missing(&self) -> Vec<String> {
@@ -172,7 +184,8 @@ impl Met {
         let groups = GROUPS.iter().zip(self.groups).flat_map(|((name, least, n), g)| {
             (0..*n).filter(move |k| g[*k] == 0).map(move |k| format!("{name} {}", least + k as u32))
         });
-        things.chain(groups).collect()
+        let cells = CELL_COUNTS.iter().zip(self.cells).filter(|(_, n)| *n == 0).map(|(k, _)| format!("{k} cells where flags skip some row"));
+        things.chain(groups).chain(cells).collect()
     }
 
     fn print(&self) {
@@ -181,6 +194,7 @@ impl Met {
         for ((name, least, n), g) in GROUPS.iter().zip(self.groups) {
             println!("  {name}, {least} to {}: {:?}", *least as usize + n - 1, &g[..*n]);
         }
+        println!("  cells where flags skip some row, {CELL_COUNTS:?}: {:?}", self.cells);
         self.missing().iter().for_each(|name| println!("  never met: {name}"));
     }
 }

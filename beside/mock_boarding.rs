@@ -31,8 +31,9 @@ fn wrong_boarding(w: &[u32], base: u32, dep: u32, after: u32, a: &mut FreqAnswer
     }
 }
 
-// what tally.rs calls; it comes before the library's by the same name, which is not linked
+// what tally.rs calls, that of cell sets (mock_cells.rs) too; it comes before the library's by the same name, which is not linked
 mod exported {
+    pub use super::stand_in_intersects as savoiky_cell_bitset_intersects;
     pub use super::sys::*;
     use super::{barred, freq_outcome, no_board, sys, tallied, words, wrong_boarding};
 

@@ -1,16 +1,18 @@
 // queries [COUNT [SEED [JOBS]]]: `run_tbr` and `query` beside the Rust: COUNT random searches of all kinds, small and large, a third of them damaged,
 // under random settings; queue halves with just enough room and too little; 0, 1, limit and limit + 1 of every count, each end of the settings'
-// ranges and one past each; for every ten of them a search of hostile words, four plain days and two steady ones, there against all journeys and
-// ways, and five plain days and one steady on tables that our building calls wrote (chains.rs); for every hundred, four days with one condition of
-// a steady day broken, where the same test must find answers that are not what demand 3 asks. JOBS threads share them, each with a seed of its
-// own. Every word of every area is compared, after a refusal too; one instance is one call with all that it could have written. It prints how
-// many were compared, by the code expected, what was met in the answered ones (met.rs), on steady days (steady.rs) and in chains, and how many
-// differed, tallies too (tally.rs); status 1 where any did, where a code or a thing was never met, or where a broken condition was never found.
+// ranges and one past each; for every ten of them a search of hostile words, one with cells over the whole range (cell_searches.rs), four plain days
+// and two steady ones, there against all journeys and ways, and five plain days and one steady on tables that our building calls wrote (chains.rs);
+// for every hundred, four days with one condition of a steady day broken, where the same test must find answers that are not what demand 3 asks.
+// JOBS threads share them, each with a seed of its own. Every word of every area is compared, after a refusal too; one instance is one call with
+// all that it could have written. It prints how many were compared, by the code expected, what was met in the answered ones (met.rs), on steady
+// days (steady.rs) and in chains, and how many differed, tallies too (tally.rs); status 1 where any did, where a code or a thing was never met, or
+// where a broken condition was never found.
 #![allow(dead_code, unused)]
 include!(concat!(env!("BESIDE"), "/query_parts.rs"));
 include!(concat!(env!("BESIDE"), "/timetables.rs"));
 include!(concat!(env!("BESIDE"), "/damage.rs"));
 include!(concat!(env!("BESIDE"), "/drawn.rs"));
+include!(concat!(env!("BESIDE"), "/cell_searches.rs"));
 include!(concat!(env!("BESIDE"), "/met.rs"));
 include!(concat!(env!("BESIDE"), "/journeys.rs"));
 include!(concat!(env!("BESIDE"), "/steady.rs"));
@@ -64,8 +66,9 @@ struct Tallies {
     calls: [Tally; 2],
     sizes: u64,
     sizes_differed: u64,
-    // calls with hostile words, among those above
+    // calls with hostile words, and with cells over the whole range, among those above
     hostile: u64,
+    celled: u64,
     plain: Tally,
     steady: Tally,
     // of what days, plain ones and chains among them, must have met of the settings (HOUSES), how often
@@ -98,6 +101,7 @@ impl Tallies {
         self.sizes += t.sizes;
         self.sizes_differed += t.sizes_differed;
         self.hostile += t.hostile;
+        self.celled += t.celled;
         self.wrong += t.wrong;
     }
     fn differed(&self) -> bool {
@@ -120,7 +124,8 @@ impl Tallies {
     fn print(&self) {
         self.calls[0].print("run_tbr");
         self.calls[1].print("query");
-        println!("instances of the two calls together: {} ({} of them with hostile words)", self.calls[0].compared + self.calls[1].compared, self.hostile);
+        let of_them = format!("{} of them with hostile words, {} with cells over the whole range", self.hostile, self.celled);
+        println!("instances of the two calls together: {} ({of_them})", self.calls[0].compared + self.calls[1].compared);
         println!("workspace sizes: {} compared, {} differed", self.sizes, self.sizes_differed);
         self.print_days();
         self.met.print();
@@ -294,8 +299,8 @@ fn at_limits(r: &mut Random, t: &mut Tallies) {
 
 fn job(seed: u64, count: u64) -> Tallies {
     let (mut r, mut t) = (Random(seed), Tallies::default());
-    // chains draw from numbers of their own
-    let mut own = Random(!seed);
+    // chains draw from numbers of their own, and so do searches with cells over the whole range
+    let (mut own, mut celled) = (Random(!seed), Random(!seed.rotate_left(32)));
     // FIRST=1: no further than a first difference (beside/mutants)
     let first = std::env::var("FIRST").is_ok();
     at_limits(&mut r, &mut t);
@@ -318,6 +323,9 @@ fn job(seed: u64, count: u64) -> Tallies {
         }
         if i % 10 == 5 {
             chain_searches(&mut own, &mut t, Day::Steady);
+        }
+        if i % 10 == 7 {
+            cell_searches(&mut celled, &mut t, i / 10);
         }
         if first && t.differed() {
             let chains = t.chains[0].compared + t.chains[1].compared;

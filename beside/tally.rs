@@ -2,7 +2,7 @@
 // screen, and the tally is then compared with a count of ours, every byte; one call in 16 is made before for a screen above 63 as well, with the same
 // arguments: it must be refused by 15, and leave the tally and every slice lent to be written as they came. Of each thread: a tally, a count and random
 // numbers of its own; about once in 1,024 calls the tally is set anew, at times to the greatest counts. `--cfg timed`, for the timings: the call alone, for
-// one screen, nothing compared. What is called is the library or, for MOCK=1, the stand-ins (mock.rs, mock_boarding.rs).
+// one screen, nothing compared. What is called is the library or, for MOCK=1, the stand-ins (mock.rs, mock_boarding.rs, mock_cells.rs).
 #[cfg(not(mock))]
 use sys as exported;
 
