@@ -5,18 +5,22 @@
 //   zeroing   zeroing areas of these sizes, by the program
 //   doors%    of a query, its doors: questions 1 to 3 (a refusal by 3 that reads all runs) and the pass that asks 4 to 6 at once (a refusal by 6 after
 //             that pass, less one before it); clear%: zeroing
-// The last rows have 65,536 walk edges, and 4,096 patterns of 500 cells, each with about half of them: under each stands which share of the rows the
-// flags skip, and between what the ratio lies in its passes (the p-th calls of all queries are pass p). They draw from numbers of their own.
-// `bench_query walks`: these rows alone.
+// The last rows have 65,536 walk edges, and 4,096 patterns of 500 cells, each with about half of them; all three the same queries. Under each stands
+// which share of the edges and transfers the flags skip, and the least and the greatest ratio of its passes over all queries. They draw from
+// numbers of their own. `bench_query walks`: these rows alone.
 #![allow(dead_code, unused)]
 include!(concat!(env!("BESIDE"), "/query_parts.rs"));
 use std::hint::black_box;
 use std::time::Instant;
 
-const QUERIES: usize = 60;
-const PASSES: usize = 5;
-// of the rows with many walk edges
-const WALK_PASSES: usize = 7;
+// of a row: queries, passes over all of them, and calls of each in a pass
+struct Effort {
+    queries: usize,
+    passes: usize,
+    calls: usize,
+}
+const ONE_PASS: Effort = Effort { queries: 60, passes: 1, calls: 5 };
+const PASSES: Effort = Effort { queries: 20, passes: 7, calls: 5 };
 // segments that a queue half holds
 const HALF: usize = 8192;
 
@@ -166,10 +170,10 @@ struct Times {
     skipped: [usize; 2],
 }
 
-fn one(t: &mut Times, c: &Case, x: &Lent, a: &mut Areas, passes: usize) {
+fn one(t: &mut Times, c: &Case, x: &Lent, a: &mut Areas, calls: usize) {
     let egress = c.egress.iter().map(|(s, e)| (*s, e.clone())).collect();
     let (last, idle) = (refused_last(x), no_origins(x));
-    for _ in 0..passes {
+    for _ in 0..calls {
         let reply = timed(&mut t.query, || ask_ours(Call::Query, black_box(x), a));
         let (best, candidates) = timed(&mut t.rust, || black_box(routing::tbr::search(&c.e, &c.q, c.start, &c.origins, &egress, c.off)));
         t.ways += best.is_some() as usize;
@@ -181,7 +185,7 @@ fn one(t: &mut Times, c: &Case, x: &Lent, a: &mut Areas, passes: usize) {
     }
     // the doors apart, so that these tables do not push the others out of the cache
     let (late, runs) = (refused_late(x), refused_runs(x));
-    for _ in 0..passes {
+    for _ in 0..calls {
         t.differed += (timed(&mut t.late, || ask_ours(Call::Query, black_box(&late), a)).code != 6) as usize;
         t.differed += (timed(&mut t.early, || ask_ours(Call::Query, black_box(&last), a)).code != 6) as usize;
         t.differed += (timed(&mut t.runs, || ask_ours(Call::Query, black_box(&runs), a)).code != 3) as usize;
@@ -197,28 +201,29 @@ fn skipped(c: &Case) -> [usize; 2] {
 }
 
 // the least and the greatest ratio of the passes, each that of two medians
-fn spread(ours: &[f64], rust: &[f64], passes: usize) -> String {
-    let of = |v: &[f64], p: usize| median(&mut v.iter().copied().skip(p).step_by(passes).collect());
-    let mut ratios: Vec<f64> = (0..passes).map(|p| of(ours, p) / of(rust, p)).collect();
+fn spread(ours: &[f64], rust: &[f64], n: &Effort) -> String {
+    let medians = |v: &[f64]| -> Vec<f64> { v.chunks(n.queries * n.calls).map(|pass| median(&mut pass.to_vec())).collect() };
+    let mut ratios: Vec<f64> = medians(ours).iter().zip(medians(rust)).map(|(a, b)| a / b).collect();
     ratios.sort_by(|a, b| a.partial_cmp(b).unwrap());
-    format!("{:.2} to {:.2}", ratios[0], ratios[passes - 1])
+    format!("{:.2} to {:.2}", ratios[0], ratios[n.passes - 1])
 }
 
-fn share(t: &Times, k: usize, of: usize) -> f64 {
-    100.0 * t.skipped[k] as f64 / (QUERIES * of) as f64
-}
-
-fn row(r: &mut Random, name: &str, c: &mut Case, rounds: u32, off: bool, passes: usize) -> usize {
+fn row(r: &mut Random, name: &str, c: &mut Case, rounds: u32, off: bool, n: &Effort) -> usize {
     let mut t = Times::default();
     let sizes = lend(r, c, false).sizes;
     let mut a = areas(r, &sizes, 4 * HALF);
-    for _ in 0..QUERIES {
+    let mut asked = vec![];
+    for _ in 0..n.queries {
         put_query(r, c, rounds, off);
-        let x = lend(r, c, false);
-        one(&mut t, c, &x, &mut a, passes);
         t.skipped.iter_mut().zip(skipped(c)).for_each(|(n, k)| *n += k);
+        asked.push((c.q.clone(), c.start, c.origins.clone(), c.egress.clone()));
     }
-    let spreads = [&t.query, &t.run_tbr].map(|ours| spread(ours, &t.rust, passes));
+    for q in (0..n.passes).flat_map(|_| &asked) {
+        (c.q, c.start, c.origins, c.egress) = q.clone();
+        let x = lend(r, c, false);
+        one(&mut t, c, &x, &mut a, n.calls);
+    }
+    let spreads = [&t.query, &t.run_tbr].map(|ours| spread(ours, &t.rust, n));
     let (ours, tbr, rust) = (median(&mut t.query), median(&mut t.run_tbr), median(&mut t.rust));
     let (idle, refused, zeroing) = (median(&mut t.idle), median(&mut t.refused), median(&mut t.zeroing));
     let (flags, ways) = (if off { "off" } else { "on" }, 100 * t.ways / t.rust.len());
@@ -228,10 +233,11 @@ fn row(r: &mut Random, name: &str, c: &mut Case, rounds: u32, off: bool, passes:
         ours / rust,
         tbr / rust
     );
-    if passes == WALK_PASSES {
-        let (edges, transfers) = (share(&t, 0, sizes.edges as usize), share(&t, 1, sizes.transfers as usize));
-        let skips = format!("{} walk edges, {edges:.0} % of them skipped, of the transfers {transfers:.0} %", sizes.edges);
-        println!("  {skips}; ratios in {passes} passes {}, of run_tbr {}", spreads[0], spreads[1]);
+    if n.passes > 1 {
+        let share = |k: usize, of: u32| 100 * t.skipped[k] / (n.queries * of as usize);
+        let (edges, transfers) = (share(0, sizes.edges), share(1, sizes.transfers));
+        let skips = format!("{} walk edges, {edges} % of them skipped, of the transfers {transfers} %", sizes.edges);
+        println!("  {skips}; ratios in {} passes {}, of run_tbr {}", n.passes, spreads[0], spreads[1]);
     }
     t.differed
 }
@@ -250,20 +256,21 @@ fn few_walks(r: &mut Random) -> usize {
     let (name, mut c) = day(r, 1000, 2000, 20, &few(1000));
     let mut differed = 0;
     for (rounds, off) in [(4, true), (4, false), (12, true), (12, false)] {
-        differed += row(r, &name, &mut c, rounds, off, PASSES);
+        differed += row(r, &name, &mut c, rounds, off, &ONE_PASS);
     }
     for trips in [500, 1000, 2000, 4000] {
         let (name, mut c) = day(r, trips / 2, trips, 10, &few(trips / 2));
         for off in [true, false] {
-            differed += row(r, &name, &mut c, 4, off, PASSES);
+            differed += row(r, &name, &mut c, 4, off, &ONE_PASS);
         }
     }
     differed
 }
 
+// the same queries in each row
 fn many_walks(r: &mut Random) -> usize {
     let (name, mut c) = day(r, 1000, 2000, 20, &WALKS);
-    [(4, true), (4, false), (12, false)].into_iter().map(|(rounds, off)| row(r, &name, &mut c, rounds, off, WALK_PASSES)).sum()
+    [(4, true), (4, false), (12, false)].into_iter().map(|(rounds, off)| row(&mut Random(r.0), &name, &mut c, rounds, off, &PASSES)).sum()
 }
 
 fn main() {
