@@ -7,7 +7,8 @@
 //             that pass, less one before it); clear%: zeroing
 // The last rows have 65,536 walk edges, and 4,096 patterns of 500 cells, each with about half of them; all three the same queries. Under each stands
 // which share of the edges and transfers the flags skip, and the least and the greatest ratio of its passes over all queries. They draw from
-// numbers of their own. `bench_query walks`: these rows alone.
+// numbers of their own. On these tables the Rust's first calls of a query take up to twice as long as its later ones, ours a quarter longer; all
+// are counted, as in the other rows. `bench_query walks`: these rows alone.
 #![allow(dead_code, unused)]
 include!(concat!(env!("BESIDE"), "/query_parts.rs"));
 use std::hint::black_box;
