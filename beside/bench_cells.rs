@@ -1,7 +1,8 @@
 // Cell sets in cache, timed beside the Rust changing a set in place: nanoseconds a call (least of 201 passes), at 64 and at 512 cells.
 // `copy` is the call that only hands a tally's address, screen, settings and sets in and an answer out, by value through C; `by value` is the Rust's
 // work on a set handed in and out so, `to value` the ratio of ours to that. `intersects` is timed on sets that share no cell, so that every word is
-// read, and on sets that share a cell of the first word (`first word`).
+// read, and on sets that share a cell of the first word (`first word`); under it the Rust's work by value with the questions and the tally of the call
+// (`asked and counted`).
 #![allow(dead_code, unused)]
 include!(concat!(env!("ORACLE"), "/oracle.rs"));
 include!(concat!(env!("BESIDE"), "/ffi.rs"));
@@ -95,6 +96,22 @@ extern "C" fn value_get(a: CellBitSet, c: u32) -> bool {
 extern "C" fn value_meets(a: CellBitSet, b: CellBitSet) -> bool {
     (0..words(&a).min(words(&b))).any(|w| word(&a, w) & word(&b, w) != 0)
 }
+// The same behind questions 15 and 14, and counted: all that the exported call does, in Rust.
+#[inline(never)]
+extern "C" fn asked_meets(t: *mut sys::Tally, screen: u32, h: Settings, a: CellBitSet, b: CellBitSet) -> Answer {
+    if screen > 63 {
+        return Answer { code: 15, value: 0 };
+    }
+    let ok = h.transfer_time <= 3600 && (1..=4096).contains(&h.line_scan) && h.candidate_slack <= 21_600 && h.margin_cap <= 1_048_575;
+    let t = unsafe { &mut *t };
+    let counts = if ok { &mut t.answered } else { &mut t.refused };
+    counts[screen as usize] = counts[screen as usize].saturating_add(1);
+    if !ok {
+        return Answer { code: 14, value: 0 };
+    }
+    let met = (0..words(&a).min(words(&b))).any(|w| word(&a, w) & word(&b, w) != 0);
+    Answer { code: 0, value: met as u32 }
+}
 #[inline(never)]
 extern "C" fn value_union(mut a: CellBitSet, b: CellBitSet) -> CellBitSet {
     for w in 0..words(&b) {
@@ -121,6 +138,8 @@ fn meeting(name: &str, cells: u32, (a, oa): (&[CellBitSet], &[Oracle]), (b, ob):
     let copy = least(|i| { black_box(in_two(tally, TIMED, OWN, black_box(a[i]), black_box(b[i]))); });
     let value = least(|i| { black_box(value_meets(black_box(a[i]), black_box(b[i]))); });
     row(name, cells, ours, rust, copy, value);
+    let asked = least(|i| { black_box(asked_meets(tally, TIMED, OWN, black_box(a[i]), black_box(b[i]))); });
+    println!("{:>22} {cells:>4} cells: by value, asked and counted {asked:5.1}   ratio {:5.2}", "", ours / asked);
 }
 
 fn main() {

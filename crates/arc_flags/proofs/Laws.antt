@@ -2,7 +2,7 @@
 use Prim.Native.Nat.{ℕ, zero, suc, _+_, _*_, _-_, _/_, _<_, _≤_}
 use mathlib.Core.Path.{_≡_, refl, ap, ap₂, sym, _∙_}
 use mathlib.Core.Bool.{Bool, true, false, not, _&&_, _||_}
-use mathlib.Core.List.{List}
+use mathlib.Core.List.{List, [], _∷_}
 use native.Mathlib.Omega.{arith}
 use native.Mathlib.Numerals.{add-one}
 use lib.ListN.{length, getD}
@@ -10,18 +10,20 @@ use lib.Dec.{ltb, leb, eqb}
 use borrow.Author.Tests.{lt-ltb, le-ltb, le-leb, lt-leb, leb-true, ltb-true, ltb-false}
 use Rattle.loops.specs.Iter.{some, someIn, firstIn, foundOr, Hit, hit, miss}
 use Rattle.loops.specs.Count.{tabFrom, count, one}
-use Rattle.loops.proofs.Iter.{and-left, and-right, first-found, first-none, some-at, some-none, some-found}
+use Rattle.loops.proofs.Iter.{and-left, and-right, first-found, first-none, some-at, some-none, some-found, some-ext}
 use Rattle.loops.proofs.Search.{clash, hit-below}
 use Rattle.loops.proofs.Count.{count-mono, count-lt}
 use Rattle.cell_bitset.specs.declared.CellBitSet.{CellBitSet}
-use Rattle.cell_bitset.specs.CellSet.{emptySet, withCell, meets, holdsNone}
+use Rattle.cell_bitset.specs.CellSet.{emptySet, withCell, byteOf, meets, holdsNone}
+use Rattle.cell_bitset.proofs.Laws.{bytes-new, bytes-set, bytes-of, meets-row, none-words}
+use Rattle.byte_words.specs.ByteWord.{Bytes, byteIn, wordsOf, hasBit, bothHave}
 use Rattle.tables.specs.declared.Counts.{Counts}
 use Rattle.tables.specs.Tables.{cellOf, stopsAt, edgeOf}
 use Rattle.tables.specs.Timetable.{Timetable, timetable}
 use Rattle.model.specs.Tables.{Tables, Query}
 use Rattle.model.specs.Search.{someTransfer, targetsFrom, targetCells, holdsTarget, useArcFlags, skipsEdge, skipsTransfer, flagsInUse}
-use Rattle.arc_flags.specs.Flags.{patternAt, egressRowAt, egressRows}
-use Rattle.arc_flags.specs.Skipping.{Patterned, eventRunFirst, eventRunLength, RunsIn, runHas, rowSkipped, runSome, someRun, withinRun, CountedFrom, Transferring}
+use Rattle.arc_flags.specs.Flags.{egressRowAt, egressRows}
+use Rattle.arc_flags.specs.Skipping.{targetWords, Patterned, eventRunFirst, eventRunLength, RunsIn, runHas, rowSkipped, runSome, someRun, withinRun, CountedFrom, Transferring}
 use Rattle.event_transfers.specs.Transfers.{Transfer, transferAt, eventsBefore}
 use native.Mathlib.Nat.{eq-or-lt-of-le, add-zero, add-suc, suc-add, zero-add}
 use mathlib.Core.Logic.{⊎-elim}
@@ -53,6 +55,16 @@ module _ (T : Tables) (egress : List ℕ) (n : ℕ) where
   unfolding targetsFrom tabFrom
   ahead-end i s h = let e : n - i ≡ 0 = omega arith in sym (ap (λ (m : ℕ). targetsFrom T (tabFrom (egressRowAt egress) i m) s) e)
 
+-- the target cells stand in bytes
+targets-bytes : (T : Tables) (l : List (ℕ × ℕ)) (s : CellBitSet) → Bytes (byteIn (s .bytes)) → Bytes (byteIn (targetsFrom T l s .bytes))
+unfolding targetsFrom
+targets-bytes T [] s b = b
+targets-bytes T (e ∷ l) s b = targets-bytes T l (withCell s (T .timetable .cell (e .0))) (bytes-set s (T .timetable .cell (e .0)) b)
+
+target-bytes : (T : Tables) (Q : Query) → Bytes (byteOf (targetCells T Q))
+unfolding targetCells
+target-bytes T Q = bytes-of (targetCells T Q) (targets-bytes T (Q .egress) (emptySet (T .cells)) (bytes-new (T .cells)))
+
 -- a pattern
 module _ (T : Tables) (Q : Query) (patterns : List ℕ) (count : ℕ) (g : Patterned T patterns count) (p : ℕ) where
   holds-as : (b : Bool) → ltb p (T .patterns) ≡ b → elim b [ true ↦ meets (T .pattern p) (targetCells T Q) | false ↦ true ] ≡ holdsTarget T Q p
@@ -62,13 +74,20 @@ module _ (T : Tables) (Q : Query) (patterns : List ℕ) (count : ℕ) (g : Patte
   pub holds-past : count ≤ p → true ≡ holdsTarget T Q p
   holds-past h = holds-as false (ap (ltb p) (g .size) ∙ le-ltb p count h)
 
-  pub holds-in : (x target : CellBitSet) (r : Bool) → p < count → x ≡ patternAt patterns p → target ≡ targetCells T Q → r ≡ meets x target → r ≡ holdsTarget T Q p
-  holds-in x target r h ex et er = er ∙ ap₂ meets (ex ∙ sym (g .pattern p h)) et ∙ holds-as true (ap (ltb p) (g .size) ∙ lt-ltb p count h)
+  pub holds-in : (target : List ℕ) (r : Bool) → p < count → target ≡ targetWords T Q
+      → ((g : ℕ → ℕ) → Bytes g → target ≡ wordsOf g → r ≡ someIn (bothHave (λ i. byteIn patterns (p * 64 + i)) g) 0 64) → r ≡ holdsTarget T Q p
+  holds-in target r h et er =
+      let t = targetCells T Q in
+      er (byteOf t) (target-bytes T Q) et
+      ∙ meets-row (λ i. byteIn patterns (p * 64 + i)) (T .pattern p) t (target-bytes T Q) (g .pattern p h)
+      ∙ holds-as true (ap (ltb p) (g .size) ∙ lt-ltb p count h)
 
-pub flags-is : (T : Tables) (Q : Query) (count : ℕ) (target : CellBitSet) (off a b r : Bool) → T .patterns ≡ count → Q .flagsOff ≡ off → target ≡ targetCells T Q
-    → a ≡ holdsNone target → b ≡ (not a && not (eqb count 0)) → r ≡ (b && not off) → r ≡ useArcFlags T Q
+pub flags-is : (T : Tables) (Q : Query) (count : ℕ) (target : List ℕ) (off a b r : Bool) → T .patterns ≡ count → Q .flagsOff ≡ off → target ≡ targetWords T Q
+    → ((g : ℕ → ℕ) → target ≡ wordsOf g → a ≡ not (someIn (hasBit g) 0 64)) → b ≡ (not a && not (eqb count 0)) → r ≡ (b && not off) → r ≡ useArcFlags T Q
 unfolding useArcFlags
-flags-is T Q count target off a b r ec eo et ea eb er = rw (er, eb, ea, et, ec, eo) refl
+flags-is T Q count target off a b r ec eo et ea eb er =
+    let none : a ≡ holdsNone (targetCells T Q) = ea (byteOf (targetCells T Q)) et ∙ none-words (targetCells T Q) (target-bytes T Q) in
+    rw (er, eb, none, ec, eo) refl
 
 or-no : (b : Bool) → b || false ≡ b
 or-no true = refl
@@ -111,11 +130,6 @@ pub transfer-list : (p : Transfer → Bool) (f : ℕ → Transfer) (i n : ℕ) �
 unfolding someTransfer tabFrom some
 transfer-list p f i zero = refl
 transfer-list p f i (suc n) = ap (λ (b : Bool). p (f i) || b) (transfer-list p f (suc i) n)
-
-pub some-ext : (f g : ℕ → Bool) (i n : ℕ) → ((k : ℕ) → i ≤ k → k < i + n → f k ≡ g k) → some f i n ≡ some g i n
-unfolding some
-some-ext f g i zero h = refl
-some-ext f g i (suc n) h = ap₂ _||_ (h i (omega arith) (omega arith)) (some-ext f g (suc i) n (λ k l u. h k (omega arith) (omega arith)))
 
 -- one number more; two ranges, one after the other
 pub some-last : (f : ℕ → Bool) (i n : ℕ) → some f i (suc n) ≡ some f i n || f (i + n)

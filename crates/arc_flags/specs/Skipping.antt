@@ -9,7 +9,7 @@ use lib.ListN.{length, getD}
 use lib.Dec.{ltb, leb}
 use Rattle.loops.specs.Iter.{someIn, firstIn, foundOr}
 use Rattle.loops.specs.Count.{count, tab}
-use Rattle.cell_bitset.specs.declared.CellBitSet.{CellBitSet}
+use Rattle.cell_bitset.specs.CellWords.{cellWords}
 use Rattle.tables.specs.declared.Counts.{Counts}
 use Rattle.event_transfers.specs.Transfers.{transferAt, eventsBefore}
 use Rattle.model.specs.Tables.{Tables, Query}
@@ -21,10 +21,14 @@ pub record Patterned (T : Tables) (patterns : List ℕ) (count : ℕ) : Type 0 w
   pub size : T .patterns ≡ count
   pub pattern : (p : ℕ) → p < count → T .pattern p ≡ patternAt patterns p
 
--- and the target cells of tables and query are these
-pub record Aimed (T : Tables) (Q : Query) (patterns : List ℕ) (count : ℕ) (target : CellBitSet) : Type 0 where
+-- the words of the target cells: what a query keeps of them
+abbrev pub targetWords : Tables → Query → List ℕ
+targetWords T Q = cellWords (targetCells T Q)
+
+-- and the words of the target cells of tables and query are these
+pub record Aimed (T : Tables) (Q : Query) (patterns : List ℕ) (count : ℕ) (target : List ℕ) : Type 0 where
   pub patterned : Patterned T patterns count
-  pub aimed : target ≡ targetCells T Q
+  pub aimed : target ≡ targetWords T Q
 
 -- as long as the count says
 pub record PatternsOk (patterns : List ℕ) (count : ℕ) : Type 0 where
@@ -87,12 +91,12 @@ pub record CountedFrom (f : ℕ → Bool) (from n : ℕ) (counts : List ℕ) : T
   pub before : (k : ℕ) → k ≤ n → getD counts k 0 ≡ count (λ j. f (from + j)) k
 
 -- how many the flags skip, for all tables and queries that agree
-pub record SkippedCounted (area patterns : List ℕ) (count : ℕ) (target : CellBitSet) (from n : ℕ) (counts : List ℕ) : Type 0 where
+pub record SkippedCounted (area patterns : List ℕ) (count : ℕ) (target : List ℕ) (from n : ℕ) (counts : List ℕ) : Type 0 where
   pub counted : (T : Tables) (Q : Query) → Aimed T Q patterns count target → CountedFrom (rowSkipped T Q area) from n counts
 
 -- r says whether some event's run has a row of the window that the flags skip; whether some event's run has a row that they skip
-pub record WindowSkips (runs area patterns : List ℕ) (count : ℕ) (target : CellBitSet) (from n : ℕ) (r : Bool) : Type 0 where
+pub record WindowSkips (runs area patterns : List ℕ) (count : ℕ) (target : List ℕ) (from n : ℕ) (r : Bool) : Type 0 where
   pub says : (T : Tables) (Q : Query) → Aimed T Q patterns count target → r ≡ someRun (withinRun (rowSkipped T Q area) from n) runs
 
-pub record RunsSkip (runs area patterns : List ℕ) (count : ℕ) (target : CellBitSet) (r : Bool) : Type 0 where
+pub record RunsSkip (runs area patterns : List ℕ) (count : ℕ) (target : List ℕ) (r : Bool) : Type 0 where
   pub says : (T : Tables) (Q : Query) → Aimed T Q patterns count target → r ≡ someRun (rowSkipped T Q area) runs

@@ -12,20 +12,21 @@ ghost use Rattle.tables.specs.Timetable.{timetable};
 ghost use Rattle.tables.specs.Sane.{Sane};
 ghost use Rattle.cell_bitset.specs.CellSet.{cellLimit};
 ghost use Rattle.model.specs.Tables.{Tables, Query};
-ghost use Rattle.model.specs.Search.{targetCells, holdsTarget, useArcFlags, skipsEdge, skipsTransfer, flagsInUse};
-ghost use Rattle.arc_flags.specs.Flags.{patternAt, egressRows};
-ghost use Rattle.arc_flags.specs.Skipping.{Patterned, PatternsOk, EgressIn, Aimed, RowsIn, RunsIn, runHas, rowSkipped, firstSkipped, someRun};
+ghost use Rattle.model.specs.Search.{holdsTarget, useArcFlags, skipsEdge, skipsTransfer, flagsInUse};
+ghost use Rattle.arc_flags.specs.Flags.{egressRows};
+ghost use Rattle.arc_flags.specs.Skipping.{targetWords, Patterned, PatternsOk, EgressIn, Aimed, RowsIn, RunsIn};
+ghost use Rattle.arc_flags.specs.Skipping.{runHas, rowSkipped, firstSkipped, someRun};
 ghost use Rattle.arc_flags.specs.Skipping.{Transferring, withinRun, CountedFrom, SkippedCounted, WindowSkips, RunsSkip};
 ghost use Rattle.loops.specs.Iter.{someIn};
 ghost use Rattle.loops.specs.Count.{one, count};
 use cell_bitset::CellBitSet;
 use tables::Counts;
 
-// The cells of the egress stops, set one by one.
-pub fn target_cells(tables: &[u32], c: Counts, cells: u32, egress: &[u32]) -> CellBitSet
+// The cells of the egress stops, set one by one, as words.
+pub fn target_cells(tables: &[u32], c: Counts, cells: u32, egress: &[u32]) -> [u64; 8]
     requires { ⌜ Sane (now tables) c ⌝ ∗ ⌜ cells ≤ cellLimit ⌝ ∗ ⌜ EgressIn c (now egress) ⌝ }
     ensures { λ r. ⌜ ((T : Tables) (Q : Query) → T .timetable ≡ timetable (now (tables .entry)) c → T .cells ≡ cells → Q .egress
-        ≡ egressRows (now (egress .entry)) → r ≡ targetCells T Q) ⌝ }
+        ≡ egressRows (now (egress .entry)) → r ≡ targetWords T Q) ⌝ }
 {
     let from = c.times * 6 + c.trips * 8 + c.windows * 3 + c.edges * 5;
     let n = egress.len() / 2;
@@ -36,54 +37,35 @@ pub fn target_cells(tables: &[u32], c: Counts, cells: u32, egress: &[u32]) -> Ce
         set = set.set_bit(cell as u32);
         i += 1;
     }
-    set
-}
-
-// The bytes of pattern p.
-fn pattern_bytes(patterns: &[u8], p: usize) -> [u8; 64]
-    requires { ⌜ p * 64 + 64 ≤ length (now patterns) ⌝ }
-    ensures { λ r. ⌜ r ≡ patternAt (now (patterns .entry)) p .bytes ⌝ }
-{
-    let mut bytes = [0u8; 64];
-    let mut i: usize = 0;
-    while i < 64 {
-        bytes[i] = patterns[p * 64 + i];
-        i += 1;
-    }
-    bytes
+    set.words()
 }
 
 // Does a pattern hold a target cell? A pattern number past the table counts as holding all.
-pub fn holds_target(patterns: &[u8], count: usize, target: CellBitSet, p: usize) -> bool
+pub fn holds_target(patterns: &[u8], count: usize, target: [u64; 8], p: usize) -> bool
     requires { ⌜ PatternsOk (now patterns) count ⌝ }
-    ensures { λ r. ⌜ ((T : Tables) (Q : Query) → Patterned T (now (patterns .entry)) count → target ≡ targetCells T Q
+    ensures { λ r. ⌜ ((T : Tables) (Q : Query) → Patterned T (now (patterns .entry)) count → target ≡ targetWords T Q
         → r ≡ holdsTarget T Q p) ⌝ }
 {
     if count <= p {
         return true;
     }
-    let bytes = pattern_bytes(patterns, p);
-    let pattern = CellBitSet {
-        bytes: bytes,
-        reserved: 64,
-    };
-    pattern.intersects(target)
+    byte_words::row_shares(patterns, p * 64, target)
 }
 
 // Are there target cells and patterns, and are the flags not put off?
-pub fn use_arc_flags(count: usize, target: CellBitSet, flags_off: bool) -> bool
-    ensures { λ r. ⌜ ((T : Tables) (Q : Query) → T .patterns ≡ count → Q .flagsOff ≡ «flags_off» → target ≡ targetCells T Q
+pub fn use_arc_flags(count: usize, target: [u64; 8], flags_off: bool) -> bool
+    ensures { λ r. ⌜ ((T : Tables) (Q : Query) → T .patterns ≡ count → Q .flagsOff ≡ «flags_off» → target ≡ targetWords T Q
         → r ≡ useArcFlags T Q) ⌝ }
 {
-    let some = door::both(!target.is_empty(), !(count == 0));
+    let some = door::both(!byte_words::no_bit(target), !(count == 0));
     door::both(some, !flags_off)
 }
 
 // Do the flags skip some walk edge?
-fn skips_edge(tables: &[u32], c: Counts, patterns: &[u8], count: usize, target: CellBitSet) -> bool
+fn skips_edge(tables: &[u32], c: Counts, patterns: &[u8], count: usize, target: [u64; 8]) -> bool
     requires { ⌜ Sane (now tables) c ⌝ ∗ ⌜ PatternsOk (now patterns) count ⌝ }
     ensures { λ r. ⌜ ((T : Tables) (Q : Query) → T .timetable ≡ timetable (now (tables .entry)) c → Patterned T (now (patterns .entry)) count
-        → target ≡ targetCells T Q → r ≡ skipsEdge T Q) ⌝ }
+        → target ≡ targetWords T Q → r ≡ skipsEdge T Q) ⌝ }
 {
     let n = c.edges;
     let mut k: usize = 0;
@@ -98,13 +80,7 @@ fn skips_edge(tables: &[u32], c: Counts, patterns: &[u8], count: usize, target: 
 }
 
 // Do the flags skip row k of the transfer area?
-fn row_skipped(
-    transfers: &[u32],
-    patterns: &[u8],
-    count: usize,
-    target: CellBitSet,
-    k: usize,
-) -> bool
+fn row_skipped(transfers: &[u32], patterns: &[u8], count: usize, target: [u64; 8], k: usize) -> bool
     requires { ⌜ PatternsOk (now patterns) count ⌝ ∗ ⌜ k * 4 + 4 ≤ length (now transfers) ⌝ }
     ensures { λ r. ⌜ ((T : Tables) (Q : Query) → Aimed T Q (now (patterns .entry)) count target
         → r ≡ rowSkipped T Q (now (transfers .entry)) k) ⌝ }
@@ -118,7 +94,7 @@ fn first_skipped(
     transfers: &[u32],
     patterns: &[u8],
     count: usize,
-    target: CellBitSet,
+    target: [u64; 8],
     transfer_rows: usize,
 ) -> usize
     requires { ⌜ PatternsOk (now patterns) count ⌝ ∗ ⌜ RowsIn (now transfers) «transfer_rows» ⌝ }
@@ -164,7 +140,7 @@ fn count_skipped(
     transfers: &[u32],
     patterns: &[u8],
     count: usize,
-    target: CellBitSet,
+    target: [u64; 8],
     from: usize,
     n: usize,
     counts: &mut [u32],
@@ -222,7 +198,7 @@ fn window_skips(
     transfers: &[u32],
     patterns: &[u8],
     count: usize,
-    target: CellBitSet,
+    target: [u64; 8],
     from: usize,
     n: usize,
 ) -> bool
@@ -244,7 +220,7 @@ fn some_window_skips(
     transfer_rows: usize,
     patterns: &[u8],
     count: usize,
-    target: CellBitSet,
+    target: [u64; 8],
 ) -> bool
     requires { ⌜ PatternsOk (now patterns) count ⌝ ∗ ⌜ RowsIn (now transfers) «transfer_rows» ⌝
         ∗ ⌜ RunsIn (now «transfer_runs») «transfer_rows» ⌝ }
@@ -270,12 +246,12 @@ fn skips_transfer(
     transfer_rows: usize,
     patterns: &[u8],
     count: usize,
-    target: CellBitSet,
+    target: [u64; 8],
 ) -> bool
     requires { ⌜ PatternsOk (now patterns) count ⌝ ∗ ⌜ RowsIn (now transfers) «transfer_rows» ⌝
         ∗ ⌜ RunsIn (now «transfer_runs») «transfer_rows» ⌝ }
     ensures { λ r. ⌜ ((T : Tables) (Q : Query) → Patterned T (now (patterns .entry)) count
-        → Transferring T (now («transfer_runs» .entry)) (now (transfers .entry)) → target ≡ targetCells T Q → r ≡ skipsTransfer T Q) ⌝ }
+        → Transferring T (now («transfer_runs» .entry)) (now (transfers .entry)) → target ≡ targetWords T Q → r ≡ skipsTransfer T Q) ⌝ }
 {
     let k = first_skipped(transfers, patterns, count, target, transfer_rows);
     if transfer_rows <= k {
@@ -303,13 +279,13 @@ pub fn flags_in_use(
     transfer_rows: usize,
     patterns: &[u8],
     count: usize,
-    target: CellBitSet,
+    target: [u64; 8],
     flags_off: bool,
 ) -> bool
     requires { ⌜ Sane (now tables) c ⌝ ∗ ⌜ PatternsOk (now patterns) count ⌝ ∗ ⌜ RowsIn (now transfers) «transfer_rows» ⌝
         ∗ ⌜ RunsIn (now «transfer_runs») «transfer_rows» ⌝ }
     ensures { λ r. ⌜ ((T : Tables) (Q : Query) → T .timetable ≡ timetable (now (tables .entry)) c → Patterned T (now (patterns .entry)) count
-        → Transferring T (now («transfer_runs» .entry)) (now (transfers .entry)) → target ≡ targetCells T Q → Q .flagsOff ≡ «flags_off»
+        → Transferring T (now («transfer_runs» .entry)) (now (transfers .entry)) → target ≡ targetWords T Q → Q .flagsOff ≡ «flags_off»
         → r ≡ flagsInUse T Q) ⌝ }
 {
     if !use_arc_flags(count, target, flags_off) {

@@ -1,15 +1,17 @@
 -- The bits of a byte, and of bytes that are joined by `or`.
 use Prim.Native.Nat.{ℕ, zero, suc, _+_, _*_, _/_, _%_, _^_, _-_, _<_, _≤_}
 use mathlib.Core.Path.{_≡_, refl, ap, ap₂, sym, _∙_}
-use mathlib.Core.Bool.{Bool, true, false, not, _&&_, _||_, or-assoc, or-false, true≢false}
+use mathlib.Core.Bool.{Bool, true, false, not, _&&_, _||_, true≢false}
 use native.Mathlib.Nat.{one-mul, zero-div, div-one, div-eq-of-lt, mul-div-mul-right, pow-suc, zero-lt-suc}
 use native.Mathlib.Omega.{arith}
 use lib.Dec.{ltb, eqb, lit<, eqb·suc-suc, eqb·suc-zero, eqb·zero-suc}
 use lib.Pow.{shl-exact, shr-shr, pow-pos, pow-lt}
-use lib.Bits.{bitAnd, bitOr, or-shr, or-mod, and-shr, and-mod, or-add-and, and-le-r, shifted-even}
+use lib.Bits.{bitAnd, bitOr, or-shr, or-mod, and-shr, and-mod, and-le-r, shifted-even}
 use borrow.Author.Tests.{ltb-true, eqb-true, eqb-false, lt-ltb, eq-eqb, ne-eqb, not-true}
-use Rattle.loops.specs.Iter.{iter, range, some, someIn}
+use Rattle.loops.specs.Iter.{range, some, someIn}
 use Rattle.loops.proofs.Iter.{Passes, some-at, some-found, and-left, and-right}
+use Rattle.byte_words.specs.ByteWord.{hasBit}
+use Rattle.byte_words.proofs.Words.{orWith, or-all}
 use Rattle.cell_bitset.specs.CellSet.{bit}
 
 -- two tests that are true of the same are the same
@@ -88,25 +90,6 @@ bit-test b k = same-truth (not (eqb z 0)) (bit b k) up down
     down : bit b k ≡ true → not (eqb z 0) ≡ true
     down e = ap not (ne-eqb z 0 (λ n. true≢false (sym (at-bit k ∙ ap₂ _&&_ e (eq-eqb k k refl)) ∙ ap (λ (x : ℕ). bit x k) n ∙ bit-zero k)))
 
--- x with the bits of f k
-abbrev pub orWith : (ℕ → ℕ) → ℕ → ℕ → ℕ
-orWith f k x = bitOr x (f k)
-
-or-some : (a b : ℕ) → not (eqb (bitOr a b) 0) ≡ not (eqb a 0) || not (eqb b 0)
-or-some a b = go (eqb a 0) refl
-  where
-    go : (x : Bool) → eqb a 0 ≡ x → not (eqb (bitOr a b) 0) ≡ not x || not (eqb b 0)
-    go true e = ap (λ (x : ℕ). not (eqb (bitOr x b) 0)) (eqb-true a 0 e)
-    go false e = ap not (ne-eqb (bitOr a b) 0 (λ q. eqb-false a 0 e (omega (arith, or-add-and a b, and-le-r a b))))
-
--- a byte that takes in the bits of n others is 0 exactly where it was 0 and each of them is
-or-all : (f : ℕ → ℕ) (i n s : ℕ) → not (eqb (iter (orWith f) i n s) 0) ≡ not (eqb s 0) || some (λ k. not (eqb (f k) 0)) i n
-unfolding iter some
-or-all f i zero s = sym (or-false (not (eqb s 0)))
-or-all f i (suc n) s =
-    or-all f (suc i) n (bitOr s (f i)) ∙ ap (λ (b : Bool). b || some (λ k. not (eqb (f k) 0)) (suc i) n) (or-some s (f i))
-    ∙ or-assoc (not (eqb s 0)) (not (eqb (f i) 0)) (some (λ k. not (eqb (f k) 0)) (suc i) n)
-
 -- the cell c of the first n bytes f 0, f 1, ..
 abbrev pub cellOf : (ℕ → ℕ) → ℕ → ℕ → Bool
 cellOf f n c = ltb (c / 8) n && bit (f (c / 8)) (c % 8)
@@ -118,18 +101,18 @@ cell-at f n k j h l e =
     rw (d, m) (ap₂ _&&_ (lt-ltb k n h) e)
 
 -- one of n bytes is not 0 exactly where one of their cells is set
-some-cell : (f : ℕ → ℕ) (n : ℕ) → ((i : ℕ) → f i < 256) → n ≤ 64 → some (λ k. not (eqb (f k) 0)) 0 n ≡ someIn (cellOf f n) 0 512
-some-cell f n b u = same-truth (some (λ k. not (eqb (f k) 0)) 0 n) (someIn (cellOf f n) 0 512) (λ e. up (some-found (λ k. not (eqb (f k) 0)) 0 n e)) (λ e. down (some-found (cellOf f n) 0 512 e))
+pub some-cell : (f : ℕ → ℕ) (n : ℕ) → ((i : ℕ) → f i < 256) → n ≤ 64 → some (hasBit f) 0 n ≡ someIn (cellOf f n) 0 512
+some-cell f n b u = same-truth (some (hasBit f) 0 n) (someIn (cellOf f n) 0 512) (λ e. up (some-found (hasBit f) 0 n e)) (λ e. down (some-found (cellOf f n) 0 512 e))
   where
-    up : Passes (λ k. not (eqb (f k) 0)) 0 n → someIn (cellOf f n) 0 512 ≡ true
+    up : Passes (hasBit f) 0 n → someIn (cellOf f n) 0 512 ≡ true
     up p =
         let q = bit-found 8 (f (p .at)) (b (p .at)) (eqb-false (f (p .at)) 0 (not-true (eqb (f (p .at)) 0) (p .passes))) in
         some-at (cellOf f n) 0 512 (8 * p .at + q .at) (cell-at f n (p .at) (q .at) (omega (arith, p .high)) (omega (arith, q .high)) (q .passes)) (omega arith) (omega (arith, p .high, q .high))
 
-    down : Passes (cellOf f n) 0 512 → some (λ k. not (eqb (f k) 0)) 0 n ≡ true
+    down : Passes (cellOf f n) 0 512 → some (hasBit f) 0 n ≡ true
     down p =
         let k = p .at / 8 in
-        some-at (λ k. not (eqb (f k) 0)) 0 n k
+        some-at (hasBit f) 0 n k
         (ap not (ne-eqb (f k) 0 (λ z. true≢false (sym (and-right (ltb k n) (bit (f k) (p .at % 8)) (p .passes)) ∙ ap (λ (x : ℕ). bit x (p .at % 8)) z ∙ bit-zero (p .at % 8)))))
         (omega arith) (omega (arith, ltb-true k n (and-left (ltb k n) (bit (f k) (p .at % 8)) (p .passes))))
 

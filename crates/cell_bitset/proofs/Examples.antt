@@ -53,12 +53,15 @@ pub pairAll : List Pair → Bool
 pairAll [] = true
 pairAll (p ∷ ps) = pairRight p && pairAll ps
 
--- sets of unlike lengths; a cell past the shorter set; a bit that stands past the reserved bytes
+-- sets of unlike lengths; a cell past the shorter set; a bit that stands past the reserved bytes; the same where a caller says 9 bytes: cell 64 stands in
+-- the last of them, cell 72 in the byte past them, of the same word
 pub pairs : List Pair
 pairs =
     record { first = one 65 127; second = one 65 127; meet = true } ∷ record { first = one 1 3; second = one 512 3; meet = true }
     ∷ record { first = one 1 3; second = one 1 4; meet = false } ∷ record { first = one 65 127; second = one 64 127; meet = false }
-    ∷ record { first = one 128 64; second = record { bytes = one 128 64 .bytes; reserved = 8 }; meet = false } ∷ []
+    ∷ record { first = one 128 64; second = record { bytes = one 128 64 .bytes; reserved = 8 }; meet = false }
+    ∷ record { first = one 128 64; second = record { bytes = one 128 64 .bytes; reserved = 9 }; meet = true }
+    ∷ record { first = one 128 72; second = record { bytes = one 128 72 .bytes; reserved = 9 }; meet = false } ∷ []
 
 pub pairs-right : pairAll pairs ≡ true
 unfolding pairAll pairRight pairs some tabFrom

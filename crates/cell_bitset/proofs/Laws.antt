@@ -1,19 +1,23 @@
 -- Which cells the sets hold.
-use Prim.Native.Nat.{ℕ, zero, suc, _*_, _/_, _%_, _^_, _<_, _≤_, min, max}
+use Prim.Native.Nat.{ℕ, zero, suc, _*_, _-_, _/_, _%_, _^_, _<_, _≤_, min, max}
 use mathlib.Core.Path.{_≡_, refl, ap, ap₂, sym, _∙_}
-use mathlib.Core.Bool.{Bool, true, false, not, _&&_, _||_, cond, and-true, and-false, or-false, true≢false}
+use mathlib.Core.Bool.{Bool, true, false, not, _&&_, _||_, cond, and-true, and-false, and-assoc, or-false, true≢false}
 use native.Mathlib.Omega.{arith}
-use lib.ListN.{getD, length, set, getD-replicate}
+use mathlib.Core.List.{List, [], _∷_}
+use lib.ListN.{getD, length, set, replicate, length-replicate, getD-replicate, List·getD-eq-default}
 use lib.Seq.{getD-set-same, getD-set-other}
 use lib.Dec.{ltb, eqb}
-use lib.Bits.{bitOr, bitAnd, and-le-l}
+use lib.Bits.{bitOr, bitAnd, and-le-l, and-le-r, or-lt}
+use lib.Pow.{pow-lt}
 use mathlib.Core.Logic.{⊎-elim}
 use Rattle.loops.specs.Iter.{range, some, someIn}
-use Rattle.loops.proofs.Iter.{some-at, some-none, some-found, and-left, and-right}
+use Rattle.loops.proofs.Iter.{some-at, some-none, some-found, some-ext, and-left, and-right}
 use Rattle.loops.specs.Count.{tab}
 use Rattle.loops.proofs.Count.{getD-tab, tab-ext}
 use Rattle.loops.proofs.Search.{split}
-use Rattle.cell_bitset.proofs.Bits.{same-truth, bit-or, bit-and, bit-pow, bit-zero, orWith, cellOf, gathered}
+use Rattle.byte_words.specs.ByteWord.{Bytes, byteIn, hasBit, bothHave}
+use Rattle.byte_words.proofs.Words.{orWith, not-not}
+use Rattle.cell_bitset.proofs.Bits.{same-truth, bit-or, bit-and, bit-pow, bit-zero, cellOf, some-cell, gathered}
 use Rattle.cell_bitset.proofs.Fill.{byte-in, byte-out}
 use borrow.Author.Tests.{lt-ltb, le-ltb, ltb-true, eqb-true, eqb-false, eq-eqb, ne-eqb, not-true}
 use Rattle.cell_bitset.specs.declared.CellBitSet.{CellBitSet}
@@ -147,31 +151,81 @@ kept-sized s n c h =
     let e : min (max (reservedOf s) (8 * groups n)) 64 ≡ max (reservedOf s) (reservedOf (emptySet n)) = omega arith in
     ap (ltb (c / 8)) e ∙ below-max (c / 8) (reservedOf s) (reservedOf (emptySet n)) ∙ ap (λ (b : Bool). kept s c || b) (kept-new n c h)
 
--- the byte of bits that both have
-abbrev pub shared : CellBitSet → CellBitSet → ℕ → ℕ
-shared s t k = bitAnd (getD (s .bytes) k 0) (getD (t .bytes) k 0)
-
-some-ext : (f g : ℕ → Bool) (i n : ℕ) → ((k : ℕ) → f k ≡ g k) → some f i n ≡ some g i n
-unfolding some
-some-ext f g i zero h = refl
-some-ext f g i (suc n) h = ap₂ _||_ (h i) (some-ext f g (suc i) n h)
-
 and-pairs : (p q u v : Bool) → (p && q) && (u && v) ≡ (p && u) && (q && v)
 and-pairs true true u v = refl
 and-pairs true false u v = sym (and-false u)
 and-pairs false q u v = refl
 
--- what the loop of `intersects` ends with
-pub meets-gathered : (s t : CellBitSet) (n x : ℕ) → x ≡ range (orWith (shared s t)) 0 n 0 → n ≡ min (reservedOf s) (reservedOf t) → ((k : ℕ) → getD (s .bytes) k 0 < 256) → not (eqb x 0) ≡ meets s t
-meets-gathered s t n x e m b =
-    ap (λ (y : ℕ). not (eqb y 0)) e ∙ gathered (shared s t) n (λ k. omega (arith, b k, and-le-l (getD (s .bytes) k 0) (getD (t .bytes) k 0))) (omega arith)
-    ∙ some-ext (cellOf (shared s t) n) (λ c. held s c && held t c) 0 512
-    (λ c. ap₂ _&&_ (ap (ltb (c / 8)) m ∙ below-min (c / 8) (reservedOf s) (reservedOf t)) (bit-and (getD (s .bytes) (c / 8) 0) (getD (t .bytes) (c / 8) 0) (c % 8))
-    ∙ and-pairs (kept s c) (kept t c) (bit (getD (s .bytes) (c / 8) 0) (c % 8)) (bit (getD (t .bytes) (c / 8) 0) (c % 8)))
+-- two sets meet exactly where their first n bytes share a bit, if what the n bytes share is what both hold
+meets-by : (f g : ℕ → ℕ) (n : ℕ) (s t : CellBitSet) → n ≤ 64 → ((k : ℕ) → bitAnd (f k) (g k) < 256)
+    → ((c : ℕ) → ltb (c / 8) n && (bit (f (c / 8)) (c % 8) && bit (g (c / 8)) (c % 8)) ≡ held s c && held t c) → someIn (bothHave f g) 0 n ≡ meets s t
+meets-by f g n s t u b h =
+    let e : n - 0 ≡ n = omega arith in
+    ap (some (bothHave f g) 0) e ∙ some-cell (λ k. bitAnd (f k) (g k)) n b u
+    ∙ some-ext (cellOf (λ k. bitAnd (f k) (g k)) n) (λ c. held s c && held t c) 0 512
+    (λ c l u. ap (λ (x : Bool). ltb (c / 8) n && x) (bit-and (f (c / 8)) (g (c / 8)) (c % 8)) ∙ h c)
 
-not-not : (b : Bool) → not (not b) ≡ b
-not-not true = refl
-not-not false = refl
+-- what `intersects` asks of the bytes of both, up to the shorter set's
+pub meets-shorter : (s t : CellBitSet) (n : ℕ) → n ≡ min (reservedOf s) (reservedOf t) → ((k : ℕ) → getD (s .bytes) k 0 < 256) → someIn (bothHave (byteIn (s .bytes)) (byteIn (t .bytes))) 0 n ≡ meets s t
+meets-shorter s t n m b =
+    meets-by (byteIn (s .bytes)) (byteIn (t .bytes)) n s t (omega arith) (λ k. omega (arith, b k, and-le-l (getD (s .bytes) k 0) (getD (t .bytes) k 0)))
+    (λ c. let x = bit (getD (s .bytes) (c / 8) 0) (c % 8) in
+    let y = bit (getD (t .bytes) (c / 8) 0) (c % 8) in
+    ap (λ (z : Bool). z && (x && y)) (ap (ltb (c / 8)) m ∙ below-min (c / 8) (reservedOf s) (reservedOf t)) ∙ and-pairs (kept s c) (kept t c) x y)
+
+-- a set of 64 reserved bytes f 0, f 1, ..
+row-held : (f : ℕ → ℕ) (s : CellBitSet) → s ≡ record { bytes = tab f 64; reserved = 64 } → (c : ℕ) → ltb (c / 8) 64 && bit (f (c / 8)) (c % 8) ≡ held s c
+row-held f s e c =
+    ⊎-elim
+    (λ (h : c / 8 < 64). ap (λ (x : ℕ). ltb (c / 8) 64 && bit x (c % 8)) (sym (getD-tab f 64 (c / 8) 0 h)))
+    (λ (h : 64 ≤ c / 8). ap (λ (b : Bool). b && bit (f (c / 8)) (c % 8)) (le-ltb (c / 8) 64 h) ∙ sym (ap (λ (b : Bool). b && bit (getD (tab f 64) (c / 8) 0) (c % 8)) (le-ltb (c / 8) 64 h)))
+    (split (c / 8) 64)
+    ∙ ap (λ (x : CellBitSet). held x c) (sym e)
+
+-- and what a query asks of a pattern's bytes, all 64 of them reserved, and the words of a set
+pub meets-row : (f : ℕ → ℕ) (s t : CellBitSet) → Bytes (byteOf t) → s ≡ record { bytes = tab f 64; reserved = 64 } → someIn (bothHave f (byteOf t)) 0 64 ≡ meets s t
+meets-row f s t b e =
+    meets-by f (byteOf t) 64 s t (omega arith) (λ k. omega (arith, b .small k, and-le-r (f k) (byteOf t k)))
+    (λ c. sym (and-assoc (ltb (c / 8) 64) (bit (f (c / 8)) (c % 8)) (bit (byteOf t (c / 8)) (c % 8))) ∙ ap₂ _&&_ (row-held f s e c) (sym (held-byte t c)))
+
+-- a set's words have no bit exactly where it holds no cell
+byte-cell : (s : CellBitSet) (c : ℕ) → cellOf (byteOf s) 64 c ≡ held s c
+byte-cell s c =
+    ⊎-elim
+    (λ (h : c / 8 < 64). ap (λ (b : Bool). b && bit (byteOf s (c / 8)) (c % 8)) (lt-ltb (c / 8) 64 h) ∙ sym (held-byte s c))
+    (λ (h : 64 ≤ c / 8). ap (λ (b : Bool). b && bit (byteOf s (c / 8)) (c % 8)) (le-ltb (c / 8) 64 h) ∙ sym (held-past s c (omega arith)))
+    (split (c / 8) 64)
+
+pub none-words : (s : CellBitSet) → Bytes (byteOf s) → not (someIn (hasBit (byteOf s)) 0 64) ≡ holdsNone s
+none-words s b = ap not (some-cell (byteOf s) 64 (b .small) (omega arith) ∙ some-ext (cellOf (byteOf s) 64) (held s) 0 512 (λ c l u. byte-cell s c))
+
+-- the bytes of a set are bytes: of a new one, and where a cell is set
+set-small : (l : List ℕ) (i v k : ℕ) → v < 256 → ((j : ℕ) → getD l j 0 < 256) → getD (set l i v) k 0 < 256
+set-small [] i v k h b = b k
+set-small (x ∷ l) zero v zero h b = h
+set-small (x ∷ l) zero v (suc k) h b = b (suc k)
+set-small (x ∷ l) (suc i) v zero h b = b 0
+set-small (x ∷ l) (suc i) v (suc k) h b = set-small l i v k h (λ j. b (suc j))
+
+zeros-small : (n k : ℕ) → getD (replicate {A = ℕ} n 0) k 0 < 256
+zeros-small n k = ⊎-elim (λ (h : k < n). omega (arith, getD-replicate {A = ℕ} n k 0 0 h)) (λ (h : n ≤ k). omega (arith, List·getD-eq-default (replicate {A = ℕ} n 0) 0 {n = k} (omega (arith, length-replicate {A = ℕ} n 0)))) (split k n)
+
+pub bytes-new : (n : ℕ) → Bytes (byteIn (emptySet n .bytes))
+bytes-new n = record { small = zeros-small 64 }
+
+pub bytes-set : (s : CellBitSet) (c : ℕ) → Bytes (byteIn (s .bytes)) → Bytes (byteIn (withCell s c .bytes))
+bytes-set s c b = go (kept s c)
+  where
+    go : (t : Bool) → Bytes (byteIn (cond t (added s c) s .bytes))
+    go true = record { small = λ k. set-small (s .bytes) (c / 8) (bitOr (getD (s .bytes) (c / 8) 0) (2 ^ (c % 8))) k (or-lt 8 (getD (s .bytes) (c / 8) 0) (2 ^ (c % 8)) (b .small (c / 8)) (pow-lt {j = 8} (omega arith))) (b .small) }
+    go false = b
+
+pub bytes-of : (s : CellBitSet) → Bytes (byteIn (s .bytes)) → Bytes (byteOf s)
+bytes-of s b = record { small = λ i. go i (ltb i (reservedOf s)) }
+  where
+    go : (i : ℕ) (t : Bool) → cond t (getD (s .bytes) i 0) 0 < 256
+    go i true = b .small i
+    go i false = omega arith
 
 -- what the loop of `is_empty` ends with
 pub none-gathered : (s : CellBitSet) (n x : ℕ) → x ≡ range (orWith (λ k. getD (s .bytes) k 0)) 0 n 0 → n ≡ reservedOf s → ((k : ℕ) → getD (s .bytes) k 0 < 256) → eqb x 0 ≡ holdsNone s

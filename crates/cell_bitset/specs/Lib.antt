@@ -1,1 +1,2 @@
 pub mod CellSet
+pub mod CellWords

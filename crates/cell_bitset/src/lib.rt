@@ -1,17 +1,18 @@
 // cell_bitset: the cell set of the arc flags (CellBitSet of the Rust), by value: at most 512 cells, as bytes.
 // Place: a leaf. The calls that ask question 1 of a count: `cell_set_call`.
 // Specs (claims): when a cell is in a set (`held`), the set with one cell more (`withCell`), that two sets share a cell
-// (`meets`), their union, a set with room for more cells (`sized`).
+// (`meets`), their union, a set with room for more cells (`sized`). Inner: the eight words of a set (CellWords).
 // Proves: each method equal to its definition for every value of the struct, also one whose `reserved` is past the 64
 // bytes or no multiple of 8, or whose bytes past the reserved ones are not zero; in proofs/Laws which cells the sets so
-// made hold and keep; in proofs/WellFormed that whole groups stay whole groups with nothing past them; in
-// proofs/Examples the worked examples.
+// made hold and keep, and that two sets meet exactly where their bytes share a bit; in proofs/WellFormed that whole groups
+// stay whole groups with nothing past them; in proofs/Examples the worked examples.
 // Assumes nothing.
 ghost use mathlib.Core.Path.{_≡_};
 ghost use Prim.Native.Nat.{_≤_, min};
 ghost use lib.ListN.{getD};
 ghost use lib.Bits.{bitOr};
 ghost use Rattle.loops.specs.Count.{tab};
+ghost use Rattle.cell_bitset.specs.CellWords.{cellWords};
 ghost use Rattle.cell_bitset.specs.CellSet.{cellLimit, emptySet, held, withCell, meets, holdsNone, byteUpto, union, sized};
 
 #[repr(C)]
@@ -114,7 +115,7 @@ impl CellBitSet {
         old & (1u8 << bit) != 0
     }
 
-    // Stops at the shorter set. (No way out before that: so the loop takes many bytes at a time.)
+    // Stops at the shorter set; by the word.
     pub fn intersects(self, other: CellBitSet) -> bool
         ensures { λ r. ⌜ r ≡ meets self other ⌝ }
     {
@@ -122,15 +123,18 @@ impl CellBitSet {
             reserved_bytes(self.reserved),
             reserved_bytes(other.reserved),
         );
-        let mut found: u8 = 0;
-        let mut i: usize = 0;
-        while i < shorter {
-            let x = self.bytes[i];
-            let y = other.bytes[i];
-            found = found | (x & y);
-            i += 1;
-        }
-        found != 0
+        let bytes = self.bytes;
+        let others = other.bytes;
+        byte_words::share_bit(bytes, others, shorter)
+    }
+
+    // The words of the reserved bytes, eight in all; past them 0.
+    pub fn words(self) -> [u64; 8]
+        ensures { λ r. ⌜ r ≡ cellWords self ⌝ }
+    {
+        let n = reserved_bytes(self.reserved);
+        let own = self.bytes;
+        byte_words::words_of(cleared(own, n))
     }
 
     pub fn union_with(mut self, other: CellBitSet) -> Self

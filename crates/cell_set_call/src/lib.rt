@@ -6,7 +6,9 @@
 // Assumes nothing.
 ghost use mathlib.Core.Path.{_≡_};
 ghost use Rattle.cell_set_call.specs.CellSetCall.{created, resized, withCellAnswer, unionAnswer};
-ghost use Rattle.cell_set_call.specs.CellSetCall.{truthAnswer, heldAnswer, meetsAnswer, emptyAnswer};
+ghost use Rattle.door.specs.Door.{success};
+ghost use Rattle.loops.specs.Count.{one};
+ghost use Rattle.cell_set_call.specs.CellSetCall.{heldAnswer, meetsAnswer, emptyAnswer};
 use cell_bitset::CellBitSet;
 use door::Answer;
 use door::Settings;
@@ -78,36 +80,42 @@ pub fn union_with(settings: Settings, set: CellBitSet, other: CellBitSet) -> Cel
     }
 }
 
-// Yes or no as 1 or 0, behind question 14.
-fn truth(settings: Settings, yes: bool) -> Answer
-    ensures { λ r. ⌜ r ≡ truthAnswer settings yes ⌝ }
+// Yes or no as 1 or 0.
+fn yes_or_no(yes: bool) -> Answer
+    ensures { λ r. ⌜ r ≡ success (one yes) ⌝ }
 {
-    if !door::settings_ok(settings) {
-        return door::refused(14);
-    }
     if yes {
         return door::given(1);
     }
     door::given(0)
 }
 
-// Is the cell in the set?
+// Is the cell in the set? Behind question 14, as the next two.
 pub fn get_bit(settings: Settings, set: CellBitSet, cell: u32) -> Answer
     ensures { λ r. ⌜ r ≡ heldAnswer settings set cell ⌝ }
 {
-    truth(settings, set.get_bit(cell))
+    if !door::settings_ok(settings) {
+        return door::refused(14);
+    }
+    yes_or_no(set.get_bit(cell))
 }
 
 // Have the sets a cell in common?
 pub fn intersects(settings: Settings, set: CellBitSet, other: CellBitSet) -> Answer
     ensures { λ r. ⌜ r ≡ meetsAnswer settings set other ⌝ }
 {
-    truth(settings, set.intersects(other))
+    if !door::settings_ok(settings) {
+        return door::refused(14);
+    }
+    yes_or_no(set.intersects(other))
 }
 
 // Does the set hold no cell?
 pub fn is_empty(settings: Settings, set: CellBitSet) -> Answer
     ensures { λ r. ⌜ r ≡ emptyAnswer settings set ⌝ }
 {
-    truth(settings, set.is_empty())
+    if !door::settings_ok(settings) {
+        return door::refused(14);
+    }
+    yes_or_no(set.is_empty())
 }

@@ -202,3 +202,9 @@ some-found f i (suc n) h = go (f i) refl (some-found f (suc i) n)
     go false e later =
         let p = later (ap (λ (b : Bool). b || some f (suc i) n) (sym e) ∙ h) in
         record { at = p .at; low = omega (arith, p .low); high = omega (arith, p .high); passes = p .passes }
+
+-- a search by another test that says the same of each number
+pub some-ext : (f g : ℕ → Bool) (i n : ℕ) → ((k : ℕ) → i ≤ k → k < i + n → f k ≡ g k) → some f i n ≡ some g i n
+unfolding some
+some-ext f g i zero h = refl
+some-ext f g i (suc n) h = ap₂ _||_ (h i (omega arith) (omega arith)) (some-ext f g (suc i) n (λ k l u. h k (omega arith) (omega arith)))

@@ -58,8 +58,9 @@ fn in_use(
         ≡ «flags_off» → r
         ≡ modeBy rust (lent counts (now (tables .entry)) (now (built .entry)) (now (transfers .entry)) (now (patterns .entry)) d q)) ⌝ }
 {
+    let target = net.target;
     if rust {
-        return arc_flags::use_arc_flags(counts.patterns, net.target, flags_off);
+        return arc_flags::use_arc_flags(counts.patterns, target, flags_off);
     }
     let transfer_runs = query_input::transfer_runs(built, counts);
     let transfer_rows = query_input::transfer_rows(counts, transfers.len());
@@ -71,7 +72,7 @@ fn in_use(
         transfer_rows,
         patterns,
         counts.patterns,
-        net.target,
+        target,
         flags_off,
     )
 }

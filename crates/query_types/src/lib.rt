@@ -7,7 +7,6 @@ ghost use mathlib.Core.Path.{_≡_};
 ghost use Prim.Native.Nat.{_≤_};
 ghost use Rattle.query_types.specs.Layout.{stampsAt, reachAt, restAt, positionsAt, fifoAt, eventsAt, tripStampsAt, boardedOffsetsAt};
 ghost use Rattle.query_types.specs.Layout.{boardedDeparturesAt, lineStampsAt, headsAt, linksAt, leastAt, workSize, layFor, Few};
-use cell_bitset::CellBitSet;
 use delay_rows::Found;
 use door::Settings;
 use tables::Counts;
@@ -92,12 +91,12 @@ pub struct Lengths {
 }
 
 // Where the tables of a query with arc flags stand, and what they are asked: the lines' tables, the query's terms, how many patterns,
-// the target cells; where the transfer runs begin in `built`, and the events before each trip in `work`.
+// the words of the target cells; where the transfer runs begin in `built`, and the events before each trip in `work`.
 pub struct Net {
     pub lined: Lined,
     pub terms: Terms,
     pub patterns: usize,
-    pub target: CellBitSet,
+    pub target: [u64; 8],
     pub runs: usize,
     pub events: usize,
 }

@@ -13,14 +13,12 @@ use Rattle.search_begin.specs.Fill.{egressOf, egressRowFrom}
 use Rattle.query_types.specs.declared.Lined.{Lined}
 use Rattle.target_resolving.specs.Resolving.{linedOf}
 use Rattle.arc_flags.specs.Flags.{egressRows}
-use Rattle.arc_flags.specs.Skipping.{EgressIn}
-use Rattle.cell_bitset.specs.declared.CellBitSet.{CellBitSet}
+use Rattle.arc_flags.specs.Skipping.{targetWords, EgressIn}
 use Rattle.tables.specs.Timetable.{timetable}
 use Rattle.tables.specs.declared.Counts.{Counts}
 use Rattle.delay_rows.specs.Delays.{margin}
 use Rattle.delay_rows.specs.Flat.{delayTables}
 use Rattle.model.specs.Tables.{Tables, Query}
-use Rattle.model.specs.Search.{targetCells}
 use Rattle.query_types.specs.declared.Net.{Net}
 use Rattle.query_types.specs.Layout.{eventsAt, layOf}
 use Rattle.query_types.specs.declared.QueryCounts.{QueryCounts}
@@ -99,8 +97,8 @@ egress-read p e = rw e p
 -- WHERE THE TABLES STAND, read part by part
 pub net-is : (n : QueryCounts) (t built q : List ℕ) (distances : List Float) (x : Lent) → Lends x n t built distances q → querySize n ≤ length q
     → (rows stops egress : List ℕ) → rows ≡ delayRows q n → stops ≡ stopRows q n → egress ≡ egressPart q n
-    → (lined : Lined) (size runs events : ℕ) (target : CellBitSet) → lined ≡ linedOf (n .timetable) (n .lines) → size ≡ margin (delayTables rows stops) (n .settings .«margin_cap»)
-    → ((T : Tables) (Q : Query) → T .timetable ≡ timetable t (n .timetable) → T .cells ≡ n .cells → Q .egress ≡ egressRows egress → target ≡ targetCells T Q)
+    → (lined : Lined) (size runs events : ℕ) (target : List ℕ) → lined ≡ linedOf (n .timetable) (n .lines) → size ≡ margin (delayTables rows stops) (n .settings .«margin_cap»)
+    → ((T : Tables) (Q : Query) → T .timetable ≡ timetable t (n .timetable) → T .cells ≡ n .cells → Q .egress ≡ egressRows egress → target ≡ targetWords T Q)
     → runs ≡ transferRunsAt n → events ≡ eventsAt (layOf n)
     → _≡_ {A = Net}
     (record { lined = lined; terms = record { modes = getD q 4 0; wheelchair = eqb (getD q 5 0) 1; margin = size; «line_scan» = n .settings .«line_scan» }; patterns = n .patterns; target = target; runs = runs; events = events })
@@ -108,7 +106,7 @@ pub net-is : (n : QueryCounts) (t built q : List ℕ) (distances : List Float) (
 net-is n t built q distances x e room rows stops egress er es ee lined size runs events target el em et eu ev =
     let y : Lent = lent n t built (x .transfers) (x .patterns) distances q in
     let m : size ≡ margin (delayTables (delayRows q n) (stopRows q n)) (n .settings .«margin_cap») = em ∙ ap₂ (λ (a b : List ℕ). margin (delayTables a b) (n .settings .«margin_cap»)) er es in
-    let g : target ≡ targetCells (tablesOf y) (queryOf y) = et (tablesOf y) (queryOf y) refl refl (sym (ap egressRows ee ∙ egress-are q n room)) in
+    let g : target ≡ targetWords (tablesOf y) (queryOf y) = et (tablesOf y) (queryOf y) refl refl (sym (ap egressRows ee ∙ egress-are q n room)) in
     (λ i. record {
       lined = el i;
       terms = record { modes = getD q 4 0; wheelchair = eqb (getD q 5 0) 1; margin = m i; «line_scan» = n .settings .«line_scan» };

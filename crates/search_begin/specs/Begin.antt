@@ -10,7 +10,8 @@ use Rattle.tables.specs.Timetable.{timetable}
 use Rattle.line_layout.specs.Layout.{positionIn, lineTripsIn, fifoOf}
 use Rattle.event_transfers.specs.Transfers.{eventsBefore}
 use Rattle.model.specs.Tables.{Tables, Query}
-use Rattle.model.specs.Search.{targetCells, marginOf, newBoardings, begin}
+use Rattle.model.specs.Search.{marginOf, newBoardings, begin}
+use Rattle.arc_flags.specs.Skipping.{targetWords}
 use Rattle.query_types.specs.declared.Lay.{Lay}
 use Rattle.search_state.specs.Places.{Sized, Walks, EgressTable, turned}
 use Rattle.query_types.specs.Layout.{restAt, positionsAt, fifoAt, tripStampsAt, eventsAt, layOf, listRoom}
@@ -38,7 +39,7 @@ netOf x =
       lined = linedOf (x .n .timetable) (x .n .lines);
       terms = termsOf (tablesOf x) (queryOf x);
       patterns = x .n .patterns;
-      target = targetCells (tablesOf x) (queryOf x);
+      target = targetWords (tablesOf x) (queryOf x);
       runs = transferRunsAt (x .n);
       events = eventsAt (layOf (x .n));
     }

@@ -17,7 +17,7 @@ use Rattle.tables.specs.Sane.{Sane}
 use Rattle.departures.specs.declared.StopRun.{StopRun}
 use Rattle.event_transfers.specs.Transfers.{transfersAt}
 use Rattle.model.specs.Tables.{Tables, Query, stopAt}
-use Rattle.model.specs.Search.{Arrivals, targetCells, relax, enqueue}
+use Rattle.model.specs.Search.{Arrivals, relax, enqueue}
 use Rattle.model.specs.Door.{Door}
 use Rattle.query_types.specs.declared.Lay.{Lay}
 use Rattle.query_types.specs.declared.Ride.{Ride}
@@ -26,7 +26,7 @@ use Rattle.search_state.specs.Places.{EgressTable}
 use Rattle.query_types.specs.Layout.{restAt}
 use Rattle.trip_boarding.specs.Reads.{Known, Ground, Agree, Asks}
 use Rattle.target_resolving.specs.Resolving.{LinesHeld, LinesOf}
-use Rattle.arc_flags.specs.Skipping.{Patterned, PatternsOk}
+use Rattle.arc_flags.specs.Skipping.{targetWords, Patterned, PatternsOk}
 use Rattle.query_types.specs.declared.Net.{Net}
 use Rattle.query_types.specs.Slices.{Slices}
 use Rattle.query_types.specs.declared.Context.{Context}
@@ -63,7 +63,7 @@ pub record Nets (ctx : Context) (sl : Slices) (w : List ℕ) (T : Tables) (Q : Q
   pub asks : Asks Q (ctx .net .terms)
   pub lines : LinesOf T (ctx .counts .timetable) (ctx .net .lined) (sl .built) w
   pub patterned : Patterned T (sl .patterns) (ctx .net .patterns)
-  pub target : ctx .net .target ≡ targetCells T Q
+  pub target : ctx .net .target ≡ targetWords T Q
   pub transfers : (i o : ℕ) → i < ctx .counts .timetable .trips → o < countOf (sl .tables) (ctx .counts .timetable) i
       → T .transfers i o ≡ transfersAt (sl .transfers) (eventRunAt (ctx .net) (sl .built) w i o)
 

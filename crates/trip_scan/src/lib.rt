@@ -228,10 +228,11 @@ fn take_transfer(
         (memory (now (work .exit)) (now (labels .exit)) (now («label_distances» .exit)) x) (now (queue .entry)) (now (queue .exit)) ⌝ }
 {
     let at = k * 4;
+    let target = s.context.net.target;
     if !arc_flags::holds_target(
         patterns,
         s.context.net.patterns,
-        s.context.net.target,
+        target,
         words::field(transfers, at + 3),
     ) {
         return h;

@@ -15,8 +15,8 @@ use Rattle.tables.specs.declared.EdgeRow.{EdgeRow}
 use Rattle.tables.specs.Tables.{edgeAt}
 use Rattle.tables.specs.Timetable.{Timetable}
 use Rattle.model.specs.Tables.{Tables, Query, edgeTo, walkTime}
-use Rattle.model.specs.Search.{Arrivals, targetCells, holdsTarget, relax, walkFrom}
-use Rattle.arc_flags.specs.Skipping.{Patterned}
+use Rattle.model.specs.Search.{Arrivals, holdsTarget, relax, walkFrom}
+use Rattle.arc_flags.specs.Skipping.{targetWords, Patterned}
 use Rattle.query_types.specs.declared.Lay.{Lay}
 use Rattle.query_types.specs.declared.Head.{Head}
 use Rattle.search_state.specs.Places.{EgressTable, Same}
@@ -69,7 +69,7 @@ agree-kept s g =
 
 module _ (lay : Lay) (ctx : Context) (stamp x v e : ℕ) (t : List ℕ) (d : List Float) (b w l : List ℕ) (m : List Float) (h : Head)
     (y : EdgeRow) (is : y ≡ edgeAt t (ctx .counts .timetable) e) (D : ℕ) (long : D ≡ effectiveDuration (y .duration) (y .pathway) (ctx .net .terms .wheelchair)) (in-edges : e < ctx .counts .timetable .edges)
-    (off : Bool) (off-is : (T : Tables) (Q : Query) → Patterned T b (ctx .net .patterns) → ctx .net .target ≡ targetCells T Q → off ≡ (ctx .flagged && not (holdsTarget T Q (y .pattern)))) where
+    (off : Bool) (off-is : (T : Tables) (Q : Query) → Patterned T b (ctx .net .patterns) → ctx .net .target ≡ targetWords T Q → off ≡ (ctx .flagged && not (holdsTarget T Q (y .pattern)))) where
   -- the label that a walk along the edge gives
   abbrev pub walkLabel : Label
   walkLabel = Walk (v + D) x (y .to) D (getD d e nan) (stamp - 1)

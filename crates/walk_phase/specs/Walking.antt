@@ -10,8 +10,7 @@ use lib.Ieee.{Float, nan}
 use Rattle.tables.specs.Timetable.{timetable}
 use Rattle.tables.specs.Sane.{Sane, OrderOk}
 use Rattle.model.specs.Tables.{Tables, Query}
-use Rattle.model.specs.Search.{targetCells}
-use Rattle.arc_flags.specs.Skipping.{Patterned}
+use Rattle.arc_flags.specs.Skipping.{targetWords, Patterned}
 use Rattle.query_types.specs.declared.Lay.{Lay}
 use Rattle.search_state.specs.Places.{EgressTable}
 use Rattle.query_types.specs.declared.Context.{Context}
@@ -37,5 +36,5 @@ pub record WalksAgree (lay : Lay) (ctx : Context) (t : List ℕ) (d : List Float
   pub distance : (e : ℕ) → e < ctx .counts .timetable .edges → T .distance e ≡ getD d e nan
   pub wheelchair : Q .wheelchair ≡ ctx .net .terms .wheelchair
   pub patterned : Patterned T b (ctx .net .patterns)
-  pub targets : ctx .net .target ≡ targetCells T Q
+  pub targets : ctx .net .target ≡ targetWords T Q
   pub egress : EgressTable (Q .egress) lay w

@@ -14,13 +14,13 @@ ghost use Rattle.tables.specs.Tables.{edgeOf};
 ghost use Rattle.tables.specs.Sane.{Sane, OrderOk};
 ghost use mathlib.Core.Bool.{not, _&&_};
 ghost use Rattle.model.specs.Tables.{Tables, Query, edgesFrom};
-ghost use Rattle.model.specs.Search.{targetCells, holdsTarget, walkFrom, walkAll};
+ghost use Rattle.model.specs.Search.{holdsTarget, walkFrom, walkAll};
 ghost use Rattle.search_state.specs.Part.{part};
 ghost use Rattle.search_state.specs.Places.{WorkSized, StopsListed, turned, Falls};
 ghost use Rattle.search_state.specs.View.{memory};
 ghost use Rattle.search_state.specs.Step.{Ready, Step};
 ghost use Rattle.walk_phase.specs.Walking.{WalkGround, WalksAgree};
-ghost use Rattle.arc_flags.specs.Skipping.{Patterned, PatternsOk};
+ghost use Rattle.arc_flags.specs.Skipping.{targetWords, Patterned, PatternsOk};
 ghost use Rattle.walk_phase.specs.Lists.{latestWalker, bearing, Appended, WalkPhase};
 ghost use Rattle.query_types.specs.Layout.{listRoom};
 use label::Label;
@@ -33,7 +33,7 @@ use tables::Counts;
 fn skips(ctx: Context, patterns: &[u8], p: usize) -> bool
     requires { ⌜ PatternsOk (now patterns) (ctx .net .patterns) ⌝ }
     ensures { λ r. ⌜ ((T : Tables) (Q : Query) → Patterned T (now (patterns .entry)) (ctx .net .patterns)
-        → ctx .net .target ≡ targetCells T Q → r ≡ (ctx .flagged && not (holdsTarget T Q p))) ⌝ }
+        → ctx .net .target ≡ targetWords T Q → r ≡ (ctx .flagged && not (holdsTarget T Q p))) ⌝ }
 {
     if !ctx.flagged {
         return false;

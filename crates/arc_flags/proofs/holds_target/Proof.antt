@@ -1,7 +1,4 @@
 use Rattle.arc_flags.proofs.Laws.{holds-past, holds-in}
-use Prim.Native.Nat.{ℕ}
-use mathlib.Core.List.{List}
-use mathlib.Core.Path.{ap}
 use denote.Ref.{now}
 use borrow.Author.Needs.{needs}
 use Rattle.arc_flags.proofs.holds_target.Statement.{statement}
@@ -10,15 +7,8 @@ use Rattle.arc_flags.proofs.holds_target.Tie as tie
 returns : tie.Need-returns
 returns c = let s = c .before .before in λ T Q g et. holds-past T Q (now (s .args .patterns)) (s .args .count) g (s .args .p) (c .if1 .taken)
 
-pattern-bytes-requires : tie.Need-pattern-bytes-requires
-pattern-bytes-requires c κs = search needs
-
-intersects-requires : tie.Need-intersects-requires
-intersects-requires c κs = search needs
-
 returns-2 : tie.Need-returns-2
-returns-2 c = let s = c .before .before .before .before in λ T Q g et. holds-in T Q (now (s .args .patterns)) (s .args .count) g (s .args .p) _ (s .args .target) _ (c .before .before .if1 .left) (ap (λ (b : List ℕ). record { bytes = b; reserved = 64 }) (c .before .pattern-bytes .ensures)) et (c .intersects .ensures)
+returns-2 c = λ T Q g et. holds-in T Q (now (c .before .before .before .args .patterns)) (c .before .before .before .args .count) g (c .before .before .before .args .p) (c .before .before .before .args .target) _ (c .before .if1 .left) et (c .row-shares .ensures)
 
 pub holds-target-spec : {M : Type 1} → statement M
-holds-target-spec =
-    tie.close (tie.spec returns pattern-bytes-requires intersects-requires returns-2)
+holds-target-spec = tie.close (tie.spec returns (λ c. search needs) (λ c κs. search needs) returns-2)

@@ -1,6 +1,6 @@
 use Rattle.arc_flags.proofs.Laws.{skipsAt, skips-first, skips-at, some-yes, some-again, some-left}
-use Rattle.arc_flags.specs.Skipping.{Patterned}
-use Rattle.model.specs.Search.{targetCells, skipsEdge}
+use Rattle.arc_flags.specs.Skipping.{targetWords, Patterned}
+use Rattle.model.specs.Search.{skipsEdge}
 use Rattle.model.specs.Tables.{Tables, Query}
 use Rattle.tables.specs.Timetable.{timetable}
 use Rattle.loops.specs.Iter.{someIn}
@@ -14,7 +14,7 @@ use Rattle.arc_flags.proofs.skips_edge.Tie as tie
 
 abbrev Inv-loop : tie.InvT-loop
 Inv-loop tables c patterns count target n k₀ k =
-    (n ≡ c .edges) × ((T : Tables) (Q : Query) → T .timetable ≡ timetable tables c → Patterned T patterns count → target ≡ targetCells T Q → skipsEdge T Q ≡ someIn (skipsAt T Q) k n)
+    (n ≡ c .edges) × ((T : Tables) (Q : Query) → T .timetable ≡ timetable tables c → Patterned T patterns count → target ≡ targetWords T Q → skipsEdge T Q ≡ someIn (skipsAt T Q) k n)
 
 abbrev μ-loop : tie.MeasureT-loop
 μ-loop tables c patterns count target n k₀ k = n - k

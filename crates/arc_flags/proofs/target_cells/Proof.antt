@@ -3,6 +3,7 @@ use Rattle.arc_flags.proofs.Laws.{ahead, ahead-first, ahead-step, ahead
 use Rattle.arc_flags.specs.Flags.{egressRows}
 use Rattle.model.specs.Search.{targetCells}
 use Rattle.model.specs.Tables.{Tables, Query}
+use Rattle.cell_bitset.specs.CellWords.{cellWords}
 use lib.ListN.{length, getD}
 use Prim.Native.Nat.{ℕ, _+_, _*_, _-_, _/_, _<_, _≤_}
 use mathlib.Core.Path.{_≡_, refl, sym, ap, _∙_}
@@ -76,8 +77,11 @@ loop-again c =
     let c₁ = c .before .before .before .before .before .before .before .before .before .before .before in
     let w = c .before .before .before .before .loop in let s = c₁ .before in (w .inv .0, omega arith, w .inv .2, w .inv .3, λ T Q ec en eq. w .inv .4 T Q ec en eq ∙ ahead-step T (now (s .args .egress)) _ (w .i) _ _ _ (c .before .before .before .loop-test .taken) (c .before .field2 .ensures .0 ∙ ap (λ (x : ℕ). getD (now (s .args .tables)) (stopsAt (s .args .c) + x) 0) (c .before .before .field .ensures .0) ∙ sym (ec _)) (c .set-bit .ensures))
 
+words-requires : tie.Need-words-requires Inv-loop μ-loop
+words-requires c κs = search needs
+
 returns : tie.Need-returns Inv-loop μ-loop
-returns c = let w = c .before .loop in let s = c .before .before .before .before .before .before .before .before .before in λ T Q e en eq. ahead-end T (now (s .args .egress)) _ (w .i) _ (c .loop-test .left) ∙ sym (w .inv .4 T Q (cell-is T (now (s .args .tables)) (s .args .c) e) en eq)
+returns c = let s = c .before .before .before .before .before .before .before .before .before .before in λ T Q e en eq. c .words .ensures ∙ ap cellWords (ahead-end T (now (s .args .egress)) _ (c .before .before .loop .i) _ (c .before .loop-test .left) ∙ sym (c .before .before .loop .inv .4 T Q (cell-is T (now (s .args .tables)) (s .args .c) e) en eq))
 
 pub target-cells-spec : {M : Type 1} → statement M
 target-cells-spec =
@@ -103,4 +107,5 @@ target-cells-spec =
     add-i
     loop-less
     loop-again
+    words-requires
     returns)

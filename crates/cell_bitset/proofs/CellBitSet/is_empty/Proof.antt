@@ -5,7 +5,7 @@ use native.Mathlib.Omega.{arith}
 use lib.ListN.{getD}
 use Rattle.loops.specs.Iter.{range}
 use Rattle.loops.proofs.Iter.{range-again, range-left}
-use Rattle.cell_bitset.proofs.Bits.{orWith}
+use Rattle.byte_words.proofs.Words.{orWith}
 use Rattle.cell_bitset.proofs.Laws.{none-gathered}
 use mir.Val.{Fits}
 use mir.Syntax.{w8}
