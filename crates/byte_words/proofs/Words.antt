@@ -3,7 +3,11 @@ use Prim.Native.Nat.{ℕ, zero, suc, _+_, _*_, _-_, _/_, _%_, _^_, _<_, _≤_}
 use mathlib.Core.Path.{_≡_, refl, ap, ap₂, sym, _∙_}
 use mathlib.Core.Bool.{Bool, true, false, not, _||_, or-assoc, or-false}
 use native.Mathlib.Nat.{one-mul, add-zero, add-suc, suc-add, zero-add}
+use mathlib.Core.List.{List}
 use mathlib.Core.Logic.{⊎-elim}
+use mir.Val.{Fits}
+use mir.Syntax.{w8}
+use lib.ListN.{getD}
 use native.Mathlib.Omega.{arith}
 use lib.Dec.{eqb, lit<}
 use lib.Bits.{bitAnd, bitOr, and-shr, and-mod, or-add-and, and-le-l, and-le-r}
@@ -73,6 +77,13 @@ and-word f g p q i (suc n) =
 -- the law over the width: the `and` of two words is 0 exactly where the `and` of every two of their bytes is
 pub word-and : (f g : ℕ → ℕ) → Bytes f → Bytes g → (i n : ℕ) → not (eqb (bitAnd (wordOf f i n) (wordOf g i n)) 0) ≡ some (bothHave f g) i n
 word-and f g p q i n = ap (λ (x : ℕ). not (eqb x 0)) (and-word f g p q i n) ∙ word-some (λ k. bitAnd (f k) (g k)) i n
+
+-- the same of two words that were gathered from slices of bytes
+pub fits-bytes : (l : List ℕ) → ((k : ℕ) → Fits w8 (getD l k 0)) → Bytes (byteIn l)
+fits-bytes l h = record { small = λ k. h k .fits }
+
+pub words-and : (a b : List ℕ) (i : ℕ) {x y : ℕ} → Bytes (byteIn a) → Bytes (byteIn b) → x ≡ wordOf (byteIn a) i 8 → y ≡ wordOf (byteIn b) i 8 → not (eqb (bitAnd x y) 0) ≡ some (bothHave (byteIn a) (byteIn b)) i 8
+words-and a b i p q ex ey = ap₂ (λ (x y : ℕ). not (eqb (bitAnd x y) 0)) ex ey ∙ word-and (byteIn a) (byteIn b) p q i 8
 
 -- WORDS IN A ROW. Some byte of two ranges, one after the other; of so many words
 pub some-split : (p : ℕ → Bool) (i a m : ℕ) → some p i (a + m) ≡ some p i a || some p (i + a) m

@@ -3,14 +3,11 @@ use mathlib.Core.Path.{_≡_, refl, ap, ap₂, sym, _∙_}
 use mathlib.Core.Bool.{not}
 use native.Mathlib.Omega.{arith}
 use borrow.Author.Needs.{needs}
-use mir.Val.{Fits}
-use mir.Syntax.{w8}
 use lib.Dec.{eqb}
-use lib.ListN.{getD}
 use lib.Bits.{bitAnd}
 use Rattle.loops.specs.Iter.{someIn}
 use Rattle.byte_words.specs.ByteWord.{byteIn, bothHave}
-use Rattle.byte_words.proofs.Words.{word-and, word-and-cut, word-yes, word-again, word-left}
+use Rattle.byte_words.proofs.Words.{fits-bytes, words-and, word-and-cut, word-yes, word-again, word-left}
 use Rattle.byte_words.proofs.share_bit.Statement.{statement}
 use Rattle.byte_words.proofs.share_bit.Tie as tie
 
@@ -24,16 +21,14 @@ loop-holds : tie.Need-loop-holds Inv-loop μ-loop
 loop-holds c = (omega arith, omega arith, refl)
 
 returns : tie.Need-returns Inv-loop μ-loop
-returns c =
-    let a = c .before .before .before .before .before .before .before .before .args .t1 in let b = c .before .before .before .before .before .before .before .before .args .t2 in let i = c .before .before .before .before .before .before .before .loop .from in let own : (k : ℕ) → Fits w8 (getD a k 0) = λ k. search needs in let its : (k : ℕ) → Fits w8 (getD b k 0) = λ k. search needs in word-yes _ i _ _ (c .before .before .before .before .before .before .before .loop .inv .2) (ap₂ (λ (x y : ℕ). not (eqb (bitAnd x y) 0)) (c .before .before .before .before .word-at .ensures) (c .before .before .word-at2 .ensures) ∙ word-and (byteIn a) (byteIn b) (record { small = λ k. own k .fits }) (record { small = λ k. its k .fits }) i 8) (c .before .if1 .taken) (omega (arith, c .if2 .taken))
+returns c = let s = c .before .before .before .before .before .before .before .before .args in word-yes _ (c .before .before .before .before .before .before .before .loop .from) _ _ (c .before .before .before .before .before .before .before .loop .inv .2) (words-and (s .t1) (s .t2) (c .before .before .before .before .before .before .before .loop .from) (fits-bytes (s .t1) (λ k. search needs)) (fits-bytes (s .t2) (λ k. search needs)) (c .before .before .before .before .word-at .ensures) (c .before .before .word-at2 .ensures)) (c .before .if1 .taken) (omega (arith, c .if2 .taken))
 
 returns-2 : tie.Need-returns-2 Inv-loop μ-loop
 returns-2 c =
-    let a = c .before .before .before .before .before .before .before .before .before .args .t1 in let b = c .before .before .before .before .before .before .before .before .before .args .t2 in let i = c .before .before .before .before .before .before .before .before .loop .from in let own : (k : ℕ) → Fits w8 (getD a k 0) = λ k. search needs in let its : (k : ℕ) → Fits w8 (getD b k 0) = λ k. search needs in let n = c .before .before .before .before .before .before .before .before .before .args .n in ap (λ (x : ℕ). not (eqb x 0)) (c .first-bytes .ensures ∙ ap₂ (λ (x y : ℕ). bitAnd x y % 2 ^ ((n - i) * 8)) (c .before .before .before .before .before .word-at .ensures) (c .before .before .before .word-at2 .ensures)) ∙ word-and-cut (byteIn a) (byteIn b) (record { small = λ k. own k .fits }) (record { small = λ k. its k .fits }) i (n - i) (c .before .if2 .left) ∙ sym (c .before .before .before .before .before .before .before .before .loop .inv .2)
+    let s = c .before .before .before .before .before .before .before .before .before .args in let k = s .n - c .before .before .before .before .before .before .before .before .loop .from in ap (λ (x : ℕ). not (eqb x 0)) (c .first-bytes .ensures ∙ ap₂ (λ (x y : ℕ). bitAnd x y % 2 ^ (k * 8)) (c .before .before .before .before .before .word-at .ensures) (c .before .before .before .word-at2 .ensures)) ∙ word-and-cut (byteIn (s .t1)) (byteIn (s .t2)) (fits-bytes (s .t1) (λ k. search needs)) (fits-bytes (s .t2) (λ k. search needs)) (c .before .before .before .before .before .before .before .before .loop .from) k (c .before .if2 .left) ∙ sym (c .before .before .before .before .before .before .before .before .loop .inv .2)
 
 loop-again : tie.Need-loop-again Inv-loop μ-loop
-loop-again c =
-    let a = c .before .before .before .before .before .before .before .args .t1 in let b = c .before .before .before .before .before .before .before .args .t2 in let i = c .before .before .before .before .before .before .loop .from in let own : (k : ℕ) → Fits w8 (getD a k 0) = λ k. search needs in let its : (k : ℕ) → Fits w8 (getD b k 0) = λ k. search needs in (omega (arith, c .before .before .before .before .before .before .loop .inv .1), omega (arith, c .before .before .before .before .before .before .loop .inv .1), word-again _ i _ _ (c .before .before .before .before .before .before .loop .inv .2) (ap₂ (λ (x y : ℕ). not (eqb (bitAnd x y) 0)) (c .before .before .before .word-at .ensures) (c .before .word-at2 .ensures) ∙ word-and (byteIn a) (byteIn b) (record { small = λ k. own k .fits }) (record { small = λ k. its k .fits }) i 8) (c .if1 .left) (c .before .before .before .before .before .loop-test .taken))
+loop-again c = let s = c .before .before .before .before .before .before .before .args in (omega (arith, c .before .before .before .before .before .before .loop .inv .1), omega (arith, c .before .before .before .before .before .before .loop .inv .1), word-again _ (c .before .before .before .before .before .before .loop .from) _ _ (c .before .before .before .before .before .before .loop .inv .2) (words-and (s .t1) (s .t2) (c .before .before .before .before .before .before .loop .from) (fits-bytes (s .t1) (λ k. search needs)) (fits-bytes (s .t2) (λ k. search needs)) (c .before .before .before .word-at .ensures) (c .before .word-at2 .ensures)) (c .if1 .left) (c .before .before .before .before .before .loop-test .taken))
 
 returns-3 : tie.Need-returns-3 Inv-loop μ-loop
 returns-3 c = word-left _ (c .before .loop .from) _ (c .before .loop .inv .2) (c .loop-test .left)
