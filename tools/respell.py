@@ -43,7 +43,7 @@ def table(root):
         own = {l.split(":")[0].split()[0] for l in f if ":" in l and not l.startswith("#")}
     for p in files(root, ".antt"):
         t = read(p)
-        for m in re.finditer(r"^(?:pub )?(?:ghost )?use ([\w.+'-]+)(?:\.\{([^}]*)\})?", t, re.M):
+        for m in re.finditer(r"^(?:pub )?(?:ghost )?use ([\w+'-]+(?:\.[\w+'-]+)*)(?:\.\{([^}]*)\})?", t, re.M):
             ps = m.group(1).split(".")
             if not (ps[0] == "Rattle" and len(ps) > 1 and ps[1] in own):
                 lib.update(WORD.findall(m.group(2) or ps[-1]))
