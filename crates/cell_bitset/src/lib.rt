@@ -8,6 +8,7 @@
 // stay whole groups with nothing past them; in proofs/Examples the worked examples.
 // Assumes nothing.
 #![tactic(auto)]
+
 ghost use Rattle.std.specs.Prelude.{◌≡◌, ◌≤◌, min, get_or};
 ghost use Rattle.std.specs.Int.Bits.{bit_or};
 ghost use Rattle.loops.specs.Count.{tab};

@@ -5,6 +5,7 @@
 // Proves: each call's outcome is the defined one, on every input; worked rows (proofs/DelayExamples).
 // Assumes nothing.
 #![tactic(auto)]
+
 ghost use Rattle.std.specs.Prelude.{◌≡◌};
 ghost use Rattle.delay_call.specs.DelayCall.{delay_counts, delay_lengths, delays_door, margin_outcome, told, delay_at_outcome};
 ghost use Rattle.delay_rows.specs.Delays.{margin};

@@ -6,6 +6,7 @@
 // margin is 0; that the margin covers every trip delay and every given stop delay, or is the cap.
 // Assumes nothing.
 #![tactic(auto)]
+
 ghost use Rattle.std.specs.Prelude.{◌≡◌, cond, ◌+◌, ◌*◌, ◌<◌, length, leb};
 ghost use Rattle.loops.specs.Iter.{hit};
 ghost use Rattle.loops.specs.Order.{Halved};

@@ -4,6 +4,7 @@
 // Proves: `departure_order` answers the question; `in_turn` reads each row once, and its yes is a yes to both questions.
 // Assumes nothing.
 #![tactic(auto)]
+
 ghost use Rattle.std.specs.Prelude.{◌≡◌, ◌*◌, ◌≤◌, ◌<◌, true, length, leb};
 ghost use Rattle.tables.specs.Timetable.{timetable};
 ghost use Rattle.tables.specs.Sane.{SlicesOk, CountsOk, RunsOk};

@@ -6,6 +6,7 @@
 // is read; what is read stays as it came.
 // Assumes nothing.
 #![tactic(auto)]
+
 ghost use Rattle.std.specs.Prelude.{◌≡◌, ◌+◌, ◌/◌, ◌≤◌, ◌<◌, ◌-◌, ◌||◌, not, ◌&&◌, length, leb};
 ghost use Rattle.loops.specs.Order.{Halved};
 ghost use Rattle.tables.specs.Timetable.{timetable};

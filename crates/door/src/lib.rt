@@ -7,6 +7,7 @@
 // In proofs/House: what a yes to question 14 gives, each range's ends.
 // Assumes nothing.
 #![tactic(auto)]
+
 ghost use Rattle.std.specs.Prelude.{◌≡◌, ◌&&◌, ◌||◌};
 ghost use Rattle.door.specs.Door.{ask, refusal, success};
 ghost use Rattle.door.specs.Settings.{default_settings, settings_ok, ranges_asked};

@@ -6,6 +6,7 @@
 // (`freq_told`); the worked rows of documents 01 and 02 (proofs/FrequencyExamples).
 // Assumes nothing.
 #![tactic(auto)]
+
 ghost use Rattle.std.specs.Prelude.{◌≡◌, ◌<◌};
 ghost use Rattle.frequency.specs.Gtfs.{window_count, window_in};
 ghost use Rattle.frequency_call.specs.FrequencyCall.{are_times, window_in_range, windows_in_range, freq_in_range, freq_outcome, no_board};

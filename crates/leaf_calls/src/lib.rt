@@ -8,6 +8,7 @@
 // hours, minutes and seconds are; document 01's worked rows (proofs/..Examples).
 // Assumes nothing.
 #![tactic(auto)]
+
 ghost use Rattle.std.specs.Prelude.{◌≡◌, true};
 ghost use Rattle.leaf_calls.specs.ClockCall.{clock_in_range, reading, service_second};
 ghost use Rattle.leaf_calls.specs.StopDelayCall.{time_in_range, departure_outcome, arrival_outcome, skipped_outcome};

@@ -8,6 +8,7 @@
 // in its line, its position is its place there.
 // Assumes nothing.
 #![tactic(auto)]
+
 ghost use Rattle.std.specs.Prelude.{◌≡◌, ◌+◌, ◌*◌, ◌-◌, ◌≤◌, ◌<◌, eqb, length, get_or, set};
 ghost use Rattle.loops.specs.Count.{tab, one};
 ghost use Rattle.loops.specs.Iter.{every_in};

@@ -6,6 +6,7 @@
 // numbered by first trip.
 // Assumes nothing.
 #![tactic(auto)]
+
 ghost use Rattle.std.specs.Prelude.{◌≡◌, ◌+◌, ◌≤◌, ◌<◌, length, get_or};
 ghost use Rattle.loops.specs.Count.{tab};
 ghost use Rattle.loops.specs.Iter.{every_in, range};

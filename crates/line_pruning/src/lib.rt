@@ -6,6 +6,7 @@
 // memory is as it came. proofs/Rounds: the boardings of a new round.
 // Assumes nothing.
 #![tactic(auto)]
+
 ghost use Rattle.std.specs.Prelude.{◌≡◌, ℕ, ◌≤◌, ◌<◌, true, List, length, get_or};
 ghost use Rattle.tables.specs.declared.Counts.{Counts};
 ghost use Rattle.trip_boarding.specs.Reads.{hit_of};

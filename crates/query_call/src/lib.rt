@@ -6,6 +6,7 @@
 // call, or question 8 is answered no. The three demands of the calls: crate `promise`.
 // Assumes nothing.
 #![tactic(auto)]
+
 ghost use Rattle.std.specs.Prelude.{◌≡◌, List, ℕ, ◌/◌, length, Float};
 ghost use Rattle.query_call.specs.Workspace.{workspace_answer};
 ghost use Rattle.search_state.specs.View.{memory};

@@ -6,6 +6,7 @@
 // stays as it came.
 // Assumes nothing.
 #![tactic(auto)]
+
 ghost use Rattle.std.specs.Prelude.{◌≡◌, [], ◌∷◌, ◌+◌, ◌*◌, ◌-◌, ◌≤◌, ◌/◌, ◌<◌, length, get_or, cond, eqb};
 ghost use Rattle.tables.specs.Timetable.{timetable};
 ghost use Rattle.model.specs.Search.{ride_segments, scan_stops};

@@ -6,6 +6,7 @@
 // proofs/Turns: from one phase to the next.
 // Assumes nothing.
 #![tactic(auto)]
+
 ghost use Rattle.std.specs.Prelude.{◌≡◌, Bool, ◌+◌, ◌≤◌, ◌<◌, [], length, get_or, set, replicate};
 ghost use Rattle.label.specs.Label.{no_distance};
 ghost use Rattle.search_state.specs.Places.{WorkSized, Sized, EgressTable, turned};

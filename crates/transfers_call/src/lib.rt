@@ -6,6 +6,7 @@
 // run, read out of the area, is its list of transfers.
 // Assumes nothing.
 #![tactic(auto)]
+
 ghost use Rattle.std.specs.Prelude.{◌≡◌, ◌&&◌, ◌≤◌, ◌<◌, length, get_or};
 ghost use Rattle.loops.specs.Count.{tab};
 ghost use Rattle.door.specs.Settings.{transfer_time_limit};

@@ -5,6 +5,7 @@
 // what it reads; all else in memory is as it came; no stop's earliest arrival rises.
 // Assumes nothing.
 #![tactic(auto)]
+
 ghost use Rattle.std.specs.Prelude.{◌≡◌, [], ◌∷◌, ◌+◌, ◌≤◌, ◌<◌, length, leb, not, ◌&&◌};
 ghost use Rattle.loops.specs.Order.{Halved};
 ghost use Rattle.tables.specs.Tables.{edge_of};

@@ -5,6 +5,7 @@
 // Place: a program; it has no specs.
 // Proves: that it is safe and ends. Assumes the contracts of the kit's io and libc.
 #![tactic(auto)]
+
 mod asking;
 mod building;
 mod k;
