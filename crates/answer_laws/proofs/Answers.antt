@@ -8,7 +8,7 @@ use mathlib.Core.List.{List, [], Memᴰ}
 use native.Mathlib.Nat.{le_refl, le_trans}
 use native.Mathlib.Omega.{arith}
 use lib.Dec.{eqb}
-use borrow.Author.Tests.{eqb_true, eqb-false, eq-eqb, ne_eqb}
+use borrow.Author.Tests.{eqb-true, eqb-false, eq-eqb, ne_eqb}
 use Rattle.loops.proofs.Search.{split}
 use Rattle.walk_time.proofs.Laws.{rounds_most}
 use Rattle.label.specs.declared.Label.TheVariants.{Empty}
@@ -106,7 +106,7 @@ module _ (T : Tables) (Q : Query) where
         }
       where
         go : (x : Bool) → eqb best.0 never ≡ x → (best.0 ≡ never) ⊎ (best.0 ≤ latest_total)
-        go true e = inl (eqb_true _ _ e)
+        go true e = inl (eqb-true _ _ e)
         go false e = inr (early (eqb-false _ _ e))
 
         low : (s d row v : ℕ) → Memᴰ (s, d) Q.egress → row < 13 → reached_by (label_at end s row) ≡ suc v → best.0 ≤ v + d

@@ -10,7 +10,7 @@ use native.Mathlib.Nat.{le_trans}
 use native.Mathlib.Omega.{arith}
 use lib.ListN.{length, get_or, length-set, length-replicate}
 use lib.Dec.{ltb, eqb}
-use borrow.Author.Tests.{eqb_true}
+use borrow.Author.Tests.{eqb-true}
 use Rattle.door.specs.Door.{time_limit}
 use Rattle.loops.proofs.Iter.{and_left}
 use Rattle.walk_time.proofs.Laws.{rounds_most}
@@ -38,7 +38,7 @@ egress_listed (e ∷ es) s h = go (eqb e.0 s) refl h (egress_listed es s)
     go : (b : Bool) → eqb e.0 s ≡ b → elim b as (λ z. Bool) [ true ↦ true | false ↦ is_egress es s ] ≡ true
         → (is_egress es s ≡ true → Memᴰ (s, egress_walk es s) es)
         → Memᴰ (s, elim b as (λ z. ℕ) [ true ↦ e.1 | false ↦ egress_walk es s ]) (e ∷ es)
-    go true q h f = Memᴰ.head (ap (λ (x : ℕ). (x, e.1)) (sym (eqb_true _ _ q)))
+    go true q h f = Memᴰ.head (ap (λ (x : ℕ). (x, e.1)) (sym (eqb-true _ _ q)))
     go false q h f = Memᴰ.tail (f h)
 
 module _ (T : Tables) (Q : Query) where

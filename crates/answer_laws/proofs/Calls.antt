@@ -7,7 +7,7 @@ use mathlib.Core.List.{List, [], ◌∷◌, Memᴰ}
 use native.Mathlib.Omega.{arith}
 use lib.ListN.{length, get_or, replicate, length-append, get_or-replicate}
 use lib.Dec.{ltb, eqb}
-use borrow.Author.Tests.{ltb_true, eq-eqb}
+use borrow.Author.Tests.{ltb-true, eq-eqb}
 use Rattle.sorts.specs.Orders.{All, nil, cons}
 use Rattle.label.specs.declared.Label.{Label}
 use Rattle.label.specs.declared.Label.TheVariants.{Empty}
@@ -34,7 +34,7 @@ module _ (T : Tables) (Q : Query) where
       go true l f r = r b
       go false false f r = r b
       go false true f r =
-          let h : at a e.0 + e.1 < b.0 = ltb_true (at a e.0 + e.1) b.0 f in
+          let h : at a e.0 + e.1 < b.0 = ltb-true (at a e.0 + e.1) b.0 f in
           inr (⊎_elim (λ q. omega (arith, ap (λ (c : ℕ × ℕ). c.0) q, h))
           (λ (q : (best_target T Q a es (at a e.0 + e.1, e.0)).0 < at a e.0 + e.1). omega arith) (r (at a e.0 + e.1, e.0)))
 

@@ -8,7 +8,7 @@ use mathlib.Core.List.{List, [], ◌∷◌, Memᴰ}
 use native.Mathlib.Nat.{le_refl}
 use native.Mathlib.Omega.{arith}
 use lib.Dec.{ltb, leb, eqb}
-use borrow.Author.Tests.{ltb_true, ltb-false, leb-true, eqb-false, ne_eqb, lt_ltb, le_leb}
+use borrow.Author.Tests.{ltb-true, ltb-false, leb-true, eqb-false, ne_eqb, lt-ltb, le-leb}
 use Rattle.loops.proofs.Iter.{and_left, and_right}
 use Rattle.loops.proofs.Search.{split}
 use Rattle.model.specs.Tables.{Tables, Query, never}
@@ -92,7 +92,7 @@ target_least f (e ∷ es) b = go (f e.0) refl (target_least f es b) (λ v. targe
     pick : (v : ℕ) → f e.0 ≡ suc v → (t : Bool) → ltb (v + e.1) b.0 ≡ t → Least f es b (target f es b)
         → Least f es (v + e.1, e.0) (target f es (v + e.1, e.0))
         → Least f (e ∷ es) b (elim t [ true ↦ target f es (v + e.1, e.0) | false ↦ target f es b ])
-    pick v q true k L M = here v q (ltb_true _ _ k) M
+    pick v q true k L M = here v q (ltb-true _ _ k) M
     pick v q false k L M = other (suc v) q (λ u r. let x : suc v ≡ suc u = r in omega (arith, L.start, ltb-false (v + e.1) b.0 k)) L
 
     go : (n : ℕ) → f e.0 ≡ n → Least f es b (target f es b) → ((v : ℕ) → Least f es (v + e.1, e.0) (target f es (v + e.1, e.0)))
@@ -263,7 +263,7 @@ module _ (T : Tables) (Q : Query) (a : Arrivals) where
               | true ↦ ((row_best r).0, (row_best r).1, r) ∷ from k (suc r) (row_best r).0
               | false ↦ from k (suc r) bound
             ]) []
-        go true e p = absurd (omega (arith, ltb_true (row_best r).0 bound (and_left _ _ e), row_late r (omega arith)))
+        go true e p = absurd (omega (arith, ltb-true (row_best r).0 bound (and_left _ _ e), row_late r (omega arith)))
         go false e p = p
 
     -- the last candidate's total is the best one
@@ -295,8 +295,8 @@ module _ (T : Tables) (Q : Query) (a : Arrivals) where
             (subst (λ (z : ℕ). Last best.0 ((z, (row_best r).1, r) ∷ [])) (sym (here c)) (last (row_best r).1 r))
         go false t (inl c) on = on bound h (later c)
         go false t (inr c) on =
-            let near = le_leb (row_best r).0 (best.0 + Q.settings.candidate_slack) (omega arith) in
-            absurd (no_both (both _ _ (lt_ltb (row_best r).0 bound (omega arith)) near) t)
+            let near = le-leb (row_best r).0 (best.0 + Q.settings.candidate_slack) (omega arith) in
+            absurd (no_both (both _ _ (lt-ltb (row_best r).0 bound (omega arith)) near) t)
 
     -- totals fall and rows rise
     pub sinks : (k r bound : ℕ) → Sinks bound r (from k r bound)
@@ -307,7 +307,7 @@ module _ (T : Tables) (Q : Query) (a : Arrivals) where
         go : (x : Bool) → taken r bound ≡ x → Sinks (row_best r).0 (suc r) (from k (suc r) (row_best r).0)
             → Sinks bound (suc r) (from k (suc r) bound)
             → Sinks bound r (elim x [ true ↦ ((row_best r).0, (row_best r).1, r) ∷ from k (suc r) (row_best r).0 | false ↦ from k (suc r) bound ])
-        go true e p q = next (ltb_true _ _ (and_left _ _ e)) (le_refl r) p
+        go true e p q = next (ltb-true _ _ (and_left _ _ e)) (le_refl r) p
         go false e p q = sinks_low q
 
     -- each is one
@@ -320,7 +320,7 @@ module _ (T : Tables) (Q : Query) (a : Arrivals) where
         one : taken r bound ≡ true → Candidate Q a.labels best.0 (row_best r).0 (row_best r).1 r
         one e =
             let near = leb (row_best r).0 (best.0 + Q.settings.candidate_slack) in
-            let b = ltb_true (row_best r).0 bound (and_left (ltb (row_best r).0 bound) near e) in
+            let b = ltb-true (row_best r).0 bound (and_left (ltb (row_best r).0 bound) near e) in
             ⊎_elim
             (λ z. let x : (row_best r).0 ≡ never = ap (λ (z : ℕ × ℕ). z.0) z in absurd (omega arith))
             (λ w. record {
@@ -345,6 +345,6 @@ module _ (T : Tables) (Q : Query) (a : Arrivals) where
         go true e on i =
             ⊎_elim
             (λ z. subst (λ (c : ℕ × ℕ × ℕ). Candidate Q a.labels best.0 c.0 c.1 c.2 × (c.2 < suc k + r)) (sym z) (one e, omega arith))
-            (λ j. up (on (row_best r).0 (omega (arith, ltb_true (row_best r).0 bound (and_left _ _ e))) j))
+            (λ j. up (on (row_best r).0 (omega (arith, ltb-true (row_best r).0 bound (and_left _ _ e))) j))
             (Memᴰ.cases_cons i)
         go false e on i = up (on bound h i)

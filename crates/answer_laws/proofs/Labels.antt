@@ -6,7 +6,7 @@ use native.Mathlib.Omega.{arith}
 use lib.ListN.{length, length-set, length-replicate}
 use lib.Dec.{eqb}
 use lib.Ieee.{Float}
-use borrow.Author.Tests.{eqb_true}
+use borrow.Author.Tests.{eqb-true}
 use Rattle.door.specs.Door.{time_limit}
 use Rattle.walk_time.proofs.Laws.{duration_most}
 use Rattle.stop_delay.specs.Times.{size_of}
@@ -39,7 +39,7 @@ module _ (T : Tables) (Q : Query) where
     edge_in : (x e : ℕ) → Memᴰ e (edges_from T x) → ((T.timetable.edge e).from ≡ x) × (e < T.timetable.edges)
     unfolding edges_from
     edge_in x e m =
-        let k = keep_in (λ k. eqb (T.timetable.edge k).from x) e _ m in (eqb_true _ _ k.0, omega (arith, upto_in 0 T.timetable.edges e k.1))
+        let k = keep_in (λ k. eqb (T.timetable.edge k).from x) e _ m in (eqb-true _ _ k.0, omega (arith, upto_in 0 T.timetable.edges e k.1))
 
     pub begins_shift : (g : Segment) → Begins T Q g → size_of g.shift ≤ time_limit
     begins_shift g G =

@@ -9,7 +9,7 @@ use mathlib.Core.Option.{Option, none, some}
 use native.Mathlib.Omega.{arith}
 use lib.ListN.{get_or, set}
 use lib.Dec.{ltb, leb, eqb}
-use borrow.Author.Tests.{ltb_true}
+use borrow.Author.Tests.{ltb-true}
 use Rattle.loops.specs.Iter.{Hit}
 use Rattle.loops.specs.Count.{tab_from, upto}
 use Rattle.loops.proofs.Iter.{and_left, and_right}
@@ -161,7 +161,7 @@ module _ (T : Tables) (Q : Query) where
               ])
           last true i = let u : ltb (trip p) (trips T) ≡ true = and_left (ltb (trip p) (trips T)) (ltb o (stop_count T (trip p))) e in
               let w : ltb o (stop_count T (trip p)) ≡ true = and_right (ltb (trip p) (trips T)) (ltb o (stop_count T (trip p))) e in
-              there {b = (trip p, g)} (ltb_true (trip p) (trips T) u) (ltb_true o (stop_count T (trip p)) w)
+              there {b = (trip p, g)} (ltb-true (trip p) (trips T) u) (ltb-true o (stop_count T (trip p)) w)
           last false true = nowhere
           last false false = r false
 
@@ -402,7 +402,7 @@ module _ (T : Tables) (Q : Query) {R J : ℕ → Type 0} where
     read_in x d m = go (ltb x (stops T)) refl m
       where
         go : (b : Bool) → ltb x (stops T) ≡ b → Memᴰ d (elim b [ true ↦ T.departures x | false ↦ [] ]) → R d.trip
-        go true e m = F.listed_in x d (ltb_true x (stops T) e) m
+        go true e m = F.listed_in x d (ltb-true x (stops T) e) m
         go false e m = absurd (Memᴰ.not-nil m)
 
     -- the departure scan

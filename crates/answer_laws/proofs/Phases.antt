@@ -8,7 +8,7 @@ use mathlib.Core.Option.{Option, none, some}
 use native.Mathlib.Omega.{arith}
 use lib.ListN.{get_or, set, length-set}
 use lib.Dec.{ltb, leb, eqb}
-use borrow.Author.Tests.{ltb_true, eqb_true, eqb-false}
+use borrow.Author.Tests.{ltb-true, eqb-true, eqb-false}
 use Rattle.door.specs.Door.{time_limit}
 use Rattle.loops.specs.Iter.{Hit}
 use Rattle.loops.proofs.Iter.{and_left, and_right}
@@ -25,7 +25,7 @@ use Rattle.model.specs.Tables.{Tables, Query, trips, stop_count, stop_at, depart
 use Rattle.model.specs.Search.{Segment, Arrivals, at, reached_by, delay_of, skipped, board_at, arrival_now, best_after, margin_of, holds_target, line_at, improve, relax, resolve_in, line_trips_at, resolve, enqueue, take_transfers, alightings, transferring, scan_trip_forward}
 use Rattle.model.specs.Door.{Door}
 use Rattle.answer_laws.specs.Lawful.{Boarded, Begins, Leaves, left_at}
-use Rattle.model.proofs.Base.{or_false}
+use Rattle.model.proofs.Base.{or-false}
 use Rattle.answer_laws.proofs.Steps.{Rides, alighted, changed, again, anew, Improved, Steps, improved, queued}
 
 module _ (T : Tables) (Q : Query) where
@@ -43,7 +43,7 @@ module _ (T : Tables) (Q : Query) where
         seg_queue = a.seg_queue;
         seg_reach = a.seg_reach;
       })
-      go true e = record { labels = refl; earliest = refl; best = refl; lists = again (eqb_true _ _ e) refl refl; queue = refl; reaches = refl }
+      go true e = record { labels = refl; earliest = refl; best = refl; lists = again (eqb-true _ _ e) refl refl; queue = refl; reaches = refl }
       go false e =
           record { labels = refl; earliest = refl; best = refl; lists = anew (inl (eqb-false _ _ e)) refl refl; queue = refl; reaches = refl }
 
@@ -54,7 +54,7 @@ module _ (T : Tables) (Q : Query) where
     relax_steps {b} s v l j e S = go (ltb v (at b s)) refl
       where
         go : (x : Bool) → ltb v (at b s) ≡ x → Steps T Q J stamp a (cond x (improve T Q stamp s v l b) b)
-        go true h = improved s v l S j e (ltb_true _ _ h) (improve_does stamp s v l b)
+        go true h = improved s v l S j e (ltb-true _ _ h) (improve_does stamp s v l b)
         go false h = S
 
     pub enqueue_steps : {b : Arrivals} (t o s shift : ℕ) → Begins T Q (record { trip = t; offset = o; stop = s; shift = shift })
@@ -124,12 +124,12 @@ module _ (T : Tables) (Q : Query) where
           ])
       go₂ rest h n Nothing e = rest is_fifo
       go₂ rest h n (Board b) e =
-          let m = or_false (not (usable T Q t) || no_pickup T t o) (skipped T Q (delay_of Q t) t o) n in
+          let m = or-false (not (usable T Q t) || no_pickup T t o) (skipped T Q (delay_of Q t) t o) n in
           go₃ rest (ltb b.departure best) is_fifo b
           (record {
-            trip = ltb_true t (trips T) (and_left (ltb t (trips T)) (ltb o (stop_count T t)) h);
-            inside = ltb_true o (stop_count T t) (and_right (ltb t (trips T)) (ltb o (stop_count T t)) h);
-            pickup = (or_false (not (usable T Q t)) (no_pickup T t o) m.0).1;
+            trip = ltb-true t (trips T) (and_left (ltb t (trips T)) (ltb o (stop_count T t)) h);
+            inside = ltb-true o (stop_count T t) (and_right (ltb t (trips T)) (ltb o (stop_count T t)) h);
+            pickup = (or-false (not (usable T Q t)) (no_pickup T t o) m.0).1;
             served = m.1;
             after = after;
             boards = e;
@@ -252,7 +252,7 @@ module _ (T : Tables) (Q : Query) where
           go true h y on = on b S
           go false h false on = S
           go false h true on =
-              let d = or_false (no_drop_off T g.trip p) (skipped T Q adj g.trip p) h in
+              let d = or-false (no_drop_off T g.trip p) (skipped T Q adj g.trip p) h in
               on (relax T Q stamp (stop_at T g.trip p) (arrives p) l b)
               (relax_steps (stop_at T g.trip p) (arrives p) l
               (alighted g p G (record { permits = W; later = u; inside = omega arith; drop_off = d.0 }) d.1) refl S)

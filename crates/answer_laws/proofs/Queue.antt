@@ -9,9 +9,9 @@ use mathlib.Core.List.{List, [], ◌∷◌, ◌++◌, append_assoc, append-nil, 
 use native.Mathlib.Nat.{le_refl}
 use native.Mathlib.Omega.{arith}
 use lib.ListN.{length, get_or, set}
-use lib.Seq.{get_or_set_other}
+use lib.Seq.{get_or-set_other}
 use lib.Dec.{ltb, eqb}
-use borrow.Author.Tests.{ltb_true, eqb_true, eqb-false, ne_eqb}
+use borrow.Author.Tests.{ltb-true, eqb-true, eqb-false, ne_eqb}
 use Rattle.loops.specs.Count.{one, tab, tab_from}
 use Rattle.model.specs.Tables.{Tables, Query, rounds_of, trips, stop_count, no_windows}
 use Rattle.model.specs.Door.{Door}
@@ -43,7 +43,7 @@ added_one k i (suc n) l u = go (eqb k i) refl (added_one k (suc i) n)
   where
     go : (b : Bool) → eqb k i ≡ b → (suc i ≤ k → k < suc i + n → added (tab_from (λ t. one (eqb k t)) (suc i) n) ≡ 1)
         → one b + added (tab_from (λ t. one (eqb k t)) (suc i) n) ≡ 1
-    go true e r = omega (arith, added_none (λ t. one (eqb k t)) (suc i) n (λ t h. ap one (ne_eqb k t (λ (z : k ≡ t). omega (arith, eqb_true k i e)))))
+    go true e r = omega (arith, added_none (λ t. one (eqb k t)) (suc i) n (λ t h. ap one (ne_eqb k t (λ (z : k ≡ t). omega (arith, eqb-true k i e)))))
     go false e r = let z : (k ≡ i → ⊥) = eqb-false k i e in let q = r (omega arith) (omega arith) in omega arith
 
 added_member : (l : List ℕ) (x : ℕ) → Memᴰ x l → x ≤ added l
@@ -91,15 +91,15 @@ module _ (T : Tables) (Q : Query) where
           → of_trip u a.seg_queue + one b + min (get_or (set a.seg_reach t o) u 0) (stop_count T u) ≤ of_trip u a.seg_queue + left T u a
       lower l true e =
           subst (λ (u : ℕ). of_trip u a.seg_queue + 1 + min (get_or (set a.seg_reach t o) u 0) (stop_count T u) ≤ of_trip u a.seg_queue + left T u a)
-          (eqb_true t u e) (omega (arith, set_lower a.seg_reach t o l))
-      lower l false e = omega (arith, get_or_set_other a.seg_reach t u o 0 (λ z. eqb-false t u e (sym z)))
+          (eqb-true t u e) (omega (arith, set_lower a.seg_reach t o l))
+      lower l false e = omega (arith, get_or-set_other a.seg_reach t u o 0 (λ z. eqb-false t u e (sym z)))
 
       go : (w : Bool) → w ≡ true → (b : Bool) → ltb o (get_or a.seg_reach t 0) ≡ b
           → let n : Arrivals = elim (not w || b) [ false ↦ a | true ↦ pushed T Q w t o s shift a ] in
           of_trip u n.seg_queue + min (get_or n.seg_reach u 0) (stop_count T u) ≤ of_trip u a.seg_queue + left T u a
       go true e false l = le_refl _
       go true e true l =
-          omega (arith, of_append u a.seg_queue (record { trip = t; offset = o; stop = s; shift = shift }), lower (ltb_true _ _ l) (eqb t u) refl)
+          omega (arith, of_append u a.seg_queue (record { trip = t; offset = o; stop = s; shift = shift }), lower (ltb-true _ _ l) (eqb t u) refl)
       go false e b l = absurd (let z : ◌≡◌ {A = ℕ} 0 1 = cc in omega arith)
 
   -- moves add to the queue and take nothing from it

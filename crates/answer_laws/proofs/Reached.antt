@@ -8,9 +8,9 @@ use mathlib.Core.List.{List, [], ◌∷◌, ◌++◌, append_assoc, append-nil, 
 use native.Mathlib.Nat.{le_refl, eq-or-lt_of_le}
 use native.Mathlib.Omega.{arith}
 use lib.ListN.{length, get_or, set, length-append, length-set, replicate, length-replicate}
-use lib.Seq.{get_or-set_same, get_or_set_other}
+use lib.Seq.{get_or-set_same, get_or-set_other}
 use lib.Dec.{ltb, eqb}
-use borrow.Author.Tests.{eqb_true, eqb-false, eq-eqb, ne_eqb}
+use borrow.Author.Tests.{eqb-true, eqb-false, eq-eqb, ne_eqb}
 use Rattle.loops.specs.Count.{one, count}
 use Rattle.loops.proofs.Count.{count_le_n, count_ext}
 use Rattle.model.specs.Tables.{Tables, Origin, Query, stops, no_windows}
@@ -149,7 +149,7 @@ module _ (T : Tables) where
               length-append xs (s ∷ []),
               count_more (λ x. eqb (get_or ss x 0) stamp) (λ x. eqb (get_or (set ss s stamp) x 0) stamp) s
                   (stops T) h (ne_eqb (get_or ss s 0) stamp n) (eq-eqb (get_or (set ss s stamp) s 0) stamp there)
-                  (λ k e. ap (λ (z : ℕ). eqb z stamp) (get_or_set_other ss s k stamp 0 e)),
+                  (λ k e. ap (λ (z : ℕ). eqb z stamp) (get_or-set_other ss s k stamp 0 e)),
             );
       }
     where
@@ -338,6 +338,6 @@ module _ (T : Tables) (Q : Query) (D : Door T Q) (flagged : Bool) where
       go : (b c : Bool) → eqb (length xs) 0 ≡ b
           → Neat T (elim (b && c) as
           (λ z. State) [ true ↦ begin T Q | false ↦ rounds T Q flagged n 1 (round_of T Q flagged 0 (begin T Q)) ]).arrivals.reached
-      go true true e = neat_empty T xs (eqb_true (length xs) 0 e)
+      go true true e = neat_empty T xs (eqb-true (length xs) 0 e)
       go true false e = onward n 1 (round_of T Q flagged 0 (begin T Q)) (later 0 (begin T Q) (begin_before T Q))
       go false c e = onward n 1 (round_of T Q flagged 0 (begin T Q)) (later 0 (begin T Q) (begin_before T Q))

@@ -8,7 +8,7 @@ use native.Mathlib.Nat.{le_trans}
 use native.Mathlib.Omega.{arith}
 use lib.ListN.{get_or}
 use lib.Dec.{eqb}
-use borrow.Author.Tests.{eqb_true, eqb-false}
+use borrow.Author.Tests.{eqb-true, eqb-false}
 use Rattle.label.specs.declared.Label.{Label}
 use Rattle.label.specs.declared.Label.TheVariants.{Empty}
 use Rattle.label.specs.Table.{record_of}
@@ -111,7 +111,7 @@ module _ (T : Tables) (Q : Query) where
 
         go : (t : Bool) → eqb x s ≡ t → Known stamp a x → Known stamp b x
         go true q k =
-            subst (Known stamp b) (sym (eqb_true x s q)) (reached (stamp - 1) (omega (arith, one)) (ap reached_by here ∙ e ∙ ap suc (sym at_here)))
+            subst (Known stamp b) (sym (eqb-true x s q)) (reached (stamp - 1) (omega (arith, one)) (ap reached_by here ∙ e ∙ ap suc (sym at_here)))
         go false q (unreached n f) = let k = eqb-false x s q in unreached (same k ∙ n) (λ row c. old k row c ∙ f row c)
         go false q (reached row c f) = let k = eqb-false x s q in reached row c (ap reached_by (old k row (omega arith)) ∙ f ∙ ap suc (sym (same k)))
 

@@ -9,7 +9,7 @@ use native.Mathlib.Nat.{le_trans}
 use native.Mathlib.Omega.{arith}
 use lib.ListN.{length, get_or, set, length-append}
 use lib.Dec.{ltb, leb, eqb}
-use borrow.Author.Tests.{ltb_true, ltb-false}
+use borrow.Author.Tests.{ltb-true, ltb-false}
 use Rattle.frequency.specs.declared.BoardedRun.{BoardedRun}
 use Rattle.frequency.specs.declared.FreqBoard.{FreqBoard}
 use Rattle.frequency.specs.declared.FreqBoard.TheVariants.{Nothing, Board}
@@ -21,8 +21,8 @@ use Rattle.model.specs.Tables.{Tables, Origin, Query, rounds_of, change_before, 
 use Rattle.model.specs.Search.{Segment, Arrivals, State, at, delay_of, skipped, board_at, margin_of, holds_target, departures_at, mark_at, not_before, relax, best_after, scan_trip_forward, logged, ride_segments, pruned, passed_over, boarding, board, scan_departures, scan_stops, walk_from, walk_all, emptied, round_start, ride_phase, stamped, walk_phase, idle, rounds, set_out, access, new_arrivals, begin, final}
 use Rattle.model.specs.Door.{Door}
 use Rattle.answer_laws.specs.Lawful.{Boarded, Begins}
-use Rattle.answer_laws.proofs.Stores.{not_false}
-use Rattle.model.proofs.Base.{or_false}
+use Rattle.answer_laws.proofs.Stores.{not-false}
+use Rattle.model.proofs.Base.{or-false}
 use Rattle.answer_laws.proofs.Steps.{anew, Rides, Why, origin, foot, Steps, stay, improved, heard, Ended, Run, begun, round, Boards, none, listed, segment, Books, new, steps_le, steps_reached, steps_queue}
 use Rattle.answer_laws.proofs.Phases.{relax_steps, scan_on}
 
@@ -57,7 +57,7 @@ module _ (T : Tables) (Q : Query) (D : Door T Q) where
     where
       go : (b : Bool) → ltb x (stops T) ≡ b → Memᴰ d (elim b [ true ↦ T.departures x | false ↦ [] ]) → Listed T Q x d
       go true e m =
-          let u = ltb_true x (stops T) e in record { trip = D.listed_trip x d u m; inside = D.listed_offset x d u m; stop = D.listed_stop x d u m }
+          let u = ltb-true x (stops T) e in record { trip = D.listed_trip x d u m; inside = D.listed_offset x d u m; stop = D.listed_stop x d u m }
       go false e m = absurd (Memᴰ.not-nil m)
 
   pub later_at_stop : (m : ℕ) (d : DepartureRow) (ds : List DepartureRow) → Memᴰ d (not_before T m ds) → Memᴰ d ds
@@ -97,11 +97,11 @@ module _ (T : Tables) (Q : Query) (D : Door T Q) where
       go true h y e = passed
       go false h Nothing e = passed
       go false h (Board b) e =
-          let i = or_false ((not (permitted T Q t) || pruned T Q (delay_of Q t) t o s.boardings) || no_pickup T t o) (skipped T Q (delay_of Q t) t o) h in
-          let j = or_false (not (permitted T Q t) || pruned T Q (delay_of Q t) t o s.boardings) (no_pickup T t o) i.0 in
-          let k = or_false (not (permitted T Q t)) (pruned T Q (delay_of Q t) t o s.boardings) j.0 in
+          let i = or-false ((not (permitted T Q t) || pruned T Q (delay_of Q t) t o s.boardings) || no_pickup T t o) (skipped T Q (delay_of Q t) t o) h in
+          let j = or-false (not (permitted T Q t) || pruned T Q (delay_of Q t) t o s.boardings) (no_pickup T t o) i.0 in
+          let k = or-false (not (permitted T Q t)) (pruned T Q (delay_of Q t) t o s.boardings) j.0 in
           last (leb s.arrivals.best b.departure || passed_over T Q stamp t o b.departure s.boardings) b
-          (taken (not_false (permitted T Q t) k.0) (record { trip = u; inside = n; pickup = j.1; served = i.1; after = after; boards = e }))
+          (taken (not-false (permitted T Q t) k.0) (record { trip = u; inside = n; pickup = j.1; served = i.1; after = after; boards = e }))
 
   module _ (flagged : Bool) (r : ℕ) (s₀ : State) where
     abbrev stamp : ℕ
@@ -346,7 +346,7 @@ module _ (T : Tables) (Q : Query) (D : Door T Q) where
             }
           ])
       go true e =
-          improved o.stop v l S (origin o m) refl (ltb_true _ _ e)
+          improved o.stop v l S (origin o m) refl (ltb-true _ _ e)
           (record {
             labels = refl;
             earliest = refl;

@@ -74,6 +74,6 @@ upto_in i zero x m = absurd (Memᴰ.not-nil m)
 upto_in i (suc n) x m = ⊎_elim (λ q. omega (arith, q)) (λ k. omega (arith, upto_in (suc i) n x k)) (Memᴰ.cases_cons m)
 
 -- tests
-pub not_false : (a : Bool) → not a ≡ false → a ≡ true
-not_false true e = refl
-not_false false e = absurd (no_both refl e)
+pub not-false : (a : Bool) → not a ≡ false → a ≡ true
+not-false true e = refl
+not-false false e = absurd (no_both refl e)

@@ -9,7 +9,7 @@ use native.Mathlib.Nat.{le_refl}
 use native.Mathlib.Omega.{arith}
 use lib.ListN.{get_or}
 use lib.Dec.{ltb, eqb}
-use borrow.Author.Tests.{ltb_true, ltb-false, eq-eqb, ne_eqb}
+use borrow.Author.Tests.{ltb-true, ltb-false, eq-eqb, ne_eqb}
 use Rattle.model.specs.Tables.{Tables, Query, is_egress, egress_walk, never, stops}
 use Rattle.model.specs.Search.{Arrivals, at, best_after, best_target, final, search_answer}
 use Rattle.model.specs.Door.{Door, EgressRising, none, more}
@@ -71,7 +71,7 @@ module _ (T : Tables) (Q : Query) (D : Door T Q) where
       go : (x : Bool) → is_egress Q.egress s ≡ x → (y : Bool) → ltb (v + egress_walk Q.egress s) b ≡ y
           → After s v b (cond (x && y) (v + egress_walk Q.egress s) b)
       go true e true h =
-          record { falls = omega (arith, ltb_true (v + egress_walk Q.egress s) b h); counts = λ d m. omega (arith, walk_is d m); is = inr (e, refl) }
+          record { falls = omega (arith, ltb-true (v + egress_walk Q.egress s) b h); counts = λ d m. omega (arith, walk_is d m); is = inr (e, refl) }
       go true e false h =
           record { falls = le_refl b; counts = λ d m. omega (arith, walk_is d m, ltb-false (v + egress_walk Q.egress s) b h); is = inl refl }
       go false e y h = record { falls = le_refl b; counts = λ d m. absurd (no_both (egress_one D.egress_rising s d m).0 e); is = inl refl }

@@ -7,7 +7,7 @@ use native.Mathlib.Omega.{arith}
 use native.Mathlib.Numerals.{add-one}
 use lib.ListN.{length, get_or}
 use lib.Dec.{ltb, leb, eqb}
-use borrow.Author.Tests.{lt_ltb, le-ltb, le_leb, lt-leb, leb-true, ltb_true, ltb-false}
+use borrow.Author.Tests.{lt-ltb, le-ltb, le-leb, lt-leb, leb-true, ltb-true, ltb-false}
 use Rattle.loops.specs.Iter.{some, some_in, first_in, found_or, Hit, hit, miss}
 use Rattle.loops.specs.Count.{tab_from, count, one}
 use Rattle.loops.proofs.Iter.{and_left, and_right, first_found, first_none, some_at, some_none, some_found, some_ext}
@@ -80,7 +80,7 @@ module _ (T : Tables) (Q : Query) (patterns : List ℕ) (count : ℕ) (g : Patte
       let t = target_cells T Q in
       er (byte_of t) (target_bytes T Q) et
       ∙ meets_row (λ i. byte_in patterns (p * 64 + i)) (T.pattern p) t (target_bytes T Q) (g.pattern p h)
-      ∙ holds_as true (ap (ltb p) g.size ∙ lt_ltb p count h)
+      ∙ holds_as true (ap (ltb p) g.size ∙ lt-ltb p count h)
 
 pub flags_is : (T : Tables) (Q : Query) (count : ℕ) (target : List ℕ) (off a b r : Bool) → T.patterns ≡ count → Q.flags_off ≡ off → target ≡ target_words T Q
     → ((g : ℕ → ℕ) → target ≡ words_of g → a ≡ not (some_in (has_bit g) 0 64)) → b ≡ (not a && not (eqb count 0)) → r ≡ (b && not off) → r ≡ use_arc_flags T Q
@@ -182,7 +182,7 @@ count_grows f a m = go (some_in (λ k. f (a + k)) 0 m) refl
     go true e =
         let p = some_found (λ k. f (a + k)) 0 (m - 0) e in
         let u : a + p.at < a + m = omega (arith, p.high) in
-        lt_ltb (count f a) (count f (a + m)) (omega (arith, count_mono f a p.at, count_lt f (a + p.at) (a + m) u p.passes))
+        lt-ltb (count f a) (count f (a + m)) (omega (arith, count_mono f a p.at, count_lt f (a + p.at) (a + m) u p.passes))
     go false e = le-ltb (count f a) (count f (a + m)) (omega (arith, count_none f a m (λ k l. some_none_at (λ j. f (a + j)) m k e l)))
 
 -- the search for the first row that is skipped
@@ -243,7 +243,7 @@ module _ (T : Tables) (Q : Query) (runs area : List ℕ) (h : Transferring T run
       let p = some_found (run_has runs k) 0 (length runs / 2 - 0) s in
       let e = p.at in
       let l = leb-true (event_run_first runs e) k (and_left (leb (event_run_first runs e) k) (ltb k (event_run_first runs e + event_run_length runs e)) p.passes) in
-      let u = ltb_true k (event_run_first runs e + event_run_length runs e) (and_right (leb (event_run_first runs e) k) (ltb k (event_run_first runs e + event_run_length runs e)) p.passes) in
+      let u = ltb-true k (event_run_first runs e + event_run_length runs e) (and_right (leb (event_run_first runs e) k) (ltb k (event_run_first runs e + event_run_length runs e)) p.passes) in
       let z : k ≡ event_run_first runs e + (k - event_run_first runs e) = omega (arith, l) in
       let y : run_some (row_skipped T Q area) runs e ≡ true =
       some_at (λ j. row_skipped T Q area (event_run_first runs e + j)) 0 (event_run_length runs e - 0) (k - event_run_first runs e) (ap (row_skipped T Q area) (sym z) ∙ f) (omega arith) (omega (arith, l, u)) in
@@ -260,7 +260,7 @@ and_no false b = refl
 
 module _ (f : ℕ → Bool) (from n : ℕ) where
   within_in : (k : ℕ) → from ≤ k → k < from + n → within_run f from n k ≡ f k
-  within_in k l u = ap₂ (λ (x y : Bool). (x && y) && f k) (le_leb from k l) (lt_ltb k (from + n) u)
+  within_in k l u = ap₂ (λ (x y : Bool). (x && y) && f k) (le-leb from k l) (lt-ltb k (from + n) u)
 
   within_before : (k : ℕ) → k < from → within_run f from n k ≡ false
   within_before k u = ap (λ (x : Bool). (x && ltb k (from + n)) && f k) (lt-leb from k u)
@@ -315,8 +315,8 @@ module _ (f : ℕ → Bool) (from n : ℕ) where
       none k = go (ltb k from) refl (ltb k (from + n)) refl
         where
           go : (x : Bool) → ltb k from ≡ x → (y : Bool) → ltb k (from + n) ≡ y → within_run f from n k ≡ false
-          go true p y q = within_before k (ltb_true k from p)
-          go false p true q = in_window k (ltb-false k from p) (ltb_true k (from + n) q)
+          go true p y q = within_before k (ltb-true k from p)
+          go false p true q = in_window k (ltb-false k from p) (ltb-true k (from + n) q)
           go false p false q = within_after k (ltb-false k (from + n) q)
 
 -- a run by the counts before its first row and before its end
@@ -346,7 +346,7 @@ module _ (f : ℕ → Bool) (runs : List ℕ) where
   window_no from n h er e i k l u v = go (ltb (event_run_first runs i + k) from) refl
     where
       go : (b : Bool) → ltb (event_run_first runs i + k) from ≡ b → f (event_run_first runs i + k) ≡ false
-      go true q = h i k l u (ltb_true (event_run_first runs i + k) from q)
+      go true q = h i k l u (ltb-true (event_run_first runs i + k) from q)
       go false q =
           let g = within_run f from n in
           sym (within_in f from n (event_run_first runs i + k) (ltb-false (event_run_first runs i + k) from q) v)

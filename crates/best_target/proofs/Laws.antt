@@ -8,9 +8,9 @@ use native.Mathlib.Numerals.{add-one}
 use native.Mathlib.Nat.{add-zero, zero-add}
 use Rattle.loops.proofs.Count.{tab_ext}
 use lib.ListN.{length, get_or, set, replicate, length-set}
-use lib.Seq.{get_or-set_same, get_or_set_other}
+use lib.Seq.{get_or-set_same, get_or-set_other}
 use lib.Dec.{ltb, leb, eqb}
-use borrow.Author.Tests.{lt_ltb, le-ltb, eq-eqb, ne_eqb}
+use borrow.Author.Tests.{lt-ltb, le-ltb, eq-eqb, ne_eqb}
 use Rattle.loops.specs.Count.{tab_from}
 use Rattle.model.specs.Tables.{never, Tables, Query}
 use Rattle.model.specs.Search.{Arrivals, at, reached_by, best_target, row_target, candidates_from}
@@ -22,7 +22,7 @@ use Rattle.arc_flags.specs.Flags.{egress_row_at, egress_rows}
 use Rattle.words.proofs.Filling.{zero_at}
 
 pub better_less : (b : ℕ × ℕ) (total stop : ℕ) → total < b.0 → (total, stop) ≡ better b total stop
-better_less b total stop h = sym (ap (λ (x : Bool). cond x (total, stop) b) (lt_ltb total b.0 h))
+better_less b total stop h = sym (ap (λ (x : Bool). cond x (total, stop) b) (lt-ltb total b.0 h))
 
 pub better_not : (b : ℕ × ℕ) (total stop : ℕ) → b.0 ≤ total → b ≡ better b total stop
 better_not b total stop h = sym (ap (λ (x : Bool). cond x (total, stop) b) (le-ltb total b.0 h))
@@ -125,11 +125,11 @@ put_is old m total stop row h =
     let a : List ℕ = set old (m * 3) total in
     let b : List ℕ = set a (m * 3 + 1) stop in
     let other : (i : ℕ) → (i ≡ m * 3 → ⊥) → (i ≡ m * 3 + 1 → ⊥) → (i ≡ m * 3 + 2 → ⊥) → get_or (set b (m * 3 + 2) row) i 0 ≡ get_or old i 0
-    = λ i p q r. get_or_set_other b (m * 3 + 2) i row 0 r ∙ get_or_set_other a (m * 3 + 1) i stop 0 q ∙ get_or_set_other old (m * 3) i total 0 p in
+    = λ i p q r. get_or-set_other b (m * 3 + 2) i row 0 r ∙ get_or-set_other a (m * 3 + 1) i stop 0 q ∙ get_or-set_other old (m * 3) i total 0 p in
     let x : get_or (set b (m * 3 + 2) row) (m * 3) 0 ≡ total
-    = get_or_set_other b (m * 3 + 2) (m * 3) row 0 (λ z. omega arith) ∙ get_or_set_other a (m * 3 + 1) (m * 3) stop 0 (λ z. omega arith) ∙ get_or-set_same old (m * 3) total 0 (omega arith) in
+    = get_or-set_other b (m * 3 + 2) (m * 3) row 0 (λ z. omega arith) ∙ get_or-set_other a (m * 3 + 1) (m * 3) stop 0 (λ z. omega arith) ∙ get_or-set_same old (m * 3) total 0 (omega arith) in
     let y : get_or (set b (m * 3 + 2) row) (m * 3 + 1) 0 ≡ stop
-    = get_or_set_other b (m * 3 + 2) (m * 3 + 1) row 0 (λ z. omega arith) ∙ get_or-set_same a (m * 3 + 1) stop 0 (simp length-set (omega arith)) in
+    = get_or-set_other b (m * 3 + 2) (m * 3 + 1) row 0 (λ z. omega arith) ∙ get_or-set_same a (m * 3 + 1) stop 0 (simp length-set (omega arith)) in
     let w : get_or (set b (m * 3 + 2) row) (m * 3 + 2) 0 ≡ row = get_or-set_same b (m * 3 + 2) row 0 (simp length-set (omega arith)) in
     record {
       size = simp length-set;

@@ -1,7 +1,7 @@
 -- Words against their bytes.
 use Prim.Native.Nat.{ℕ, zero, suc, ◌+◌, ◌*◌, ◌-◌, ◌/◌, ◌%◌, ◌^◌, ◌<◌, ◌≤◌}
 use mathlib.Core.Path.{◌≡◌, refl, ap, ap₂, sym, ◌∙◌}
-use mathlib.Core.Bool.{Bool, true, false, not, ◌||◌, or_assoc, or_false}
+use mathlib.Core.Bool.{Bool, true, false, not, ◌||◌, or_assoc, or-false}
 use native.Mathlib.Nat.{one-mul, add-zero, add-suc, suc-add, zero-add}
 use mathlib.Core.List.{List}
 use mathlib.Core.Logic.{⊎_elim}
@@ -12,7 +12,7 @@ use native.Mathlib.Omega.{arith}
 use lib.Dec.{eqb, lit<}
 use lib.Bits.{bit_and, bit_or, and_shr, and_mod, or_add_and, and_le_l, and_le_r}
 use lib.Pow.{shl_exact, mod-pow-add}
-use borrow.Author.Tests.{eqb_true, eqb-false, eq-eqb, ne_eqb}
+use borrow.Author.Tests.{eqb-true, eqb-false, eq-eqb, ne_eqb}
 use Rattle.loops.specs.Iter.{iter, range, some, some_in}
 use Rattle.loops.proofs.Iter.{some_ext}
 use Rattle.loops.specs.Count.{tab}
@@ -32,12 +32,12 @@ or_some : (a b : ℕ) → not (eqb (bit_or a b) 0) ≡ not (eqb a 0) || not (eqb
 or_some a b = go (eqb a 0) refl
   where
     go : (x : Bool) → eqb a 0 ≡ x → not (eqb (bit_or a b) 0) ≡ not x || not (eqb b 0)
-    go true e = ap (λ (x : ℕ). not (eqb (bit_or x b) 0)) (eqb_true a 0 e)
+    go true e = ap (λ (x : ℕ). not (eqb (bit_or x b) 0)) (eqb-true a 0 e)
     go false e = ap not (ne_eqb (bit_or a b) 0 (λ q. eqb-false a 0 e (omega (arith, or_add_and a b, and_le_r a b))))
 
 pub or_all : (f : ℕ → ℕ) (i n s : ℕ) → not (eqb (iter (or_with f) i n s) 0) ≡ not (eqb s 0) || some (has_bit f) i n
 unfolding iter some
-or_all f i zero s = sym (or_false (not (eqb s 0)))
+or_all f i zero s = sym (or-false (not (eqb s 0)))
 or_all f i (suc n) s =
     or_all f (suc i) n (bit_or s (f i)) ∙ ap (λ (b : Bool). b || some (has_bit f) (suc i) n) (or_some s (f i))
     ∙ or_assoc (not (eqb s 0)) (has_bit f i) (some (has_bit f) (suc i) n)
@@ -47,7 +47,7 @@ add_some : (a x : ℕ) → not (eqb (a + 256 * x) 0) ≡ not (eqb a 0) || not (e
 add_some a x = go (eqb a 0) refl (eqb x 0) refl
   where
     go : (p : Bool) → eqb a 0 ≡ p → (q : Bool) → eqb x 0 ≡ q → not (eqb (a + 256 * x) 0) ≡ not p || not q
-    go true e true d = ap not (eq-eqb (a + 256 * x) 0 (omega (arith, eqb_true a 0 e, eqb_true x 0 d)))
+    go true e true d = ap not (eq-eqb (a + 256 * x) 0 (omega (arith, eqb-true a 0 e, eqb-true x 0 d)))
     go true e false d = ap not (ne_eqb (a + 256 * x) 0 (λ z. eqb-false x 0 d (omega arith)))
     go false e q d = ap not (ne_eqb (a + 256 * x) 0 (λ z. eqb-false a 0 e (omega arith)))
 

@@ -7,7 +7,7 @@ use native.Mathlib.Omega.{arith}
 use lib.Dec.{ltb, eqb, lit<, eqb-suc-suc, eqb-suc-zero, eqb-zero-suc}
 use lib.Pow.{shl_exact, shr-shr, pow_pos, pow-lt}
 use lib.Bits.{bit_and, bit_or, or_shr, or_mod, and_shr, and_mod, and_le_r, shifted_even}
-use borrow.Author.Tests.{ltb_true, eqb_true, eqb-false, lt_ltb, eq-eqb, ne_eqb, not-true}
+use borrow.Author.Tests.{ltb-true, eqb-true, eqb-false, lt-ltb, eq-eqb, ne_eqb, not-true}
 use Rattle.loops.specs.Iter.{range, some, some_in}
 use Rattle.loops.proofs.Iter.{Passes, some_at, some_found, and_left, and_right}
 use Rattle.byte_words.specs.ByteWord.{has_bit}
@@ -85,7 +85,7 @@ bit_test b k = same_truth (not (eqb z 0)) (bit b k) up down
     up e =
         let p = bit_found (suc k) z (omega (arith, and_le_r b (2 ^ k), pow-suc 2 k, pow_pos k)) (eqb-false z 0 (not-true (eqb z 0) e)) in
         let q = sym (at_bit p.at) ∙ p.passes in
-        ap (bit b) (sym (eqb_true p.at k (and_right (bit b p.at) (eqb p.at k) q))) ∙ and_left (bit b p.at) (eqb p.at k) q
+        ap (bit b) (sym (eqb-true p.at k (and_right (bit b p.at) (eqb p.at k) q))) ∙ and_left (bit b p.at) (eqb p.at k) q
 
     down : bit b k ≡ true → not (eqb z 0) ≡ true
     down e = ap not (ne_eqb z 0 (λ n. true≢false (sym (at_bit k ∙ ap₂ ◌&&◌ e (eq-eqb k k refl)) ∙ ap (λ (x : ℕ). bit x k) n ∙ bit_zero k)))
@@ -98,7 +98,7 @@ cell_at : (f : ℕ → ℕ) (n k j : ℕ) → k < n → j < 8 → bit (f k) j �
 cell_at f n k j h l e =
     let d : (8 * k + j) / 8 ≡ k = omega arith in
     let m : (8 * k + j) % 8 ≡ j = omega arith in
-    rw (d, m) (ap₂ ◌&&◌ (lt_ltb k n h) e)
+    rw (d, m) (ap₂ ◌&&◌ (lt-ltb k n h) e)
 
 -- one of n bytes is not 0 exactly where one of their cells is set
 pub some_cell : (f : ℕ → ℕ) (n : ℕ) → ((i : ℕ) → f i < 256) → n ≤ 64 → some (has_bit f) 0 n ≡ some_in (cell_of f n) 0 512
@@ -114,7 +114,7 @@ some_cell f n b u = same_truth (some (has_bit f) 0 n) (some_in (cell_of f n) 0 5
         let k = p.at / 8 in
         some_at (has_bit f) 0 n k
         (ap not (ne_eqb (f k) 0 (λ z. true≢false (sym (and_right (ltb k n) (bit (f k) (p.at % 8)) p.passes) ∙ ap (λ (x : ℕ). bit x (p.at % 8)) z ∙ bit_zero (p.at % 8)))))
-        (omega arith) (omega (arith, ltb_true k n (and_left (ltb k n) (bit (f k) (p.at % 8)) p.passes)))
+        (omega arith) (omega (arith, ltb-true k n (and_left (ltb k n) (bit (f k) (p.at % 8)) p.passes)))
 
 -- a loop over n bytes that takes in the bits of each ends with more than 0 exactly where a cell is set
 pub gathered : (f : ℕ → ℕ) (n : ℕ) → ((i : ℕ) → f i < 256) → n ≤ 64 → not (eqb (range (or_with f) 0 n 0) 0) ≡ some_in (cell_of f n) 0 512

@@ -7,15 +7,15 @@ use mathlib.Core.Logic.{⊎_elim}
 use Rattle.loops.proofs.Search.{split}
 use lib.ListN.{length, get_or, set, length-set}
 use mathlib.Core.Bool.{Bool, cond}
-use borrow.Author.Tests.{lt_ltb, le-ltb}
+use borrow.Author.Tests.{lt-ltb, le-ltb}
 use Rattle.cell_bitset.specs.CellSet.{byte_upto}
-use lib.Seq.{get_or_set_other}
+use lib.Seq.{get_or-set_other}
 use Rattle.loops.specs.Count.{tab}
 use Rattle.loops.proofs.Count.{tab_is, fill_again}
 
 -- a byte that is one of the first n, and one that is not
 pub byte-in : (n : ℕ) (l : List ℕ) (i : ℕ) → i < n → byte_upto n l i ≡ get_or l i 0
-byte-in n l i h = ap (λ (b : Bool). cond b (get_or l i 0) 0) (lt_ltb i n h)
+byte-in n l i h = ap (λ (b : Bool). cond b (get_or l i 0) 0) (lt-ltb i n h)
 
 pub byte_out : (n : ℕ) (l : List ℕ) (i : ℕ) → n ≤ i → byte_upto n l i ≡ 0
 byte_out n l i h = ap (λ (b : Bool). cond b (get_or l i 0) 0) (le-ltb i n h)
@@ -31,7 +31,7 @@ filled_again f g i l l' h e u =
     record {
       long = ap length e ∙ simp length-set h.long;
       below = fill_again f i l l' h.below e (omega (arith, h.long));
-      above = λ k x. ap (λ (m : List ℕ). get_or m k 0) e ∙ get_or_set_other l i k (f i) 0 (λ q. omega arith) ∙ h.above k (omega arith);
+      above = λ k x. ap (λ (m : List ℕ). get_or m k 0) e ∙ get_or-set_other l i k (f i) 0 (λ q. omega arith) ∙ h.above k (omega arith);
     }
 
 -- the end: what is left is f's as it is

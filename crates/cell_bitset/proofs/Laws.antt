@@ -1,11 +1,11 @@
 -- Which cells the sets hold.
 use Prim.Native.Nat.{ℕ, zero, suc, ◌*◌, ◌-◌, ◌/◌, ◌%◌, ◌^◌, ◌<◌, ◌≤◌, min, max}
 use mathlib.Core.Path.{◌≡◌, refl, ap, ap₂, sym, ◌∙◌}
-use mathlib.Core.Bool.{Bool, true, false, not, ◌&&◌, ◌||◌, cond, and_true, and_false, and_assoc, or_false, true≢false}
+use mathlib.Core.Bool.{Bool, true, false, not, ◌&&◌, ◌||◌, cond, and-true, and-false, and_assoc, or-false, true≢false}
 use native.Mathlib.Omega.{arith}
 use mathlib.Core.List.{List, [], ◌∷◌}
-use lib.ListN.{get_or, length, set, replicate, length-replicate, get_or-replicate, get_or_eq_default}
-use lib.Seq.{get_or-set_same, get_or_set_other}
+use lib.ListN.{get_or, length, set, replicate, length-replicate, get_or-replicate, get_or-eq_default}
+use lib.Seq.{get_or-set_same, get_or-set_other}
 use lib.Dec.{ltb, eqb}
 use lib.Bits.{bit_or, bit_and, and_le_l, and_le_r, or_lt}
 use lib.Pow.{pow-lt}
@@ -19,12 +19,12 @@ use Rattle.byte_words.specs.ByteWord.{Bytes, byte_in, has_bit, both_have}
 use Rattle.byte_words.proofs.Words.{or_with, not_not}
 use Rattle.cell_bitset.proofs.Bits.{same_truth, bit-or, bit-and, bit_pow, bit_zero, cell_of, some_cell, gathered}
 use Rattle.cell_bitset.proofs.Fill.{byte-in, byte_out}
-use borrow.Author.Tests.{lt_ltb, le-ltb, ltb_true, eqb_true, eqb-false, eq-eqb, ne_eqb, not-true}
+use borrow.Author.Tests.{lt-ltb, le-ltb, ltb-true, eqb-true, eqb-false, eq-eqb, ne_eqb, not-true}
 use Rattle.cell_bitset.specs.declared.CellBitSet.{CellBitSet}
 use Rattle.cell_bitset.specs.CellSet.{bit, held, kept, reserved_of, byte_upto, byte_of, with_cell, union, sized, empty_set, groups, meets, holds_none, InBoth}
 
 pub held_in : (s : CellBitSet) (c : ℕ) → c / 8 < reserved_of s → held s c ≡ bit (get_or s.bytes (c / 8) 0) (c % 8)
-held_in s c h = ap (λ (b : Bool). b && bit (get_or s.bytes (c / 8) 0) (c % 8)) (lt_ltb (c / 8) (reserved_of s) h)
+held_in s c h = ap (λ (b : Bool). b && bit (get_or s.bytes (c / 8) 0) (c % 8)) (lt-ltb (c / 8) (reserved_of s) h)
 
 pub held_past : (s : CellBitSet) (c : ℕ) → reserved_of s ≤ c / 8 → held s c ≡ false
 held_past s c h = ap (λ (b : Bool). b && bit (get_or s.bytes (c / 8) 0) (c % 8)) (le-ltb (c / 8) (reserved_of s) h)
@@ -77,8 +77,8 @@ groups_least n g h = omega arith
 pub kept_new : (n c : ℕ) → n ≤ 512 → kept (empty_set n) c ≡ ltb c (64 * groups n)
 kept_new n c h =
     same_truth (kept (empty_set n) c) (ltb c (64 * groups n))
-    (λ e. lt_ltb c (64 * groups n) (omega (arith, ltb_true (c / 8) (reserved_of (empty_set n)) e)))
-    (λ e. lt_ltb (c / 8) (reserved_of (empty_set n)) (omega (arith, ltb_true c (64 * groups n) e)))
+    (λ e. lt-ltb c (64 * groups n) (omega (arith, ltb-true (c / 8) (reserved_of (empty_set n)) e)))
+    (λ e. lt-ltb (c / 8) (reserved_of (empty_set n)) (omega (arith, ltb-true c (64 * groups n) e)))
 
 -- the set with c, where c is kept
 abbrev pub added : CellBitSet → ℕ → CellBitSet
@@ -95,25 +95,25 @@ held_added s c d l h = go (eqb (d / 8) (c / 8)) refl
 
     go : (t : Bool) → eqb (d / 8) (c / 8) ≡ t → held (added s c) d ≡ held s d || eqb d c
     go true e =
-        let q = eqb_true (d / 8) (c / 8) e in
+        let q = eqb-true (d / 8) (c / 8) e in
         let same : get_or (set s.bytes (c / 8) new) (d / 8) 0 ≡ new = ap (λ (x : ℕ). get_or (set s.bytes (c / 8) new) x 0) q ∙ get_or-set_same s.bytes (c / 8) new 0 (omega arith) in
         held_in (added s c) d (omega arith) ∙ ap (λ (x : ℕ). bit x (d % 8)) same
         ∙ bit-or old (2 ^ (c % 8)) (d % 8)
         ∙ ap₂ ◌||◌ (ap (λ (x : ℕ). bit (get_or s.bytes x 0) (d % 8)) (sym q) ∙ sym (held_in s d (omega arith)))
         (bit_pow (c % 8) (d % 8)
-        ∙ same_truth (eqb (d % 8) (c % 8)) (eqb d c) (λ x. eq-eqb d c (omega (arith, eqb_true (d % 8) (c % 8) x))) (λ x. eq-eqb (d % 8) (c % 8) (ap (λ (y : ℕ). y % 8) (eqb_true d c x))))
+        ∙ same_truth (eqb (d % 8) (c % 8)) (eqb d c) (λ x. eq-eqb d c (omega (arith, eqb-true (d % 8) (c % 8) x))) (λ x. eq-eqb (d % 8) (c % 8) (ap (λ (y : ℕ). y % 8) (eqb-true d c x))))
     go false e =
         let q = eqb-false (d / 8) (c / 8) e in
-        ap (λ (x : ℕ). kept s d && bit x (d % 8)) (get_or_set_other s.bytes (c / 8) (d / 8) new 0 q)
-        ∙ sym (ap (λ (b : Bool). held s d || b) (ne_eqb d c (λ x. q (ap (λ (y : ℕ). y / 8) x))) ∙ or_false (held s d))
+        ap (λ (x : ℕ). kept s d && bit x (d % 8)) (get_or-set_other s.bytes (c / 8) (d / 8) new 0 q)
+        ∙ sym (ap (λ (b : Bool). held s d || b) (ne_eqb d c (λ x. q (ap (λ (y : ℕ). y / 8) x))) ∙ or-false (held s d))
 
 -- setting a cell adds that cell, where it is kept, and no other
 pub held_set : (s : CellBitSet) (c d : ℕ) → length s.bytes ≡ 64 → held (with_cell s c) d ≡ held s d || (eqb d c && kept s c)
 held_set s c d l = go (kept s c) refl
   where
     go : (t : Bool) → kept s c ≡ t → held (cond t (added s c) s) d ≡ held s d || (eqb d c && t)
-    go true e = held_added s c d l (ltb_true (c / 8) (reserved_of s) e) ∙ ap (λ (b : Bool). held s d || b) (sym (and_true (eqb d c)))
-    go false e = sym (ap (λ (b : Bool). held s d || b) (and_false (eqb d c)) ∙ or_false (held s d))
+    go true e = held_added s c d l (ltb-true (c / 8) (reserved_of s) e) ∙ ap (λ (b : Bool). held s d || b) (sym (and-true (eqb d c)))
+    go false e = sym (ap (λ (b : Bool). held s d || b) (and-false (eqb d c)) ∙ or-false (held s d))
 
 -- the room of the sets
 pub kept_set : (s : CellBitSet) (c d : ℕ) → kept (with_cell s c) d ≡ kept s d
@@ -127,19 +127,19 @@ kept_set s c d = go (kept s c)
 below_max : (i a b : ℕ) → ltb i (max a b) ≡ ltb i a || ltb i b
 below_max i a b =
     ⊎_elim
-    (λ (h : i < a). lt_ltb i (max a b) (omega arith) ∙ sym (ap (λ (x : Bool). x || ltb i b) (lt_ltb i a h)))
+    (λ (h : i < a). lt-ltb i (max a b) (omega arith) ∙ sym (ap (λ (x : Bool). x || ltb i b) (lt-ltb i a h)))
     (λ (h : a ≤ i).
     same_truth (ltb i (max a b)) (ltb i b)
-    (λ e. lt_ltb i b (omega (arith, ltb_true i (max a b) e)))
-    (λ e. lt_ltb i (max a b) (omega (arith, ltb_true i b e)))
+    (λ e. lt-ltb i b (omega (arith, ltb-true i (max a b) e)))
+    (λ e. lt-ltb i (max a b) (omega (arith, ltb-true i b e)))
     ∙ sym (ap (λ (x : Bool). x || ltb i b) (le-ltb i a h)))
     (split i a)
 
 below_min : (i a b : ℕ) → ltb i (min a b) ≡ ltb i a && ltb i b
 below_min i a b =
     same_truth (ltb i (min a b)) (ltb i a && ltb i b)
-    (λ e. ap₂ ◌&&◌ (lt_ltb i a (omega (arith, ltb_true i (min a b) e))) (lt_ltb i b (omega (arith, ltb_true i (min a b) e))))
-    (λ e. lt_ltb i (min a b) (omega (arith, ltb_true i a (and_left (ltb i a) (ltb i b) e), ltb_true i b (and_right (ltb i a) (ltb i b) e))))
+    (λ e. ap₂ ◌&&◌ (lt-ltb i a (omega (arith, ltb-true i (min a b) e))) (lt-ltb i b (omega (arith, ltb-true i (min a b) e))))
+    (λ e. lt-ltb i (min a b) (omega (arith, ltb-true i a (and_left (ltb i a) (ltb i b) e), ltb-true i b (and_right (ltb i a) (ltb i b) e))))
 
 pub kept_union : (s t : CellBitSet) (c : ℕ) → kept (union s t) c ≡ kept s c || kept t c
 kept_union s t c =
@@ -153,7 +153,7 @@ kept_sized s n c h =
 
 and_pairs : (p q u v : Bool) → (p && q) && (u && v) ≡ (p && u) && (q && v)
 and_pairs true true u v = refl
-and_pairs true false u v = sym (and_false u)
+and_pairs true false u v = sym (and-false u)
 and_pairs false q u v = refl
 
 -- two sets meet exactly where their first n bytes share a bit, if what the n bytes share is what both hold
@@ -192,7 +192,7 @@ meets_row f s t b e =
 byte_cell : (s : CellBitSet) (c : ℕ) → cell_of (byte_of s) 64 c ≡ held s c
 byte_cell s c =
     ⊎_elim
-    (λ (h : c / 8 < 64). ap (λ (b : Bool). b && bit (byte_of s (c / 8)) (c % 8)) (lt_ltb (c / 8) 64 h) ∙ sym (held_byte s c))
+    (λ (h : c / 8 < 64). ap (λ (b : Bool). b && bit (byte_of s (c / 8)) (c % 8)) (lt-ltb (c / 8) 64 h) ∙ sym (held_byte s c))
     (λ (h : 64 ≤ c / 8). ap (λ (b : Bool). b && bit (byte_of s (c / 8)) (c % 8)) (le-ltb (c / 8) 64 h) ∙ sym (held_past s c (omega arith)))
     (split (c / 8) 64)
 
@@ -208,7 +208,7 @@ set_small (x ∷ l) (suc i) v zero h b = b 0
 set_small (x ∷ l) (suc i) v (suc k) h b = set_small l i v k h (λ j. b (suc j))
 
 zeros_small : (n k : ℕ) → get_or (replicate {A = ℕ} n 0) k 0 < 256
-zeros_small n k = ⊎_elim (λ (h : k < n). omega (arith, get_or-replicate {A = ℕ} n k 0 0 h)) (λ (h : n ≤ k). omega (arith, get_or_eq_default (replicate {A = ℕ} n 0) 0 {n = k} (omega (arith, length-replicate {A = ℕ} n 0)))) (split k n)
+zeros_small n k = ⊎_elim (λ (h : k < n). omega (arith, get_or-replicate {A = ℕ} n k 0 0 h)) (λ (h : n ≤ k). omega (arith, get_or-eq_default (replicate {A = ℕ} n 0) 0 {n = k} (omega (arith, length-replicate {A = ℕ} n 0)))) (split k n)
 
 pub bytes_new : (n : ℕ) → Bytes (byte_in (empty_set n).bytes)
 bytes_new n = record { small = zeros_small 64 }
@@ -237,7 +237,7 @@ none_gathered s n x e m b =
 
 -- a cell that is held is one of the 512
 held_below : (s : CellBitSet) (c : ℕ) → held s c ≡ true → c < 512
-held_below s c h = omega (arith, ltb_true (c / 8) (reserved_of s) (and_left (kept s c) (bit (get_or s.bytes (c / 8) 0) (c % 8)) h))
+held_below s c h = omega (arith, ltb-true (c / 8) (reserved_of s) (and_left (kept s c) (bit (get_or s.bytes (c / 8) 0) (c % 8)) h))
 
 -- two sets meet exactly where a cell is in both
 pub meets_at : (s t : CellBitSet) (c : ℕ) → held s c ≡ true → held t c ≡ true → meets s t ≡ true

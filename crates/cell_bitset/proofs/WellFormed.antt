@@ -5,10 +5,10 @@ use mathlib.Core.Bool.{Bool, true, false, cond}
 use mathlib.Core.List.{List}
 use mathlib.Core.Logic.{⊎_elim}
 use native.Mathlib.Omega.{arith}
-use lib.ListN.{get_or, replicate, length-set, length-replicate, get_or-replicate, get_or_eq_default}
-use lib.Seq.{get_or_set_other}
+use lib.ListN.{get_or, replicate, length-set, length-replicate, get_or-replicate, get_or-eq_default}
+use lib.Seq.{get_or-set_other}
 use lib.Bits.{bit_or}
-use borrow.Author.Tests.{ltb_true}
+use borrow.Author.Tests.{ltb-true}
 use Rattle.loops.specs.Count.{tab}
 use Rattle.loops.proofs.Count.{length_tab_from, get_d_tab, tab_is}
 use Rattle.loops.proofs.Search.{split}
@@ -20,7 +20,7 @@ use Rattle.cell_bitset.proofs.Laws.{added}
 -- 64 bytes f 0, f 1, .. are 0 where f is
 tab_past : (f : ℕ → ℕ) (i : ℕ) → f i ≡ 0 → get_or (tab f 64) i 0 ≡ 0
 tab_past f i z =
-    ⊎_elim (λ (h : i < 64). get_d_tab f 64 i 0 h ∙ z) (λ (h : 64 ≤ i). get_or_eq_default (tab f 64) 0 (omega (arith, length_tab_from f 0 64))) (split i 64)
+    ⊎_elim (λ (h : i < 64). get_d_tab f 64 i 0 h ∙ z) (λ (h : 64 ≤ i). get_or-eq_default (tab f 64) 0 (omega (arith, length_tab_from f 0 64))) (split i 64)
 
 past_byte : (s : CellBitSet) (i : ℕ) → reserved_of s ≤ i → byte_of s i ≡ 0
 past_byte s i h = byte_out (reserved_of s) s.bytes i h
@@ -31,7 +31,7 @@ well_new n h =
       long = length-replicate {A = ℕ} 64 0;
       room = omega arith;
       whole = omega arith;
-      past = λ i l. ⊎_elim (λ (u : i < 64). get_or-replicate 64 i 0 0 u) (λ (u : 64 ≤ i). get_or_eq_default (replicate {A = ℕ} 64 0) 0 {n = i} u) (split i 64);
+      past = λ i l. ⊎_elim (λ (u : i < 64). get_or-replicate 64 i 0 0 u) (λ (u : 64 ≤ i). get_or-eq_default (replicate {A = ℕ} 64 0) 0 {n = i} u) (split i 64);
     }
 
 pub well_set : (s : CellBitSet) (c : ℕ) → WellFormed s → WellFormed (with_cell s c)
@@ -43,7 +43,7 @@ well_set s c w = go (kept s c) refl
           long = length-set s.bytes (c / 8) (bit_or (get_or s.bytes (c / 8) 0) (2 ^ (c % 8))) ∙ w.long;
           room = w.room;
           whole = w.whole;
-          past = λ i l. get_or_set_other s.bytes (c / 8) i (bit_or (get_or s.bytes (c / 8) 0) (2 ^ (c % 8))) 0 (λ q. omega (arith, ltb_true (c / 8) (reserved_of s) e)) ∙ w.past i l;
+          past = λ i l. get_or-set_other s.bytes (c / 8) i (bit_or (get_or s.bytes (c / 8) 0) (2 ^ (c % 8))) 0 (λ q. omega (arith, ltb-true (c / 8) (reserved_of s) e)) ∙ w.past i l;
         }
     go false e = w
 

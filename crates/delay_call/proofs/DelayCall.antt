@@ -6,7 +6,7 @@ use mathlib.Core.List.{List}
 use native.Mathlib.Omega.{arith}
 use lib.ListN.{length}
 use lib.Dec.{ltb, leb, eqb}
-use borrow.Author.Tests.{leb-true, eqb_true}
+use borrow.Author.Tests.{leb-true, eqb-true}
 use Rattle.loops.specs.Iter.{Hit}
 use Rattle.loops.proofs.Iter.{and_left, and_right}
 use Rattle.door.proofs.Laws.{ask_yes, ask_later}
@@ -25,12 +25,12 @@ use Rattle.delay_lookup.proofs.Door.{delays_yes}
 -- question 2: the counts handed in are those of the tables
 pub delay_count : (n m : ℕ) (rows stops : List ℕ) → delay_lengths n m rows stops ≡ true → delay_row_count rows ≡ n
 delay_count n m rows stops h =
-    let e : length rows ≡ 2 * n = eqb_true (length rows) (2 * n) (and_left (eqb (length rows) (2 * n)) (eqb (length stops) (5 * m)) h) in
+    let e : length rows ≡ 2 * n = eqb-true (length rows) (2 * n) (and_left (eqb (length rows) (2 * n)) (eqb (length stops) (5 * m)) h) in
     omega arith
 
 pub stop-count : (n m : ℕ) (rows stops : List ℕ) → delay_lengths n m rows stops ≡ true → stop_row_count stops ≡ m
 stop-count n m rows stops h =
-    let e : length stops ≡ 5 * m = eqb_true (length stops) (5 * m) (and_right (eqb (length rows) (2 * n)) (eqb (length stops) (5 * m)) h) in
+    let e : length stops ≡ 5 * m = eqb-true (length stops) (5 * m) (and_right (eqb (length rows) (2 * n)) (eqb (length stops) (5 * m)) h) in
     omega arith
 
 -- question 1: trips, delay rows and stop rows are few

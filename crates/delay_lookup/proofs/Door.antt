@@ -6,7 +6,7 @@ use mathlib.Core.Logic.{◌⊎◌, inl, inr, ⊎_elim}
 use native.Mathlib.Nat.{add-zero}
 use native.Mathlib.Omega.{arith}
 use lib.Dec.{ltb, leb, eqb}
-use borrow.Author.Tests.{leb-true, ltb_true, eqb_true, ne_eqb}
+use borrow.Author.Tests.{leb-true, ltb-true, eqb-true, ne_eqb}
 use Rattle.loops.specs.Iter.{every_in}
 use Rattle.loops.proofs.Iter.{and_left, and_right, every_in_at}
 use Rattle.door.specs.Door.{time_limit}
@@ -47,8 +47,8 @@ TripAfter delay i j = ((delay i).trip < (delay j).trip) ⊎ (((delay i).trip ≡
 
 trips-rise : (a b : DelayRow) → trips_rise a b ≡ true → (a.trip < b.trip) ⊎ ((a.trip ≡ unknown_trip) × (b.trip ≡ unknown_trip))
 trips-rise a b h =
-    ⊎_elim (λ e. inl (ltb_true a.trip b.trip e))
-    (λ e. inr (eqb_true a.trip unknown_trip (and_left (eqb a.trip unknown_trip) (eqb b.trip unknown_trip) e), eqb_true b.trip unknown_trip (and_right (eqb a.trip unknown_trip) (eqb b.trip unknown_trip) e)))
+    ⊎_elim (λ e. inl (ltb-true a.trip b.trip e))
+    (λ e. inr (eqb-true a.trip unknown_trip (and_left (eqb a.trip unknown_trip) (eqb b.trip unknown_trip) e), eqb-true b.trip unknown_trip (and_right (eqb a.trip unknown_trip) (eqb b.trip unknown_trip) e)))
     (or_split (ltb a.trip b.trip) (eqb a.trip unknown_trip && eqb b.trip unknown_trip) h)
 
 trip_after : (a b c : ℕ) → c ≤ unknown_trip → (a < b) ⊎ ((a ≡ unknown_trip) × (b ≡ unknown_trip)) → (b < c) ⊎ ((b ≡ unknown_trip) × (c ≡ unknown_trip)) → (a < c) ⊎ ((a ≡ unknown_trip) × (c ≡ unknown_trip))
@@ -59,7 +59,7 @@ trip_after a b c l (inr x) (inr y) = inr (x.0, y.1)
 
 trip-numbered : (trips : ℕ) (r : DelayRow) → trip_numbered trips r ≡ true → (r.trip < trips) ⊎ (r.trip ≡ unknown_trip)
 trip-numbered trips r h =
-    ⊎_elim (λ e. inl (ltb_true r.trip trips e)) (λ e. inr (eqb_true r.trip unknown_trip e)) (or_split (ltb r.trip trips) (eqb r.trip unknown_trip) h)
+    ⊎_elim (λ e. inl (ltb-true r.trip trips e)) (λ e. inr (eqb-true r.trip unknown_trip e)) (or_split (ltb r.trip trips) (eqb r.trip unknown_trip) h)
 
 module _ (trips n : ℕ) (delay : ℕ → DelayRow) where
   abbrev Yes : ℕ → Type 0
@@ -82,8 +82,8 @@ StopAfter stop i j = ((stop i).row < (stop j).row) ⊎ (((stop i).row ≡ (stop 
 
 stops-rise : (a b : StopRow) → stops_rise a b ≡ true → (a.row < b.row) ⊎ ((a.row ≡ b.row) × (a.sequence < b.sequence))
 stops-rise a b h =
-    ⊎_elim (λ e. inl (ltb_true a.row b.row e))
-    (λ e. inr (eqb_true a.row b.row (and_left (eqb a.row b.row) (ltb a.sequence b.sequence) e), ltb_true a.sequence b.sequence (and_right (eqb a.row b.row) (ltb a.sequence b.sequence) e)))
+    ⊎_elim (λ e. inl (ltb-true a.row b.row e))
+    (λ e. inr (eqb-true a.row b.row (and_left (eqb a.row b.row) (ltb a.sequence b.sequence) e), ltb-true a.sequence b.sequence (and_right (eqb a.row b.row) (ltb a.sequence b.sequence) e)))
     (or_split (ltb a.row b.row) (eqb a.row b.row && ltb a.sequence b.sequence) h)
 
 stop_after : (a b c x y z : ℕ) → (a < b) ⊎ ((a ≡ b) × (x < y)) → (b < c) ⊎ ((b ≡ c) × (y < z)) → (a < c) ⊎ ((a ≡ c) × (x < z))
@@ -130,5 +130,5 @@ module _ (trips : ℕ) (D : DelayTables) where
         delay_rows = delay-rows trips D.delays D.delay t a r4 r5 r6;
         stop_rows = stop-rows D.delays D.stop_rows D.stop_row b (and_right (delays_say 5) (stops_say 5) q5) (and_right (delays_say 6) (stops_say 6) q6);
         trip = λ i l. trip-numbered trips (D.delay i) (every_in_at (delay_asked 4 trips D.delay) D.delays i r4 l);
-        row = λ j l. ltb_true (D.stop_row j).row D.delays (every_in_at (stop_asked 4 D.delays D.stop_row) D.stop_rows j (and_right (delays_say 4) (stops_say 4) q4) l);
+        row = λ j l. ltb-true (D.stop_row j).row D.delays (every_in_at (stop_asked 4 D.delays D.stop_row) D.stop_rows j (and_right (delays_say 4) (stops_say 4) q4) l);
       }

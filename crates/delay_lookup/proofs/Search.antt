@@ -8,7 +8,7 @@ use native.Mathlib.Nat.{eq-or-lt_of_le, suc-mul, mul-le-mul_right}
 use native.Mathlib.Omega.{arith}
 use lib.ListN.{get_or}
 use lib.Dec.{leb, eqb}
-use borrow.Author.Tests.{leb-true, leb-false, eqb_true, eqb-false, le_leb, lt-leb, eq-eqb, ne_eqb}
+use borrow.Author.Tests.{leb-true, leb-false, eqb-true, eqb-false, le-leb, lt-leb, eq-eqb, ne_eqb}
 use Rattle.loops.specs.Iter.{first_in, Hit, hit, miss}
 use Rattle.loops.specs.Order.{KeysRise, Halved}
 use Rattle.loops.proofs.Search.{first_ext, halved_ext, stays_ext, keys_stay, same_found, same_past, same_other}
@@ -26,15 +26,15 @@ pub key_leb : (t a b : ℕ) → b < 4294967296 → leb (t * 4294967296 + 0) (a *
 key_leb t a b h = go (leb t a) refl
   where
     go : (x : Bool) → leb t a ≡ x → leb (t * 4294967296 + 0) (a * 4294967296 + b) ≡ x
-    go true e = let l : t ≤ a = leb-true t a e in le_leb (t * 4294967296 + 0) (a * 4294967296 + b) (omega arith)
+    go true e = let l : t ≤ a = leb-true t a e in le-leb (t * 4294967296 + 0) (a * 4294967296 + b) (omega arith)
     go false e = let l : a < t = leb-false t a e in lt-leb (t * 4294967296 + 0) (a * 4294967296 + b) (omega arith)
 
 pub key_eqb : (a b c d : ℕ) → b < 4294967296 → d < 4294967296 → eqb (a * 4294967296 + b) (c * 4294967296 + d) ≡ (eqb a c && eqb b d)
 key_eqb a b c d hb hd = go (eqb a c) refl (eqb b d) refl
   where
     go : (x : Bool) → eqb a c ≡ x → (y : Bool) → eqb b d ≡ y → eqb (a * 4294967296 + b) (c * 4294967296 + d) ≡ (x && y)
-    go true p true q = let e : a ≡ c = eqb_true a c p in let f : b ≡ d = eqb_true b d q in eq-eqb (a * 4294967296 + b) (c * 4294967296 + d) (omega arith)
-    go true p false q = let e : a ≡ c = eqb_true a c p in ne_eqb (a * 4294967296 + b) (c * 4294967296 + d) (λ z. eqb-false b d q (omega arith))
+    go true p true q = let e : a ≡ c = eqb-true a c p in let f : b ≡ d = eqb-true b d q in eq-eqb (a * 4294967296 + b) (c * 4294967296 + d) (omega arith)
+    go true p false q = let e : a ≡ c = eqb-true a c p in ne_eqb (a * 4294967296 + b) (c * 4294967296 + d) (λ z. eqb-false b d q (omega arith))
     go false p y q = ne_eqb (a * 4294967296 + b) (c * 4294967296 + d) (λ z. eqb-false a c p (omega arith))
 
 -- every number of a table fits 32 bits

@@ -8,7 +8,7 @@ use native.Mathlib.Nat.{eq-or-lt_of_le}
 use native.Mathlib.Omega.{arith}
 use lib.ListN.{length}
 use lib.Dec.{ltb, leb}
-use borrow.Author.Tests.{le_leb, ltb_true, ltb-false}
+use borrow.Author.Tests.{le-leb, ltb-true, ltb-false}
 use Rattle.loops.proofs.Iter.{every_all}
 use Rattle.tables.specs.declared.Counts.{Counts}
 use Rattle.tables.specs.Tables.{stop_of}
@@ -70,7 +70,7 @@ module _ (t : List ℕ) (c : Counts) (rows : List ℕ) where
       known k u = go (ltb k end) refl
         where
           go : (b : Bool) → ltb k end ≡ b → RowKnown t c (row_at rows k)
-          go true q = h.known k (ltb_true k end q)
+          go true q = h.known k (ltb-true k end q)
           go false q = x.known k (omega (arith, ltb-false k end q)) u
 
       same : RunRight t c rows s (run_first runs s) (run_end runs s)
@@ -110,5 +110,5 @@ module _ (t : List ℕ) (c : Counts) (rows : List ℕ) where
       falls : (s : ℕ) → s < c.stops → (k : ℕ) → 1 ≤ k → k < 1 + (run_length runs s - 1) → leb (row_departure T (row_at (part s) (k - 1))) (row_departure T (row_at (part s) k)) ≡ true
       falls s w k u v =
           let a : run_first runs s + (k - 1) + 1 ≡ run_first runs s + k = omega arith in
-          le_leb (row_departure T (row_at (part s) (k - 1))) (row_departure T (row_at (part s) k))
+          le-leb (row_departure T (row_at (part s) (k - 1))) (row_departure T (row_at (part s) k))
           (omega (arith, row s (k - 1) (omega arith), row s k (omega arith), ap leaves a, (h.stop s w).rises (run_first runs s + (k - 1)) (omega arith) (omega arith)))

@@ -6,7 +6,7 @@ use mathlib.Core.List.{List, ◌∷◌}
 use native.Mathlib.Omega.{arith}
 use lib.ListN.{length}
 use lib.Dec.{leb, ltb}
-use borrow.Author.Tests.{leb-true, leb-false, lt_ltb, le-ltb}
+use borrow.Author.Tests.{leb-true, leb-false, lt-ltb, le-ltb}
 use Rattle.loops.specs.Count.{tab_from}
 use Rattle.loops.specs.Order.{Halved, KeysRise}
 use Rattle.loops.proofs.Count.{tab_ext}
@@ -76,7 +76,7 @@ module _ (t : List ℕ) (c : Counts) (list : List ℕ) (n m r : ℕ) (o : RowsOr
       early : (k : ℕ) → 0 ≤ k → k < 0 + r → ltb (row_departure T.timetable (row_at list k)) m ≡ true
       early k u v =
           let d = row_departure (timetable t c) (row_at list k) in
-          ap (λ (X : Timetable). ltb (row_departure X (row_at list k)) m) e ∙ lt_ltb d m (leb-false m d (h.below k (omega arith)))
+          ap (λ (X : Timetable). ltb (row_departure X (row_at list k)) m) e ∙ lt-ltb d m (leb-false m d (h.below k (omega arith)))
 
       late : r < n → ltb (row_departure T.timetable (row_at list (0 + r))) m ≡ false
       late u =

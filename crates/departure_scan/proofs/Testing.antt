@@ -5,7 +5,7 @@ use mathlib.Core.Bool.{Bool, true, false, not, ◌||◌}
 use mathlib.Core.List.{List}
 use native.Mathlib.Omega.{arith}
 use lib.Dec.{leb, eqb}
-use borrow.Author.Tests.{le_leb, lt-leb, eq-eqb, ne_eqb}
+use borrow.Author.Tests.{le-leb, lt-leb, eq-eqb, ne_eqb}
 use Rattle.loops.specs.Iter.{Hit}
 use Rattle.frequency.specs.declared.BoardedRun.{BoardedRun}
 use Rattle.frequency.specs.declared.FreqBoard.{FreqBoard}
@@ -88,7 +88,7 @@ module _ (T : Tables) (Q : Query) (stamp after : ℕ) (h : Hit) (i o : ℕ) (s :
       against = found ∙ ap weighed z ∙ ap (λ (y : ℕ). taken (leb y b.departure || over) b) g
 
       pub board_late : best ≤ b.departure → Nothing ≡ boarding T Q stamp after h i o s
-      board_late m = sym (against ∙ ap (λ (w : Bool). taken (w || over) b) (le_leb best b.departure m))
+      board_late m = sym (against ∙ ap (λ (w : Bool). taken (w || over) b) (le-leb best b.departure m))
 
       module _ (m : b.departure < best) (w : Bool) (ew : w ≡ over) where
         early : taken w b ≡ boarding T Q stamp after h i o s

@@ -6,7 +6,7 @@ use mathlib.Core.List.{List}
 use native.Mathlib.Omega.{arith}
 use lib.ListN.{length}
 use lib.Dec.{ltb}
-use borrow.Author.Tests.{eqb_true, leb-true, ltb_true, eq-eqb, lt_ltb}
+use borrow.Author.Tests.{eqb-true, leb-true, ltb-true, eq-eqb, lt-ltb}
 use Rattle.loops.proofs.Iter.{and_left, and_right, every_in_at, every_all}
 use Rattle.tables.specs.declared.Counts.{Counts}
 use Rattle.tables.specs.Tables.{count_of, stop_of}
@@ -30,7 +30,7 @@ runs_listed c runs d k f n h =
 pub row_known : (t : List ℕ) (c : Counts) (r : DepartureRow) → row_numbers t c r ≡ true → RowKnown t c r
 unfolding row_numbers
 row_known t c r h =
-    record { trip = ltb_true _ _ (and_left (ltb r.trip c.trips) (ltb r.offset (count_of t c r.trip)) h); offset = ltb_true _ _ (and_right (ltb r.trip c.trips) (ltb r.offset (count_of t c r.trip)) h) }
+    record { trip = ltb-true _ _ (and_left (ltb r.trip c.trips) (ltb r.offset (count_of t c r.trip)) h); offset = ltb-true _ _ (and_right (ltb r.trip c.trips) (ltb r.offset (count_of t c r.trip)) h) }
 
 pub rows_known : (t : List ℕ) (c : Counts) (rows : List ℕ) (d : ℕ) → CountsOk c → SlicesOk t c → RunsOk t c → d ≤ 65536 → length rows ≡ d * 2 → rows_ok t c rows d ≡ true → RowsKnown t c rows d
 unfolding rows_ok
@@ -50,7 +50,7 @@ at-stop : (t : List ℕ) (c : Counts) (runs rows : List ℕ) → at_stops_ok t c
 unfolding at_stops_ok stop_rows_ok row_at_stop
 at-stop t c runs rows h s k u v =
     ap (λ (r : DepartureRow). stop_of t c r.trip r.offset) (sym (part_row rows (run_first runs s) (run_length runs s) k v))
-    ∙ eqb_true _ s (every_in_at (at_stop t c s (departures_of runs rows s)) (run_length runs s) k (every_in_at (stop_rows_ok t c runs rows) c.stops s h u) v)
+    ∙ eqb-true _ s (every_in_at (at_stop t c s (departures_of runs rows s)) (run_length runs s) k (every_in_at (stop_rows_ok t c runs rows) c.stops s h u) v)
 
 pub rows_listed : (t : List ℕ) (c : Counts) (runs rows : List ℕ) (d : ℕ) → RunsListed c runs d → SlicesOk t c → RunsOk t c → length rows ≡ d * 2 → listed_ok t c runs rows d ≡ true
     → RowsListed t c runs rows d
@@ -65,7 +65,7 @@ rows_listed t c runs rows d l s r n h =
 -- the other way: such a list is answered yes
 yes_row : (t : List ℕ) (c : Counts) (r : DepartureRow) → RowKnown t c r → row_numbers t c r ≡ true
 unfolding row_numbers
-yes_row t c r k = ap₂ ◌&&◌ (lt_ltb _ _ k.trip) (lt_ltb _ _ k.offset)
+yes_row t c r k = ap₂ ◌&&◌ (lt-ltb _ _ k.trip) (lt-ltb _ _ k.offset)
 
 yes_stop : (t : List ℕ) (c : Counts) (runs rows : List ℕ) (d s : ℕ) → RowsListed t c runs rows d → s < c.stops → stop_rows_ok t c runs rows s ≡ true
 unfolding stop_rows_ok row_at_stop

@@ -7,9 +7,9 @@ use mathlib.Core.Logic.{⊎_elim}
 use native.Mathlib.Nat.{eq-or-lt_of_le}
 use native.Mathlib.Omega.{arith}
 use lib.ListN.{length, get_or, set, take, drop, length-append, length-take, length-drop, take-append-drop, drop_of_length-le}
-use lib.Seq.{get_or_set_other, get_or-set_same, get_or-take, get_or-drop, drop-drop}
+use lib.Seq.{get_or-set_other, get_or-set_same, get_or-take, get_or-drop, drop-drop}
 use lib.Dec.{leb, eqb}
-use borrow.Author.Tests.{leb-true, leb-false, le_leb, lt-leb, eq-eqb, ne_eqb}
+use borrow.Author.Tests.{leb-true, leb-false, le-leb, lt-leb, eq-eqb, ne_eqb}
 use Rattle.loops.specs.Count.{one, tab}
 use Rattle.loops.specs.Order.{Halved}
 use Rattle.sorts.specs.Sort.{hi, pick}
@@ -48,7 +48,7 @@ pub same_test : (line w x : ℕ) → line_x x ≡ line → leb (line * 1048576 +
 same_test line w x e = go (leb w (dep_x x)) refl
   where
     go : (t : Bool) → leb w (dep_x x) ≡ t → leb (line * 1048576 + w) (hi x) ≡ t
-    go true h = le_leb (line * 1048576 + w) (hi x) (omega (arith, leb-true w (dep_x x) h, line_hi x))
+    go true h = le-leb (line * 1048576 + w) (hi x) (omega (arith, leb-true w (dep_x x) h, line_hi x))
     go false h = lt-leb (line * 1048576 + w) (hi x) (omega (arith, leb-false w (dep_x x) h, line_hi x))
 
 line_le : (a b : ℕ) → hi a ≤ hi b → line_x a ≤ line_x b
@@ -90,7 +90,7 @@ lines_set v ends i left h u s r j a b = ⊎_elim first later (eq-or-lt_of_le a)
     first e = rw (sym e) (rw (get_or-set_same ends (i - 1) left 0 (omega arith)) s)
 
     later : i - 1 < j → Stretch v j (get_or (set ends (i - 1) left) j 0)
-    later l = rw (get_or_set_other ends (i - 1) j left 0 (λ e. omega arith)) (r j (omega arith) b)
+    later l = rw (get_or-set_other ends (i - 1) j left 0 (λ e. omega arith)) (r j (omega arith) b)
 
 -- a part's
 pub lines_part : (v ends : List ℕ) (a n : ℕ) → LineEnds v ends → a + n ≤ length v → LineEnds (take n (drop a v)) (take n (drop a ends))

@@ -9,7 +9,7 @@ use native.Mathlib.Omega.{arith}
 use lib.ListN.{length, set, take, drop, length-append, take-append-drop}
 use lib.Seq.{sets-eq}
 use lib.Dec.{ltb}
-use borrow.Author.Tests.{ltb_true, ltb-false, lt_ltb, le-ltb, le_leb}
+use borrow.Author.Tests.{ltb-true, ltb-false, lt-ltb, le-ltb, le-leb}
 use Rattle.sorts.specs.Sort.{within}
 use Rattle.sorts.proofs.Within.{within_length}
 use Rattle.departures.specs.Packed.{un_trip, un_offset}
@@ -35,7 +35,7 @@ two a at p q h =
 -- one row
 pub row_full : (time x : ℕ) (s : AreaSoFar) → 65536 < s.n → lay_row time x s ≡ s
 unfolding lay_row
-row_full time x s h = ap (λ (t : Bool). cond t s (laid (s.n + 1) (put_row time s.area s.n x))) (lt_ltb 65536 s.n h)
+row_full time x s h = ap (λ (t : Bool). cond t s (laid (s.n + 1) (put_row time s.area s.n x))) (lt-ltb 65536 s.n h)
 
 pub row_more : (time x : ℕ) (s : AreaSoFar) → s.n ≤ 65536 → lay_row time x s ≡ laid (s.n + 1) (put_row time s.area s.n x)
 unfolding lay_row
@@ -60,7 +60,7 @@ lay_n time (x ∷ l) s h = go (ltb 65536 s.n) refl (lay_n time l (lay_row time x
     go : (t : Bool) → ltb 65536 s.n ≡ t → ((lay_row time x s).n ≤ 65537 → (lay time l (lay_row time x s)).n ≡ min ((lay_row time x s).n + length l) 65537)
         → (lay time l (lay_row time x s)).n ≡ min (s.n + suc (length l)) 65537
     go true e later =
-        let u = ltb_true 65536 s.n e in
+        let u = ltb-true 65536 s.n e in
         let q : (lay_row time x s).n ≡ s.n = ap (λ (w : AreaSoFar). w.n) (row_full time x s u) in
         omega (arith, u, q, later (omega (arith, q)))
     go false e later =
@@ -75,7 +75,7 @@ key_words time (x ∷ l) = un_trip x ∷ un_offset x ∷ time ∷ 0 ∷ key_word
 
 put_fits : (time : ℕ) (a : List ℕ) (n x : ℕ) → n * 4 + 4 ≤ length a → put_row time a n x ≡ within (n * 4) (n * 4 + 4) (un_trip x ∷ un_offset x ∷ time ∷ 0 ∷ []) a
 unfolding put_row
-put_fits time a n x h = simp (le_leb (n * 4 + 4) (length a) h)
+put_fits time a n x h = simp (le-leb (n * 4 + 4) (length a) h)
 
 within_none : (a e : ℕ) (l : List ℕ) → a ≡ e → within a e [] l ≡ l
 unfolding within
@@ -117,7 +117,7 @@ events_append time e (l ∷ a) b w =
 
 run_fits : (v : List ℕ) (e n m : ℕ) → e * 2 + 2 ≤ length v → put_run v e n m ≡ within (e * 2) (e * 2 + 2) (n ∷ m ∷ []) v
 unfolding put_run
-run_fits v e n m h = simp (le_leb (e * 2 + 2) (length v) h)
+run_fits v e n m h = simp (le-leb (e * 2 + 2) (length v) h)
 
 event_n : (time e : ℕ) (l : List ℕ) (w : AreaWalk) → (lay_event time e l w).n ≡ (lay time l (laid w.n w.area)).n
 unfolding lay_event

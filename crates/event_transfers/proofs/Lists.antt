@@ -1,6 +1,6 @@
 -- Laws of lists: what is kept, the first that passes, lists joined.
 use lib.Dec.{leb, ltb}
-use borrow.Author.Tests.{le_leb, lt-leb, ltb-false, ltb_true}
+use borrow.Author.Tests.{le-leb, lt-leb, ltb-false, ltb-true}
 use Rattle.loops.proofs.Search.{halved_down, halved_start, halved_up}
 use Prim.Native.Nat.{ℕ, zero, suc, ◌+◌, ◌*◌, ◌-◌, ◌/◌, ◌<◌, ◌≤◌}
 use mathlib.Core.Path.{◌≡◌, refl, sym, ◌∙◌, ap, ap₂}
@@ -137,15 +137,15 @@ pub leb_not : (a b : ℕ) → leb b a ≡ not (ltb a b)
 leb_not a b = go (ltb a b) refl
   where
     go : (t : Bool) → ltb a b ≡ t → leb b a ≡ not t
-    go true e = lt-leb b a (ltb_true a b e)
-    go false e = le_leb b a (ltb-false a b e)
+    go true e = lt-leb b a (ltb-true a b e)
+    go false e = le-leb b a (ltb-false a b e)
 
 -- below or not, as a quotient
 pub below_is : (x key : ℕ) → x < 4294967296 → key ≤ 8589934592 → (1099511627775 + key - x) / 1099511627776 ≡ one (ltb x key)
 below_is x key h k = go (ltb x key) refl
   where
     go : (t : Bool) → ltb x key ≡ t → (1099511627775 + key - x) / 1099511627776 ≡ one t
-    go true e = let u = ltb_true x key e in omega arith
+    go true e = let u = ltb-true x key e in omega arith
     go false e = let u = ltb-false x key e in omega arith
 
 pub quotient_most : (x key : ℕ) → key ≤ 8589934592 → (1099511627775 + key - x) / 1099511627776 ≤ 1
@@ -184,9 +184,9 @@ module _ {A B : Type 0} (f : A → B) where
   pub map_slice : (a e : ℕ) (l : List A) → map f (slice a e l) ≡ slice a e (map f l)
   map_slice a e l = map_drop a (take e l) ∙ ap (drop a) (map_take e l)
 
-  pub length_map : (l : List A) → length (map f l) ≡ length l
-  length_map [] = refl
-  length_map (x ∷ l) = ap suc (length_map l)
+  pub length-map : (l : List A) → length (map f l) ≡ length l
+  length-map [] = refl
+  length-map (x ∷ l) = ap suc (length-map l)
 
   pub flatten_map : (l : List (List A)) → flatten (map (map f) l) ≡ map f (flatten l)
   unfolding flatten

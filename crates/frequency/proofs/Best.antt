@@ -5,7 +5,7 @@ use mathlib.Core.Bool.{Bool, true, false, cond}
 use native.Mathlib.Omega.{arith}
 use lib.Dec.{ltb, leb}
 use lib.IntN.{sub_ℕ}
-use borrow.Author.Tests.{le_leb, lt-leb, lt_ltb, le-ltb, ltb_true, ltb-false}
+use borrow.Author.Tests.{le-leb, lt-leb, lt-ltb, le-ltb, ltb-true, ltb-false}
 use Rattle.loops.specs.Iter.{Hit, hit, miss, range}
 use Rattle.loops.proofs.Iter.{range_again}
 use Rattle.signed.specs.Signed.{bits_of}
@@ -33,7 +33,7 @@ earlier_keeps P (Board a) (Board b) p q = go (leb a.departure b.departure)
     go false = q
 
 pub earlier_old : (a b : BoardedRun) → a.departure ≤ b.departure → Board a ≡ earlier_of (Board a) (Board b)
-earlier_old a b l = sym (ap (λ (t : Bool). cond t (Board a) (Board b)) (le_leb a.departure b.departure l))
+earlier_old a b l = sym (ap (λ (t : Bool). cond t (Board a) (Board b)) (le-leb a.departure b.departure l))
 
 pub earlier_next : (a b : BoardedRun) → b.departure < a.departure → Board b ≡ earlier_of (Board a) (Board b)
 earlier_next a b l = sym (ap (λ (t : Bool). cond t (Board a) (Board b)) (lt-leb a.departure b.departure l))
@@ -43,7 +43,7 @@ module _ (window : ℕ → Window) (base dep after : ℕ) where
   boarding r = Board (board_run (window r.window) r.window base dep after r.run)
 
   pub board_some : (r : Run) → r.start < 4294967295 → board_of window r base dep after ≡ boarding r
-  board_some r l = ap (λ (b : Bool). cond b (boarding r) Nothing) (lt_ltb r.start 4294967295 l)
+  board_some r l = ap (λ (b : Bool). cond b (boarding r) Nothing) (lt-ltb r.start 4294967295 l)
 
   pub board_none : (r : Run) → 4294967295 ≤ r.start → board_of window r base dep after ≡ Nothing
   board_none r l = ap (λ (b : Bool). cond b (boarding r) Nothing) (le-ltb r.start 4294967295 l)
@@ -92,7 +92,7 @@ module _ (n : ℕ) (window : ℕ → Window) (base dep after : ℕ) (nominal : N
         go (hit k) e l = board_some window base dep after (run_of w i (hit k)) (omega (arith, early k e)) ∙ by (ltb best.start 4294967295) refl
           where
             by : (b : Bool) → ltb best.start 4294967295 ≡ b → Board (board_run w i base dep after k) ≡ earlier_of (cond b (boarding window base dep after best) Nothing) (Board (board_run w i base dep after k))
-            by true q = earlier_next _ _ (omega (arith, (found_says w base dep after k e).wanted, f.starts (ltb_true best.start 4294967295 q)))
+            by true q = earlier_next _ _ (omega (arith, (found_says w base dep after k e).wanted, f.starts (ltb-true best.start 4294967295 q)))
             by false q = refl
         go miss e l = ap (λ (x : FreqBoard). earlier_of x Nothing) (sym (board_none window base dep after best (omega arith)))
 
@@ -110,7 +110,7 @@ module _ (n : ℕ) (window : ℕ → Window) (base dep after : ℕ) (nominal : N
     turned = go (ltb next.start best.start) refl
       where
         go : (t : Bool) → ltb next.start best.start ≡ t → board_of window (cond t next best) base dep after ≡ turn board
-        go true q = turn_new (ltb_true next.start best.start q)
+        go true q = turn_new (ltb-true next.start best.start q)
         go false q = turn_old (ltb-false next.start best.start q)
 
     drawn_earlier : Drawn n window base dep after (earlier_run best next)

@@ -5,7 +5,7 @@ use mathlib.Core.Bool.{Bool, true, false, cond, not}
 use mathlib.Core.Logic.{⊎_elim}
 use native.Mathlib.Omega.{arith}
 use lib.IntN.{ℤ, pos, negsuc, nat_abs, neg_ℤ, sub_ℕ, ◌+ℤ◌, ◌-ℤ◌, +ℤ_assoc, +ℤ_comm, neg_ℤ-+ℤ, neg_ℤ-neg_ℤ}
-use borrow.Author.Tests.{lt_ltb, le-ltb, le_leb, lt-leb}
+use borrow.Author.Tests.{lt-ltb, le-ltb, le-leb, lt-leb}
 use Rattle.loops.proofs.Search.{split}
 use Rattle.frequency.specs.Gtfs.{Window, board_offset, need, is_above}
 
@@ -13,7 +13,7 @@ pub sub_pos : (a b : ℕ) → b ≤ a → sub_ℕ a b ≡ pos (a - b)
 sub_pos a b h = ap (λ (t : Bool). cond t (negsuc (b - suc a)) (pos (a - b))) (le-ltb a b h)
 
 pub sub_neg : (a b : ℕ) → a < b → sub_ℕ a b ≡ negsuc (b - suc a)
-sub_neg a b h = ap (λ (t : Bool). cond t (negsuc (b - suc a)) (pos (a - b))) (lt_ltb a b h)
+sub_neg a b h = ap (λ (t : Bool). cond t (negsuc (b - suc a)) (pos (a - b))) (lt-ltb a b h)
 
 pub minus : (a b : ℕ) → pos a -ℤ pos b ≡ sub_ℕ a b
 minus a zero = ap pos (omega arith) ∙ sym (sub_pos a 0 (omega arith))
@@ -60,5 +60,5 @@ module _ (w : Window) (base dep after : ℕ) where
   above_first l =
       ap is_above need_is
       ∙ ⊎_elim (λ (q : after + base < dep + w.start). ap is_above (sub_neg (after + base) (dep + w.start) q))
-      (λ (q : dep + w.start ≤ after + base). ap is_above (sub_pos (after + base) (dep + w.start) q) ∙ ap not (le_leb (after + base - (dep + w.start)) 0 (omega arith)))
+      (λ (q : dep + w.start ≤ after + base). ap is_above (sub_pos (after + base) (dep + w.start) q) ∙ ap not (le-leb (after + base - (dep + w.start)) 0 (omega arith)))
       (split (after + base) (dep + w.start))

@@ -8,7 +8,7 @@ use native.Mathlib.Omega.{arith}
 use native.Mathlib.Nat.{mul-le-mul_right, eq-or-lt_of_le}
 use lib.Dec.{eqb, ltb, leb}
 use lib.IntN.{ℤ, pos, negsuc, nat_abs, sub_ℕ}
-use borrow.Author.Tests.{le_leb, leb-true, leb-false, ltb_true}
+use borrow.Author.Tests.{le-leb, leb-true, leb-false, ltb-true}
 use Rattle.signed.specs.Signed.{of_bits}
 use Rattle.signed.proofs.Laws.{of_sub}
 use Rattle.loops.specs.Iter.{Hit, hit, miss}
@@ -24,7 +24,7 @@ use Rattle.frequency.proofs.Best.{earlier_none}
 
 module _ (window : ℕ → Window) (base dep after : ℕ) where
   test : (n i k : ℕ) → Boards n window base dep after i k → is_boardable (window i) base dep after k ≡ true
-  test n i k b = ap₂ ◌&&◌ b.runs (le_leb (after + base) (run_start (window i) k + dep) b.wanted)
+  test n i k b = ap₂ ◌&&◌ b.runs (le-leb (after + base) (run_start (window i) k + dep) b.wanted)
 
   -- a window in which the search finds nothing has no run to board
   window_none : (n i k : ℕ) → first_run (window i) base dep after ≡ miss → Boards n window base dep after i k → ⊥
@@ -154,7 +154,7 @@ size_sub : (l a b : ℕ) → a ≤ l → b ≤ l → nat_abs (sub_ℕ a b) ≤ l
 size_sub l a b u v = go (ltb a b) refl
   where
     go : (t : Bool) → ltb a b ≡ t → nat_abs (cond t (negsuc (b - suc a)) (pos (a - b))) ≤ l
-    go true e = omega (arith, ltb_true a b e)
+    go true e = omega (arith, ltb-true a b e)
     go false e = omega arith
 
 -- What a query asks of the numbers.
@@ -163,7 +163,7 @@ module _ (n : ℕ) (window : ℕ → Window) (base dep after : ℕ) (nominal : N
   pub start_bound : run_start (window b.headways.window) b.headways.run < 1048575
   start_bound =
       let w = window b.headways.window in
-      let r : run_start w b.headways.run < w.end = ltb_true _ _ (and_right (not (eqb w.headway 0)) (ltb (run_start w b.headways.run) w.end) (board_is window base dep after n b e).boards.runs) in
+      let r : run_start w b.headways.run < w.end = ltb-true _ _ (and_right (not (eqb w.headway 0)) (ltb (run_start w b.headways.run) w.end) (board_is window base dep after n b e).boards.runs) in
       omega (arith, nominal.ends b.headways.window (board_is window base dep after n b e).boards.among)
 
   pub departure_after : after ≤ b.departure

@@ -7,7 +7,7 @@ use native.Mathlib.Omega.{arith}
 use native.Mathlib.Nat.{div-add-mod', mod-lt, mul-le-mul_left, mul-le-mul_right, zero-mul, suc-mul, mul-one, add-mul, one-mul}
 use lib.Dec.{eqb, ltb}
 use lib.IntN.{nat_abs}
-use borrow.Author.Tests.{lt_ltb, le-ltb, le_leb, lt-leb, eq-eqb, ne_eqb, eqb_true, eqb-false, ltb_true, leb-true, not-true}
+use borrow.Author.Tests.{lt-ltb, le-ltb, le-leb, lt-leb, eq-eqb, ne_eqb, eqb-true, eqb-false, ltb-true, leb-true, not-true}
 use Rattle.loops.specs.Iter.{Hit, hit, miss}
 use Rattle.loops.proofs.Iter.{and_left, and_right, first_found}
 use Rattle.loops.proofs.Search.{clash, first_is, first_isnt, split}
@@ -26,7 +26,7 @@ pub covers_div : (n h : ℕ) → 0 < h → Covers n h (rounded_up (n / h) (n % h
 covers_div n h p = go (eqb (n % h) 0) refl
   where
     go : (t : Bool) → eqb (n % h) 0 ≡ t → Covers n h (cond t (n / h) (n / h + 1))
-    go true e = let z = eqb_true (n % h) 0 e in record { enough = omega (arith, div-add-mod' n h); least = omega (arith, div-add-mod' n h) }
+    go true e = let z = eqb-true (n % h) 0 e in record { enough = omega (arith, div-add-mod' n h); least = omega (arith, div-add-mod' n h) }
     go false e =
         let z : 0 < n % h = ⊎_elim (λ (q : 0 < n % h). q) (λ (q : n % h ≤ 0). absurd (eqb-false (n % h) 0 e (omega arith))) (split 0 (n % h)) in
         let m : (n / h + 1) * h ≡ n / h * h + h = add-mul (n / h) 1 h ∙ ap (λ (x : ℕ). n / h * h + x) (one-mul h) in
@@ -41,7 +41,7 @@ covers_less n h k j c l = omega (arith, mul-le-mul_right {m = suc j} {n = k} h l
 -- what the test says of a run
 pub boardable : (w : Window) (base dep after k : ℕ) → 0 < w.headway → run_start w k < w.end → after + base ≤ run_start w k + dep → is_boardable w base dep after k ≡ true
 boardable w base dep after k h r l =
-    ap₂ ◌&&◌ (ap₂ ◌&&◌ (ap not (ne_eqb w.headway 0 (λ e. omega arith))) (lt_ltb (run_start w k) w.end r)) (le_leb (after + base) (run_start w k + dep) l)
+    ap₂ ◌&&◌ (ap₂ ◌&&◌ (ap not (ne_eqb w.headway 0 (λ e. omega arith))) (lt-ltb (run_start w k) w.end r)) (le-leb (after + base) (run_start w k + dep) l)
 
 pub record Boardable (w : Window) (base dep after k : ℕ) : Type 0 where
   pub spaced : 0 < w.headway
@@ -54,7 +54,7 @@ boardable_says w base dep after k e =
     let z = eqb-false w.headway 0 (not-true (eqb w.headway 0) (and_left (not (eqb w.headway 0)) (ltb (run_start w k) w.end) r)) in
     record {
       spaced = ⊎_elim (λ (q : 0 < w.headway). q) (λ (q : w.headway ≤ 0). absurd (z (omega arith))) (split 0 w.headway);
-      runs = ltb_true (run_start w k) w.end (and_right (not (eqb w.headway 0)) (ltb (run_start w k) w.end) r);
+      runs = ltb-true (run_start w k) w.end (and_right (not (eqb w.headway 0)) (ltb (run_start w k) w.end) r);
       wanted = leb-true (after + base) (run_start w k + dep) (and_right (is_run w k) (leaves_not_before base dep after (run_start w k)) e);
     }
 
@@ -142,7 +142,7 @@ module _ (w : Window) (base dep after k : ℕ) (e : first_run w base dep after �
     left = go (eqb (n % h) 0) refl ∙ sym (ap (λ (j : ℕ). run_start w j + dep - base - after) later_number)
       where
         go : (t : Bool) → eqb (n % h) 0 ≡ t → cond t 0 (h - n % h) ≡ run_start w (cond t (n / h) (n / h + 1)) + dep - base - after
-        go true q = let z = eqb_true (n % h) 0 q in omega (arith, div-add-mod' n h)
+        go true q = let z = eqb-true (n % h) 0 q in omega (arith, div-add-mod' n h)
         go false q =
             let m : (n / h + 1) * h ≡ n / h * h + h = add-mul (n / h) 1 h ∙ ap (λ (x : ℕ). n / h * h + x) (one-mul h) in
             omega (arith, div-add-mod' n h, mod-lt n {m = h} (found_says w base dep after k e).spaced)
@@ -192,7 +192,7 @@ module _ (w : Window) (base dep after i k : ℕ) (e : first_run w base dep after
     by_remainder = go (eqb (m % w.headway) 0) refl (left w base dep after k e l)
       where
         go : (t : Bool) → eqb (m % w.headway) 0 ≡ t → cond t 0 (w.headway - m % w.headway) ≡ wait → cond (eqb wait 0) 0 (w.headway - wait) ≡ m % w.headway
-        go true q v = ap (λ (t : Bool). cond t 0 (w.headway - wait)) (eq-eqb wait 0 (sym v)) ∙ sym (eqb_true (m % w.headway) 0 q)
+        go true q v = ap (λ (t : Bool). cond t 0 (w.headway - wait)) (eq-eqb wait 0 (sym v)) ∙ sym (eqb-true (m % w.headway) 0 q)
         go false q v =
             let p = mod-lt m {m = w.headway} (found_says w base dep after k e).spaced in
             ap (λ (t : Bool). cond t 0 (w.headway - wait)) (ne_eqb wait 0 (λ z. omega (arith, z, v, p))) ∙ omega (arith, v, p)
@@ -201,7 +201,7 @@ module _ (w : Window) (base dep after i k : ℕ) (e : first_run w base dep after
   headways_are =
       ⊎_elim
       (λ (l : w.start + dep < after + base).
-      ap (λ (t : Bool). headways_by i k w.headway t wait) (lt_ltb (w.start + dep) (after + base) l)
+      ap (λ (t : Bool). headways_by i k w.headway t wait) (lt-ltb (w.start + dep) (after + base) l)
       ∙ ap₂ (λ (x y : ℕ). record { window = i; run = k; quotient = x; remainder = y }) (by_quotient l) (by_remainder l)
       ∙ sym (ap₂ of (above_later w base dep after l) (size_later w base dep after l)))
       (λ (l : after + base ≤ w.start + dep).
@@ -213,7 +213,7 @@ module _ (w : Window) (base dep after i k : ℕ) (e : first_run w base dep after
       of t x = record { window = i; run = k; quotient = cond t (x / w.headway) 0; remainder = cond t (x % w.headway) 0 }
 
   pub remains : Remains k w.headway late wait
-  remains = record { some = λ t p. some-run (ltb_true (w.start + dep) (after + base) t); within = λ t p. no_more (ltb_true (w.start + dep) (after + base) t) }
+  remains = record { some = λ t p. some-run (ltb-true (w.start + dep) (after + base) t); within = λ t p. no_more (ltb-true (w.start + dep) (after + base) t) }
     where
       some-run : w.start + dep < after + base → 0 < k
       some-run l = pos_run k (found_says w base dep after k e).wanted l

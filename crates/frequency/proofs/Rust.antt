@@ -10,7 +10,7 @@ use native.Mathlib.Nat.{mod-eq_of_lt, zero-mul, min-eq_left}
 use lib.Dec.{eqb, ltb, leb}
 use lib.IntN.{ℤ, pos, sub_ℕ, ◌-ℤ◌}
 use lib.Signed.{le_z}
-use borrow.Author.Tests.{lt_ltb, le-ltb, le_leb, lt-leb, eqb_true, eqb-false, leb-true, leb-false, ltb_true, ltb-false}
+use borrow.Author.Tests.{lt-ltb, le-ltb, le-leb, lt-leb, eqb-true, eqb-false, leb-true, leb-false, ltb-true, ltb-false}
 use Rattle.loops.specs.Iter.{Hit, hit, miss}
 use Rattle.loops.proofs.Iter.{iter_as}
 use Rattle.loops.proofs.Search.{split}
@@ -35,9 +35,9 @@ module _ (w : Window) (base dep after : ℕ) (s : w.start ≤ 1048575) (d : w.en
   try_hit : (n t : ℕ) → t < w.end → after + base ≤ t + dep → tries w base dep after (suc n) t ≡ some (t + dep - base, of_bits (bits_of (sub_ℕ t base)))
   unfolding tries
   try_hit n t l u =
-      ap₂ tried (lt_ltb t w.end l) (plus_offset t base dep ∙ sub_pos (t + dep) base (omega arith))
-      ∙ ap₂ later (le_leb 0 (t + dep - base) (omega arith)) (small (t + dep - base) (omega arith))
-      ∙ ap (λ (x : Bool). cond x (some (t + dep - base, of_bits t -ℤ of_bits base)) rest) (le_leb after (t + dep - base) (omega arith))
+      ap₂ tried (lt-ltb t w.end l) (plus_offset t base dep ∙ sub_pos (t + dep) base (omega arith))
+      ∙ ap₂ later (le-leb 0 (t + dep - base) (omega arith)) (small (t + dep - base) (omega arith))
+      ∙ ap (λ (x : Bool). cond x (some (t + dep - base, of_bits t -ℤ of_bits base)) rest) (le-leb after (t + dep - base) (omega arith))
       ∙ ap (λ (z : ℤ). some (t + dep - base, z)) (same_shift t base (omega arith) (omega arith))
     where
       rest : Option (ℕ × ℤ)
@@ -58,7 +58,7 @@ module _ (w : Window) (base dep after : ℕ) (s : w.start ≤ 1048575) (d : w.en
   min_start l =
       ⊎_elim
       (λ (q : after + base < dep). ap (λ (z : ℤ). max_i64 z (pos w.start)) (less_offset after base dep ∙ sub_neg (after + base) dep q))
-      (λ (q : dep ≤ after + base). ap (λ (z : ℤ). max_i64 z (pos w.start)) (less_offset after base dep ∙ sub_pos (after + base) dep q) ∙ ap (λ (x : Bool). cond x (pos w.start) (pos (after + base - dep))) (le_leb (after + base - dep) w.start (omega arith)))
+      (λ (q : dep ≤ after + base). ap (λ (z : ℤ). max_i64 z (pos w.start)) (less_offset after base dep ∙ sub_pos (after + base) dep q) ∙ ap (λ (x : Bool). cond x (pos w.start) (pos (after + base - dep))) (le-leb (after + base - dep) w.start (omega arith)))
       (split (after + base) dep)
 
   min_later : w.start + dep < after + base → t_min w base dep after ≡ pos (after + base - dep)
@@ -109,7 +109,7 @@ module _ (w : Window) (base dep after : ℕ) (s : w.start ≤ 1048575) (d : w.en
     from_start h u l =
         pair_hit 0 w.start
         (ap After (min_start l)
-        ∙ ap₂ (λ (x y : Bool). cond x none (tries w base dep after max_tries (cond y w.start (saturating_add w.start (saturating_mul (div_ceil (as_u32 (pos w.start) - w.start) w.headway) w.headway))))) (lt-leb w.end w.start u) (le_leb w.start w.start (omega arith))
+        ∙ ap₂ (λ (x y : Bool). cond x none (tries w base dep after max_tries (cond y w.start (saturating_add w.start (saturating_mul (div_ceil (as_u32 (pos w.start) - w.start) w.headway) w.headway))))) (lt-leb w.end w.start u) (le-leb w.start w.start (omega arith))
         ∙ try_hit 31 w.start u l)
         (omega (arith, zero-mul w.headway)) (run-first w base dep after h u l)
 
@@ -118,7 +118,7 @@ module _ (w : Window) (base dep after : ℕ) (s : w.start ≤ 1048575) (d : w.en
       where
         try : (y : Bool) → ltb (t h l) w.end ≡ y → tries w base dep after max_tries (t h l) ≡ ours
         try true e =
-            let r = ltb_true (t h l) w.end e in
+            let r = ltb-true (t h l) w.end e in
             pair_hit (number h l) (t h l) (try_hit 31 (t h l) r (omega (arith, (covers h l).enough))) refl (run_later w base dep after (number h l) h (covers h l) r l)
         try false e =
             let r = ltb-false (t h l) w.end e in
@@ -132,7 +132,7 @@ module _ (w : Window) (base dep after : ℕ) (s : w.start ≤ 1048575) (d : w.en
     window_same = go (eqb w.headway 0) refl (leb w.end w.start) refl
       where
         go : (x : Bool) → eqb w.headway 0 ≡ x → (y : Bool) → leb w.end w.start ≡ y → cond (x || y) none (After (t_min w base dep after)) ≡ ours
-        go true e y f = pair_none refl (run_miss w base dep after (λ k c. omega (arith, eqb_true w.headway 0 e, c.spaced)))
+        go true e y f = pair_none refl (run_miss w base dep after (λ k c. omega (arith, eqb-true w.headway 0 e, c.spaced)))
         go false e true f = pair_none refl (run_miss w base dep after (λ k c. omega (arith, leb-true w.end w.start f, c.runs)))
         go false e false f =
             let h : 0 < w.headway = ⊎_elim (λ (q : 0 < w.headway). q) (λ (q : w.headway ≤ 0). absurd (eqb-false w.headway 0 e (omega arith))) (split 0 w.headway) in

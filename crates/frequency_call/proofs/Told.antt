@@ -5,7 +5,7 @@ use mathlib.Core.List.{List}
 use native.Mathlib.Omega.{arith}
 use lib.Dec.{eqb, leb}
 use lib.ListN.{length}
-use borrow.Author.Tests.{eqb_true}
+use borrow.Author.Tests.{eqb-true}
 use Rattle.door.specs.Door.{ask}
 use Rattle.door.specs.Settings.{settings_ok}
 use Rattle.door.specs.declared.Settings.{Settings}
@@ -27,7 +27,7 @@ module _ (S : Settings) (count : ℕ) (ws : List ℕ) (base dep after : ℕ) whe
       let fits = ask 5 (freq_in_range ws base dep after) 0 in
       let lengths = ask 2 (eqb (length ws) (3 * count)) fits in
       let asked = ask_later 13 (settings_ok S) lengths (ask_later 0 (leb count window_limit) (ask 14 (settings_ok S) lengths) e) in
-      counted count ws (eqb_true (length ws) (3 * count) (ask_yes 1 (eqb (length ws) (3 * count)) fits asked))
+      counted count ws (eqb-true (length ws) (3 * count) (ask_yes 1 (eqb (length ws) (3 * count)) fits asked))
 
   told : FreqTold count ws base dep after (freq_outcome S count ws base dep after)
   told = go (freq_code S count ws base dep after) refl (earliest_freq_board (window_count ws) (window_in ws) base dep after) refl

@@ -12,7 +12,7 @@ use native.Mathlib.Omega.{arith}
 use lib.ListN.{length, get_or, set, length-set, length-replicate}
 use lib.Dec.{ltb, leb, eqb}
 use lib.Ieee.{Float}
-use borrow.Author.Tests.{ltb_true, ltb-false, eqb_true, eqb-false}
+use borrow.Author.Tests.{ltb-true, ltb-false, eqb-true, eqb-false}
 use Rattle.loops.specs.Iter.{Hit}
 use Rattle.walk_time.proofs.Laws.{rounds_most}
 use Rattle.frequency.specs.declared.BoardedRun.{BoardedRun}
@@ -208,7 +208,7 @@ module _ (T : Tables) (Q : Query) where
 
           go : (t : Bool) → eqb x s ≡ t → Known stamp a x → Known stamp b x
           go true z k =
-              subst (Known stamp b) (sym (eqb_true x s z)) (reached (stamp - 1) (omega arith) (ap reached_by here ∙ e ∙ ap suc (sym at_here)))
+              subst (Known stamp b) (sym (eqb-true x s z)) (reached (stamp - 1) (omega arith) (ap reached_by here ∙ e ∙ ap suc (sym at_here)))
           go false z (unreached n) = unreached (at_other x (eqb-false x s z) ∙ n)
           go false z (reached row c f) =
               let k = eqb-false x s z in reached row c (ap reached_by (old k row (omega arith)) ∙ f ∙ ap suc (sym (at_other x k)))
@@ -300,8 +300,8 @@ module _ (T : Tables) (Q : Query) where
           go : (x : Bool) → ltb v (at b s) ≡ x → On (cond x (improve T Q stamp s v l b) b)
           go true h =
               record {
-                held = improve_holds stamp s v l b (improve T Q stamp s v l b) low top e (ltb_true _ _ h) refl refl O.held refl B;
-                kept = λ row x c t n I. improve_keeps stamp s v l b (improve T Q stamp s v l b) low top e (ltb_true _ _ h) refl refl O.held
+                held = improve_holds stamp s v l b (improve T Q stamp s v l b) low top e (ltb-true _ _ h) refl refl O.held refl B;
+                kept = λ row x c t n I. improve_keeps stamp s v l b (improve T Q stamp s v l b) low top e (ltb-true _ _ h) refl refl O.held
                     row x c t n (O.kept row x c t n I);
               }
           go false h = O
@@ -342,7 +342,7 @@ module _ (T : Tables) (Q : Query) where
                 before = stamp - 1;
                 not-above = omega arith;
                 reached = v;
-                label = ap reached_by (here stamp s v l b (improve T Q stamp s v l b) low top e (ltb_true _ _ h) refl refl H) ∙ e;
+                label = ap reached_by (here stamp s v l b (improve T Q stamp s v l b) low top e (ltb-true _ _ h) refl refl H) ∙ e;
                 in_time = omega arith;
               }
           go false h (unreached z) = absurd (omega (arith, ltb-false v (at b s) h))
@@ -503,7 +503,7 @@ module _ (T : Tables) (Q : Query) where
     lists_in x d = go (ltb x (stops T)) refl
       where
         go : (b : Bool) → ltb x (stops T) ≡ b → Memᴰ d (elim b [ true ↦ T.departures x | false ↦ [] ]) → x < stops T
-        go true e m = ltb_true x (stops T) e
+        go true e m = ltb-true x (stops T) e
         go false e m = absurd (Memᴰ.not-nil m)
 
     -- A ROUND, whose stamp is its number plus two
@@ -689,7 +689,7 @@ module _ (T : Tables) (Q : Query) where
 
         go : (x : Bool) → ltb v (at a o.stop) ≡ x → Held 1 (elim x [ true ↦ earlier | false ↦ heard ])
         go true e =
-            improve_holds 1 o.stop v l a earlier (omega arith) (omega arith) refl (ltb_true _ _ e) refl refl H refl accessed
+            improve_holds 1 o.stop v l a earlier (omega arith) (omega arith) refl (ltb-true _ _ e) refl refl H refl accessed
         go false e = held_same 1 a heard refl refl H.queue H
 
     access_held : (os : List Origin) (a : Arrivals) → Held 1 a → Held 1 (access T Q os a)

@@ -6,10 +6,10 @@ use mathlib.Core.Bool.{Bool, true, false}
 use mathlib.Core.List.{List, [], ◌∷◌}
 use native.Mathlib.Omega.{arith}
 use lib.ListN.{length, get_or, set, length-set}
-use lib.Seq.{sets, length-sets, get_or-set_same, get_or_set_other}
+use lib.Seq.{sets, length-sets, get_or-set_same, get_or-set_other}
 use lib.Dec.{ltb}
 use lib.Ieee.{Float, nan}
-use borrow.Author.Tests.{ltb_true, ltb-false}
+use borrow.Author.Tests.{ltb-true, ltb-false}
 use Rattle.label.specs.declared.Label.{Label}
 use Rattle.label.specs.declared.Label.TheVariants.{Empty, Access, Transit, Walk}
 use Rattle.label.specs.declared.LabelRow.{LabelRow}
@@ -31,11 +31,11 @@ table_record stops stop row l d p q u v = record { words = omega arith; distance
 -- a run of stores, read before it, past it and in it
 below : {A : Type 0} (vs l : List A) (at j : ℕ) (z : A) → j < at → get_or (sets l at vs) j z ≡ get_or l j z
 below [] l at j z h = refl
-below (v ∷ vs) l at j z h = below vs (set l at v) (suc at) j z (omega arith) ∙ get_or_set_other l at j v z (omega arith)
+below (v ∷ vs) l at j z h = below vs (set l at v) (suc at) j z (omega arith) ∙ get_or-set_other l at j v z (omega arith)
 
 above : {A : Type 0} (vs l : List A) (at j : ℕ) (z : A) → at + length vs ≤ j → get_or (sets l at vs) j z ≡ get_or l j z
 above [] l at j z h = refl
-above (v ∷ vs) l at j z h = above vs (set l at v) (suc at) j z (omega arith) ∙ get_or_set_other l at j v z (omega arith)
+above (v ∷ vs) l at j z h = above vs (set l at v) (suc at) j z (omega arith) ∙ get_or-set_other l at j v z (omega arith)
 
 within : {A : Type 0} (vs l : List A) (at i : ℕ) (z : A) → at + length vs ≤ length l → i < length vs
     → get_or (sets l at vs) (at + i) z ≡ get_or vs i z
@@ -58,13 +58,13 @@ unfolding put_words
 other_word r l k j i n u = go (ltb j k) refl
   where
     go : (t : Bool) → ltb j k ≡ t → get_or (sets l (8 * k) (words_of r)) (8 * j + i) 0 ≡ get_or l (8 * j + i) 0
-    go true e = let b = ltb_true j k e in below (words_of r) l (8 * k) (8 * j + i) 0 (omega arith)
+    go true e = let b = ltb-true j k e in below (words_of r) l (8 * k) (8 * j + i) 0 (omega arith)
     go false e = let b = ltb-false j k e in above (words_of r) l (8 * k) (8 * j + i) 0 (omega arith)
 
 -- and so is its distance
 pub other_distance : (r : LabelRow) (d : List Float) (k j : ℕ) (z : Float) → (j ≡ k → ⊥) → get_or (put_distance r d k) j z ≡ get_or d j z
 unfolding put_distance
-other_distance r d k j z n = get_or_set_other d k j r.distance z n
+other_distance r d k j z n = get_or-set_other d k j r.distance z n
 
 -- the distance of a record that was put, at k
 pub put-distance : (r : LabelRow) (d : List Float) (k : ℕ) (z : Float) → k < length d → get_or (put_distance r d k) k z ≡ r.distance

@@ -7,7 +7,7 @@ use native.Mathlib.Omega.{arith}
 use lib.ListN.{length}
 use lib.Dec.{ltb, leb, eqb}
 use lib.Ieee.{Float}
-use borrow.Author.Tests.{ltb_true, leb-true, eqb_true, le_leb, lt-leb}
+use borrow.Author.Tests.{ltb-true, leb-true, eqb-true, le-leb, lt-leb}
 use Rattle.door.specs.Door.{ask}
 use Rattle.door.specs.Settings.{settings_ok}
 use Rattle.door.specs.declared.Settings.{Settings}
@@ -43,8 +43,8 @@ module _ (S : Settings) (stops stop row : ℕ) (l : List ℕ) (d : List Float) w
       let e2 = ask_later 13 (settings_ok S) (ask 2 right l4) (ask_later 0 (leb stops 4096) house e) in
       let e4 = ask_later 1 right l4 e2 in
       let lengths = (and-eq-true_iff (eqb (length l) (stops * 13 * 8)) (eqb (length d) (stops * 13))).0 (ask_yes 1 right l4 e2) in
-      table_record stops stop row l d (eqb_true _ _ lengths.0) (eqb_true _ _ lengths.1)
-      (ltb_true _ _ (ask_yes 3 (ltb stop stops) l5 e4)) (leb-true _ _ (ask_yes 4 (leb row 12) 0 (ask_later 3 (ltb stop stops) l5 e4)))
+      table_record stops stop row l d (eqb-true _ _ lengths.0) (eqb-true _ _ lengths.1)
+      (ltb-true _ _ (ask_yes 3 (ltb stop stops) l5 e4)) (leb-true _ _ (ask_yes 4 (leb row 12) 0 (ask_later 3 (ltb stop stops) l5 e4)))
 
   -- a store's questions ask more than a load's
   pub load_admitted : (x : Label) → store_code S x stops stop row (length l) (length d) ≡ 0 → load_code S stops stop row (length l) (length d) ≡ 0
@@ -96,7 +96,7 @@ module _ (S : Settings) (stops stop row : ℕ) (l : List ℕ) (d : List Float) w
     pub load_made : (r : LabelRow) → r ≡ label_row_at l d k → r.kind ≤ 3 → given_label (label_of r) ≡ load_answer S stops stop row l d
     unfolding loaded
     load_made r e h =
-        ap (λ (s : LabelRow). given_label (label_of s)) e ∙ at_place true (sym (ap (λ (s : LabelRow). leb s.kind 3) e) ∙ le_leb _ _ h)
+        ap (λ (s : LabelRow). given_label (label_of s)) e ∙ at_place true (sym (ap (λ (s : LabelRow). leb s.kind 3) e) ∙ le-leb _ _ h)
 
 -- a stored label's kind is one
 kind_small : (x : Label) → (row_of x).kind ≤ 3

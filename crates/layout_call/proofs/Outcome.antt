@@ -5,7 +5,7 @@ use mathlib.Core.Bool.{true, ◌&&◌}
 use mathlib.Core.List.{List}
 use lib.ListN.{length}
 use lib.Dec.{eqb, leb}
-use borrow.Author.Tests.{eqb_true, leb-true}
+use borrow.Author.Tests.{eqb-true, leb-true}
 use Rattle.loops.proofs.Iter.{and_left}
 use Rattle.door.specs.Door.{ask}
 use Rattle.door.specs.Settings.{settings_ok}
@@ -49,10 +49,10 @@ sizes_yes t c lines n runs entries positions fifo h =
     let b = two (eqb positions c.trips) (eqb fifo lines) y.two in
     record {
       slices = slices_yes t c x.one;
-      runs_is = eqb_true _ _ a.one;
-      entries_is = eqb_true _ _ a.two;
-      positions_is = eqb_true _ _ b.one;
-      fifo_is = eqb_true _ _ b.two;
+      runs_is = eqb-true _ _ a.one;
+      entries_is = eqb-true _ _ a.two;
+      positions_is = eqb-true _ _ b.one;
+      fifo_is = eqb-true _ _ b.two;
     }
 
 -- all together

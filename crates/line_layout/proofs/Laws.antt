@@ -8,7 +8,7 @@ use native.Mathlib.Nat.{add-zero, add-suc, eq-or-lt_of_le}
 use native.Mathlib.Omega.{arith}
 use lib.ListN.{get_or}
 use lib.Dec.{leb, eqb}
-use borrow.Author.Tests.{eqb_true, eqb-false, leb-true, eq-eqb, ne_eqb, le_leb}
+use borrow.Author.Tests.{eqb-true, eqb-false, leb-true, eq-eqb, ne_eqb, le-leb}
 use Rattle.loops.specs.Iter.{Hit, hit, miss, found_or, every_in}
 use Rattle.loops.specs.Count.{one}
 use Rattle.loops.proofs.Iter.{every_at, every_all, every_in_at}
@@ -34,7 +34,7 @@ in_order p q h =
     let x = two (leb p.arrival q.arrival && leb p.departure q.departure) (eqb p.pickup q.pickup && eqb p.drop_off q.drop_off) h in
     let a = two (leb p.arrival q.arrival) (leb p.departure q.departure) x.one in
     let b = two (eqb p.pickup q.pickup) (eqb p.drop_off q.drop_off) x.two in
-    record { arrival = leb-true _ _ a.one; departure = leb-true _ _ a.two; pickup = eqb_true _ _ b.one; drop_off = eqb_true _ _ b.two }
+    record { arrival = leb-true _ _ a.one; departure = leb-true _ _ a.two; pickup = eqb-true _ _ b.one; drop_off = eqb-true _ _ b.two }
 
 module _ (T : Timetable) where
   -- of neighbours the first is nowhere later than the second; and two of which that is true may be neighbours
@@ -46,9 +46,9 @@ module _ (T : Timetable) where
       let w = two (eqb (T.trip a).windows 0) (eqb (T.trip b).windows 0) x.one in
       let n = two (eqb (T.trip a).count (T.trip b).count) steps x.two in
       record {
-        windows = eqb_true _ _ w.one;
-        windows_next = eqb_true _ _ w.two;
-        count = eqb_true _ _ n.one;
+        windows = eqb-true _ _ w.one;
+        windows_next = eqb-true _ _ w.two;
+        count = eqb-true _ _ n.one;
         arrival = λ k u. (at n.two k u).arrival;
         departure = λ k u. (at n.two k u).departure;
         pickup = λ k u. (at n.two k u).pickup;
@@ -63,7 +63,7 @@ module _ (T : Timetable) where
   neighbours_if a b h =
       ap₂ ◌&&◌ (ap₂ ◌&&◌ (eq-eqb _ _ h.windows) (eq-eqb _ _ h.windows_next))
       (ap₂ ◌&&◌ (eq-eqb _ _ h.count)
-      (every_all (λ k. in_order (time_at T a k) (time_at T b k)) 0 ((T.trip a).count - 0) (λ k l u. let v : k < (T.trip a).count = omega arith in ap₂ ◌&&◌ (ap₂ ◌&&◌ (le_leb _ _ (h.arrival k v)) (le_leb _ _ (h.departure k v))) (ap₂ ◌&&◌ (eq-eqb _ _ (h.pickup k v)) (eq-eqb _ _ (h.drop_off k v))))))
+      (every_all (λ k. in_order (time_at T a k) (time_at T b k)) 0 ((T.trip a).count - 0) (λ k l u. let v : k < (T.trip a).count = omega arith in ap₂ ◌&&◌ (ap₂ ◌&&◌ (le-leb _ _ (h.arrival k v)) (le-leb _ _ (h.departure k v))) (ap₂ ◌&&◌ (eq-eqb _ _ (h.pickup k v)) (eq-eqb _ _ (h.drop_off k v))))))
 
   not_later_same : (a : ℕ) → (T.trip a).windows ≡ 0 → NotLater T a a
   not_later_same a w =
@@ -107,7 +107,7 @@ module _ (T : Timetable) where
 
         go : (b : Bool) → eqb l.count 1 ≡ b
             → cond b (eqb (T.trip (l.trip 0)).windows 0) (every_in (λ p. neighbours T (l.trip (p - 1)) (l.trip p)) 1 l.count) ≡ true → NotLater T (l.trip p) (l.trip q)
-        go true e k = let n = eqb_true l.count 1 e in one-trip (eqb_true _ 0 k) (omega arith) (omega arith)
+        go true e k = let n = eqb-true l.count 1 e in one-trip (eqb-true _ 0 k) (omega arith) (omega arith)
         go false e k =
             let d : p + (q - p) ≡ q = omega arith in
             rw d at (places (eqb-false l.count 1 e) k p (q - p) (omega arith))
@@ -118,7 +118,7 @@ module _ (T : Timetable) where
     fifo_if h = go (eqb l.count 1) refl
       where
         go : (b : Bool) → eqb l.count 1 ≡ b → cond b (eqb (T.trip (l.trip 0)).windows 0) (every_in (λ p. neighbours T (l.trip (p - 1)) (l.trip p)) 1 l.count) ≡ true
-        go true e = eq-eqb _ 0 (h 0 0 (omega arith) (omega (arith, eqb_true l.count 1 e))).windows
+        go true e = eq-eqb _ 0 (h 0 0 (omega arith) (omega (arith, eqb-true l.count 1 e))).windows
         go false e = every_all (λ p. neighbours T (l.trip (p - 1)) (l.trip p)) 1 (l.count - 1) (λ p w u. neighbours_if _ _ (h (p - 1) p (omega arith) (omega arith)))
 
 -- A TRIP'S POSITION is its place where it is listed last; a trip that no line lists has 4,294,967,295
@@ -177,7 +177,7 @@ module _ (line : ℕ → LineTrips) (a : ℕ) where
           (record {
             at = n;
             place = p;
-            last = record { known = omega arith; place = f.below; here = eqb_true _ a f.passes; after = λ q u v. eqb-false _ a (f.after q u v); later = λ m q u v. absurd (omega arith) };
+            last = record { known = omega arith; place = f.below; here = eqb-true _ a f.passes; after = λ q u v. eqb-false _ a (f.after q u v); later = λ m q u v. absurd (omega arith) };
           })
       go miss e before = one_more n (λ p u. eqb-false _ a (last_missed (λ p. eqb ((line n).trip p) a) (line n).count p e u)) before
 

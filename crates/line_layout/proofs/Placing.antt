@@ -5,9 +5,9 @@ use mathlib.Core.Bool.{Bool, true, false}
 use mathlib.Core.List.{List}
 use native.Mathlib.Numerals.{add-one}
 use lib.ListN.{length, get_or, set, length-set}
-use lib.Seq.{get_or-set_same, get_or_set_other}
+use lib.Seq.{get_or-set_same, get_or-set_other}
 use lib.Dec.{eqb}
-use borrow.Author.Tests.{eqb_true, eqb-false, eq-eqb, ne_eqb}
+use borrow.Author.Tests.{eqb-true, eqb-false, eq-eqb, ne_eqb}
 use Rattle.loops.specs.Iter.{Hit, found_or}
 use Rattle.loops.specs.Count.{tab}
 use Rattle.loops.proofs.Count.{tab_is, tab_ext, get_d_tab, length_tab_from}
@@ -23,11 +23,11 @@ set_tab f g n i v u e h = tab_is g n (set (tab f n) i v) (length-set (tab f n) i
   where
     go : (k : ℕ) → k < n → (b : Bool) → eqb k i ≡ b → get_or (set (tab f n) i v) k 0 ≡ g k
     go k x true q =
-        let r = eqb_true k i q in
+        let r = eqb-true k i q in
         ap (λ (m : ℕ). get_or (set (tab f n) i v) m 0) r ∙ get_or-set_same (tab f n) i v 0 (rw (length_tab f n) u) ∙ sym e ∙ ap g (sym r)
     go k x false q =
         let r = eqb-false k i q in
-        get_or_set_other (tab f n) i k v 0 r ∙ get_d_tab f n k 0 x ∙ sym (h k r)
+        get_or-set_other (tab f n) i k v 0 r ∙ get_d_tab f n k 0 x ∙ sym (h k r)
 
 -- a run as it begins, and one place on
 pub placed_none : (entries : List ℕ) (first : ℕ) (s : List ℕ) (n : ℕ) → length s ≡ n → s ≡ tab (placed (trips_in entries (run first 0)) s) n

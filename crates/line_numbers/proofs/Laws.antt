@@ -8,7 +8,7 @@ use native.Mathlib.Nat.{eq-or-lt_of_le, zero-add}
 use lib.ListN.{drop, get_or, length, take}
 use lib.Seq.{drop_at, get_or-drop, get_or-take, take_at}
 use lib.Dec.{eqb}
-use borrow.Author.Tests.{eq-eqb, eqb_true, le-ltb, lt_ltb, ne_eqb}
+use borrow.Author.Tests.{eq-eqb, eqb-true, le-ltb, lt-ltb, ne_eqb}
 use Rattle.loops.specs.Iter.{Hit, found_or}
 use Rattle.loops.specs.Count.{count, tab_from, upto}
 use Rattle.loops.proofs.Count.{count_inj, count_le, count_sum}
@@ -86,7 +86,7 @@ first_next T l = count_sum (line_below T l) (line_is T l) (line_below T (suc l))
 
 pub first_last : (T : Timetable) → line_first T (lines_of T) ≡ T.trips
 unfolding line_first
-first_last T = count_each (line_below T (lines_of T)) T.trips (λ k u. lt_ltb (line_of T k) (lines_of T) (line-below T k u))
+first_last T = count_each (line_below T (lines_of T)) T.trips (λ k u. lt-ltb (line_of T k) (lines_of T) (line-below T k u))
 
 -- THE TRIPS OF A LINE: as many as it has, each one of it
 pub trips_count : (T : Timetable) (l : ℕ) → length (line_trips T l) ≡ line_count T l
@@ -102,7 +102,7 @@ all_of : (T : Timetable) (l : ℕ) → All (OfLine T l) (line_trips T l)
 unfolding line_trips
 all_of T l =
     sort-all (first_departure T) (keep (line_is T l) (upto T.trips))
-    (all_imp (keep (line_is T l) (upto T.trips)) (λ x k. record { trip = k.0; line = eqb_true (line_of T x) l k.1 }) (keep_all (λ x. x < T.trips) (line_is T l) (upto T.trips) (all_upto T.trips)))
+    (all_imp (keep (line_is T l) (upto T.trips)) (λ x k. record { trip = k.0; line = eqb-true (line_of T x) l k.1 }) (keep_all (λ x. x < T.trips) (line_is T l) (upto T.trips) (all_upto T.trips)))
 
 pub of-line : (T : Timetable) (l p : ℕ) → p < length (line_trips T l) → OfLine T l (get_or (line_trips T l) p 0)
 of-line T l p u = all_at (OfLine T l) (line_trips T l) p 0 (all_of T l) u
@@ -112,7 +112,7 @@ own_tally : (T : Timetable) (a : ℕ) → a < T.trips → tally (λ y. eqb y a) 
 unfolding line_trips
 own_tally T a h =
     sort_tally (λ y. eqb y a) (first_departure T) (keep (line_is T (line_of T a)) (upto T.trips))
-    ∙ tally_keep (line_is T (line_of T a)) (λ y. eqb y a) (upto T.trips) (λ x e. eq-eqb (line_of T x) (line_of T a) (ap (line_of T) (eqb_true x a e)))
+    ∙ tally_keep (line_is T (line_of T a)) (λ y. eqb y a) (upto T.trips) (λ x e. eq-eqb (line_of T x) (line_of T a) (ap (line_of T) (eqb-true x a e)))
     ∙ tally_upto (λ y. eqb y a) T.trips ∙ one_is a T.trips h
 
 other_tally : (T : Timetable) (a l : ℕ) → (l ≡ line_of T a → ⊥) → tally (λ y. eqb y a) (line_trips T l) ≡ 0
@@ -137,7 +137,7 @@ pub record InLine (T : Timetable) (a : ℕ) : Type 0 where
 pub in_line : (T : Timetable) (a : ℕ) → a < T.trips → InLine T a
 in_line T a h =
     let r = tally_found (λ y. eqb y a) (line_trips T (line_of T a)) (omega (arith, own_tally T a h)) in
-    let e : get_or (line_trips T (line_of T a)) r.at 0 ≡ a = eqb_true (get_or (line_trips T (line_of T a)) r.at 0) a r.passes in
+    let e : get_or (line_trips T (line_of T a)) r.at 0 ≡ a = eqb-true (get_or (line_trips T (line_of T a)) r.at 0) a r.passes in
     record {
       place = r.at;
       below = r.below;
@@ -216,7 +216,7 @@ module _ (T : Timetable) (p : ℕ) (h : p < T.trips) where
   unfolding line_first
   run_known l r =
       ⊎_elim (λ (u : l < lines_of T). u)
-      (λ (u : lines_of T ≤ l). absurd (omega (arith, r.from, count_each (line_below T l) T.trips (λ k v. lt_ltb (line_of T k) l (omega (arith, line-below T k v))))))
+      (λ (u : lines_of T ≤ l). absurd (omega (arith, r.from, count_each (line_below T l) T.trips (λ k v. lt-ltb (line_of T k) l (omega (arith, line-below T k v))))))
       (split l (lines_of T))
 
   run_trip : (l : ℕ) → InLineRun T l p → entry_at T p ≡ get_or (line_trips T l) (p - line_first T l) 0
@@ -248,7 +248,7 @@ pub stands : (T : Timetable) (i : ℕ) → i < T.trips → Standing T i
 stands T i h =
     let r = tally_found (λ y. eqb y i) (entries_of T) (omega (arith, each_once T i h)) in
     let u : r.at < T.trips = omega (arith, r.below, entries_length T) in
-    let e : entry_at T r.at ≡ i = eqb_true (entry_at T r.at) i r.passes in
+    let e : entry_at T r.at ≡ i = eqb-true (entry_at T r.at) i r.passes in
     record { at = r.at; below = u; entry = e; run = rw e at (run_of T r.at u) }
 
 -- inside a line's run, as inside the line

@@ -8,7 +8,7 @@ use native.Mathlib.Numerals.{add-one}
 use lib.ListN.{length, get_or, set}
 use lib.Seq.{set-get_or, ext_get_or}
 use lib.Dec.{ltb, leb, eqb}
-use borrow.Author.Tests.{eqb_true, eqb-false, eq-eqb, ltb_true, ltb-false, leb-true, leb-false, le_leb, lt-leb}
+use borrow.Author.Tests.{eqb-true, eqb-false, eq-eqb, ltb-true, ltb-false, leb-true, leb-false, le-leb, lt-leb}
 use Rattle.loops.specs.Count.{one}
 use Rattle.query_types.specs.declared.Lay.{Lay}
 use Rattle.search_state.specs.Part.{part, tally}
@@ -21,7 +21,7 @@ pub same_or : (i j : ℕ) {A : Type 0} → (i ≡ j → A) → ((i ≡ j → ⊥
 same_or i j {A} x y = go (eqb i j) refl
   where
     go : (t : Bool) → eqb i j ≡ t → A
-    go true e = x (eqb_true i j e)
+    go true e = x (eqb-true i j e)
     go false e = y (eqb-false i j e)
 
 or_left : (a b : Bool) → a ≡ true → (a || b) ≡ true
@@ -44,7 +44,7 @@ unfolding is_in
 in_either x y xs {A} h f g = go (eqb y x) refl h
   where
     go : (t : Bool) → eqb y x ≡ t → (t || is_in x xs) ≡ true → A
-    go true e k = f (eqb_true y x e)
+    go true e k = f (eqb-true y x e)
     go false e k = g k
 
 pub part_ext : (w w' : List ℕ) (a n : ℕ) → length w' ≡ length w → a + n ≤ length w → ((i : ℕ) → i < n → get_or w' (a + i) 0 ≡ get_or w (a + i) 0) → part w' a n ≡ part w a n
@@ -58,7 +58,7 @@ pub tally_grow : (x : ℕ) (l : List ℕ) (s : ℕ) → s < length l → tally x
 tally_grow x l s h = go (eqb (get_or l s 0) x) refl
   where
     go : (t : Bool) → eqb (get_or l s 0) x ≡ t → tally x (set l s x) ≡ tally x l + one (not t)
-    go true e = let z : set l s x ≡ l = ap (set l s) (sym (eqb_true (get_or l s 0) x e)) ∙ set-get_or l s 0 in let y : tally x (set l s x) ≡ tally x l = ap (tally x) z in omega (arith, y)
+    go true e = let z : set l s x ≡ l = ap (set l s) (sym (eqb-true (get_or l s 0) x e)) ∙ set-get_or l s 0 in let y : tally x (set l s x) ≡ tally x l = ap (tally x) z in omega (arith, y)
     go false e = let y = tally_set x l s h (eqb-false (get_or l s 0) x e) in omega (arith, y)
 
 -- the lower of two offsets
@@ -67,8 +67,8 @@ lower_leb o a c = go (ltb o a) (leb o c) refl refl
   where
     go : (t u : Bool) → ltb o a ≡ t → leb o c ≡ u → leb (cond t o a) c ≡ (u || leb a c)
     go true true e f = f
-    go true false e f = f ∙ sym (lt-leb a c (let x = ltb_true o a e in let y = leb-false o c f in omega (arith, x, y)))
-    go false true e f = le_leb a c (let x = ltb-false o a e in let y = leb-true o c f in omega (arith, x, y))
+    go true false e f = f ∙ sym (lt-leb a c (let x = ltb-true o a e in let y = leb-false o c f in omega (arith, x, y)))
+    go false true e f = le-leb a c (let x = ltb-false o a e in let y = leb-true o c f in omega (arith, x, y))
     go false false e f = refl
 
 taut_here : (a b c m s : Bool) → ((a && (b || c)) || ((m && (a && b)) || s)) ≡ ((a && b) || ((a && c) || s))
@@ -117,7 +117,7 @@ module _ (lay : Lay) (w w' : List ℕ) where
       go : (b : Bool) → eqb x t ≡ b → (before lay w' p c x || ((is_in t xs && (ltb (get_or w (positions_at lay + t) 0) p && leb o c)) || some_before lay w p c xs))
           ≡ (((b || is_in t xs) && (ltb (get_or w (positions_at lay + t) 0) p && leb o c)) || (before lay w p c x || some_before lay w p c xs))
       go true d =
-          let z : x ≡ t = eqb_true x t d in
+          let z : x ≡ t = eqb-true x t d in
           let u : before lay w' p c x ≡ (ltb (get_or w (positions_at lay + t) 0) p && (leb o c || leb (get_or w (least_at lay + t) 0) c)) =
           ap₂ (λ (a : ℕ) (b : Bool). ltb a p && b) (f x (in_here x xs) ∙ ap (λ (y : ℕ). get_or w (positions_at lay + y) 0) z)
           (ap (λ (y : ℕ). leb (get_or w' (least_at lay + y) 0) c) z ∙ ap (λ (y : ℕ). leb y c) e ∙ lower_leb o (get_or w (least_at lay + t) 0) c) in

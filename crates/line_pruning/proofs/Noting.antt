@@ -6,9 +6,9 @@ use mathlib.Core.Bool.{Bool, true, false, cond, not, ◌&&◌, ◌||◌}
 use mathlib.Core.List.{List, ◌∷◌}
 use native.Mathlib.Omega.{arith}
 use lib.ListN.{length, get_or, set, take, drop, length-set}
-use lib.Seq.{get_or-set_same, get_or_set_other, take_set_le, drop_set_lt}
+use lib.Seq.{get_or-set_same, get_or-set_other, take-set-le, drop-set-lt}
 use lib.Dec.{ltb, leb, eqb}
-use borrow.Author.Tests.{eqb_true, eqb-false, ltb_true}
+use borrow.Author.Tests.{eqb-true, eqb-false, ltb-true}
 use Rattle.loops.specs.Count.{one}
 use Rattle.loops.specs.Iter.{Hit}
 use Rattle.loops.proofs.Iter.{and_left, and_right}
@@ -36,7 +36,7 @@ and_assoc false b c = refl
 prunable_line : (T : Tables) (Q : Query) (adj : Hit) (t : ℕ) → prunable T Q adj t ≡ true → line_at T t < T.lines
 unfolding fifo
 prunable_line T Q adj t e =
-    ltb_true (line_at T t) T.lines (and_left (ltb (line_at T t) T.lines) (fifo_line T.timetable (T.line (line_at T t))) (and_right (undelayed adj) (fifo T (line_at T t)) e))
+    ltb-true (line_at T t) T.lines (and_left (ltb (line_at T t) T.lines) (fifo_line T.timetable (T.line (line_at T t))) (and_right (undelayed adj) (fifo T (line_at T t)) e))
 
 pub line-is : (T : Tables) (lay : Lay) (c : Counts) (built w : List ℕ) (t l : ℕ) → Agrees T lay c built w → t < lay.trips → l ≡ get_or built t 0 → l ≡ line_at T t
 line-is T lay c built w t l ag h e =
@@ -60,7 +60,7 @@ module _ (lay : Lay) (stamp : ℕ) (w w1 : List ℕ) (ok : WorkSized lay (length
 
   away : (i : ℕ) → (i ≡ trip_stamps_at lay + t → ⊥) → (i ≡ boarded_offsets_at lay + t → ⊥) → (i ≡ boarded_departures_at lay + t → ⊥) → get_or x3 i 0 ≡ get_or w1 i 0
   away i a b c =
-      get_or_set_other x2 (boarded_departures_at lay + t) i dep 0 c ∙ get_or_set_other x1 (boarded_offsets_at lay + t) i o 0 b ∙ get_or_set_other w1 (trip_stamps_at lay + t) i stamp 0 a
+      get_or-set_other x2 (boarded_departures_at lay + t) i dep 0 c ∙ get_or-set_other x1 (boarded_offsets_at lay + t) i o 0 b ∙ get_or-set_other w1 (trip_stamps_at lay + t) i stamp 0 a
 
   high : (i : ℕ) → line_stamps_at lay ≤ i → get_or x3 i 0 ≡ get_or w1 i 0
   high i h = away i (λ e. omega (arith, e, h, ht)) (λ e. omega (arith, e, h, ht)) (λ e. omega (arith, e, h, ht))
@@ -70,8 +70,8 @@ module _ (lay : Lay) (stamp : ℕ) (w w1 : List ℕ) (ok : WorkSized lay (length
 
   stamp_at : get_or x3 (trip_stamps_at lay + t) 0 ≡ stamp
   stamp_at =
-      get_or_set_other x2 (boarded_departures_at lay + t) (trip_stamps_at lay + t) dep 0 (λ e. omega (arith, e, ht))
-      ∙ get_or_set_other x1 (boarded_offsets_at lay + t) (trip_stamps_at lay + t) o 0 (λ e. omega (arith, e, ht))
+      get_or-set_other x2 (boarded_departures_at lay + t) (trip_stamps_at lay + t) dep 0 (λ e. omega (arith, e, ht))
+      ∙ get_or-set_other x1 (boarded_offsets_at lay + t) (trip_stamps_at lay + t) o 0 (λ e. omega (arith, e, ht))
       ∙ get_or-set_same w1 (trip_stamps_at lay + t) stamp 0 (omega (arith, st.size, ok.words, ht))
 
   stamp_other : (x : ℕ) → x < lay.trips → (x ≡ t → ⊥) → get_or x3 (trip_stamps_at lay + x) 0 ≡ get_or w (trip_stamps_at lay + x) 0
@@ -174,13 +174,13 @@ module _ (lay : Lay) (stamp : ℕ) (w w1 : List ℕ) (ok : WorkSized lay (length
 
   pub low3 : take (trip_stamps_at lay) (stamped_as lay stamp t o dep w1) ≡ take (trip_stamps_at lay) w
   low3 =
-      take_set_le (trip_stamps_at lay) x2 (boarded_departures_at lay + t) dep (omega arith) ∙ take_set_le (trip_stamps_at lay) x1 (boarded_offsets_at lay + t) o (omega arith)
-      ∙ take_set_le (trip_stamps_at lay) w1 (trip_stamps_at lay + t) stamp (omega arith) ∙ st.low
+      take-set-le (trip_stamps_at lay) x2 (boarded_departures_at lay + t) dep (omega arith) ∙ take-set-le (trip_stamps_at lay) x1 (boarded_offsets_at lay + t) o (omega arith)
+      ∙ take-set-le (trip_stamps_at lay) w1 (trip_stamps_at lay + t) stamp (omega arith) ∙ st.low
 
   pub high3 : drop (least_at lay + lay.trips) (stamped_as lay stamp t o dep w1) ≡ drop (least_at lay + lay.trips) w
   high3 =
-      drop_set_lt (least_at lay + lay.trips) x2 (boarded_departures_at lay + t) dep (omega (arith, ht)) ∙ drop_set_lt (least_at lay + lay.trips) x1 (boarded_offsets_at lay + t) o (omega (arith, ht))
-      ∙ drop_set_lt (least_at lay + lay.trips) w1 (trip_stamps_at lay + t) stamp (omega (arith, ht)) ∙ st.high
+      drop-set-lt (least_at lay + lay.trips) x2 (boarded_departures_at lay + t) dep (omega (arith, ht)) ∙ drop-set-lt (least_at lay + lay.trips) x1 (boarded_offsets_at lay + t) o (omega (arith, ht))
+      ∙ drop-set-lt (least_at lay + lay.trips) w1 (trip_stamps_at lay + t) stamp (omega (arith, ht)) ∙ st.high
 
 module _ (lay : Lay) (stamp : ℕ) (w : List ℕ) (ok : WorkSized lay (length w)) (ch : Chains lay stamp w) (l t o : ℕ) (ht : t < lay.trips) where
   abbrev seen : Bool
@@ -195,7 +195,7 @@ module _ (lay : Lay) (stamp : ℕ) (w : List ℕ) (ok : WorkSized lay (length w)
       → pr ≡ prunable T Q (delay_of Q t) t → Tests lay stamp pr l t o w (cond pr (cond s (lowered lay t o w) (linked lay stamp l t o w)) w)
   tests T Q b bk el true true h e ep =
       lower_tests lay stamp w ok ch l t o ht
-      (ap (λ (y : ℕ). is_in t (chain lay stamp w y)) el ∙ bk.held t ht (eqb_true (get_or w (trip_stamps_at lay + t) 0) stamp e) (sym ep))
+      (ap (λ (y : ℕ). is_in t (chain lay stamp w y)) el ∙ bk.held t ht (eqb-true (get_or w (trip_stamps_at lay + t) 0) stamp e) (sym ep))
       (λ m hm z. sym (bk.own m t hm z) ∙ sym el) (h refl)
   tests T Q b bk el true false h e ep = link_tests lay stamp w ok ch l t o ht (h refl) (eqb-false (get_or w (trip_stamps_at lay + t) 0) stamp e)
   tests T Q b bk el false s h e ep = none_tests lay stamp w ch l t o

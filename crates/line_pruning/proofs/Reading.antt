@@ -6,7 +6,7 @@ use mathlib.Core.List.{List, ◌∷◌}
 use native.Mathlib.Omega.{arith}
 use lib.ListN.{get_or, set}
 use lib.Dec.{ltb, eqb}
-use borrow.Author.Tests.{eq-eqb, ne_eqb, lt_ltb, le-ltb}
+use borrow.Author.Tests.{eq-eqb, ne_eqb, lt-ltb, le-ltb}
 use Rattle.loops.specs.Count.{one}
 use Rattle.loops.specs.Iter.{Hit}
 use Rattle.tables.specs.declared.Counts.{Counts}
@@ -174,7 +174,7 @@ module _ (lay : Lay) (stamp l t o : ℕ) (w : List ℕ) where
   pub lowered_yes : (a : ℕ) → a ≡ least_at lay → o < get_or w (a + t) 0 → set w (a + t) o ≡ lowered lay t o w
   lowered_yes a q h =
       ap (λ (x : ℕ). set w (x + t) o) q
-      ∙ sym (ap (λ (b : Bool). cond b (set w (least_at lay + t) o) w) (lt_ltb o (get_or w (least_at lay + t) 0) (omega (arith, h, read_at w t a (least_at lay) q))))
+      ∙ sym (ap (λ (b : Bool). cond b (set w (least_at lay + t) o) w) (lt-ltb o (get_or w (least_at lay + t) 0) (omega (arith, h, read_at w t a (least_at lay) q))))
 
   pub listed_no : (pr : Bool) → pr ≡ false → w ≡ listed lay stamp pr l t o w
   listed_no pr e = sym (ap (λ (b : Bool). listed lay stamp b l t o w) e)

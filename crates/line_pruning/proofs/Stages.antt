@@ -6,7 +6,7 @@ use mathlib.Core.Bool.{Bool, true, false, cond, not, ◌&&◌, ◌||◌}
 use mathlib.Core.List.{List, ◌∷◌}
 use native.Mathlib.Omega.{arith}
 use lib.ListN.{length, get_or, set, take, drop, length-set}
-use lib.Seq.{get_or-set_same, get_or_set_other, take_set_le, drop_set_lt}
+use lib.Seq.{get_or-set_same, get_or-set_other, take-set-le, drop-set-lt}
 use lib.Dec.{ltb, leb, eqb}
 use borrow.Author.Tests.{eq-eqb, ne_eqb}
 use Rattle.loops.specs.Count.{one}
@@ -61,7 +61,7 @@ module _ (lay : Lay) (stamp : ℕ) (w : List ℕ) (ok : WorkSized lay (length w)
       go false = refl
 
   low_other : (i : ℕ) → (i ≡ least_at lay + t → ⊥) → get_or low_w i 0 ≡ get_or w i 0
-  low_other i n = by_low (λ (x : List ℕ). get_or x i 0) (get_or_set_other w (least_at lay + t) i o 0 n)
+  low_other i n = by_low (λ (x : List ℕ). get_or x i 0) (get_or-set_other w (least_at lay + t) i o 0 n)
 
   low_at : get_or low_w (least_at lay + t) 0 ≡ cond (ltb o (get_or w (least_at lay + t) 0)) o (get_or w (least_at lay + t) 0)
   low_at = go (ltb o (get_or w (least_at lay + t) 0))
@@ -79,8 +79,8 @@ module _ (lay : Lay) (stamp : ℕ) (w : List ℕ) (ok : WorkSized lay (length w)
   lower_stage =
       record {
         size = by_low length (length-set w (least_at lay + t) o);
-        low = by_low (take (trip_stamps_at lay)) (take_set_le (trip_stamps_at lay) w (least_at lay + t) o (omega arith));
-        high = by_low (drop (least_at lay + lay.trips)) (drop_set_lt (least_at lay + lay.trips) w (least_at lay + t) o (omega (arith, ht)));
+        low = by_low (take (trip_stamps_at lay)) (take-set-le (trip_stamps_at lay) w (least_at lay + t) o (omega arith));
+        high = by_low (drop (least_at lay + lay.trips)) (drop-set-lt (least_at lay + lay.trips) w (least_at lay + t) o (omega (arith, ht)));
         below = λ i h. low_other i (λ e. omega (arith, e, h));
         members = λ m x h z. inr (ap (is_in x) (sym (low_chain m h)) ∙ z);
         longer = λ m h. let e : length (chain lay stamp low_w m) ≡ length (chain lay stamp w m) = ap length (low_chain m h) in omega (arith, e);
@@ -132,25 +132,25 @@ module _ (lay : Lay) (stamp : ℕ) (w : List ℕ) (ok : WorkSized lay (length w)
 
     other : (i : ℕ) → (i ≡ links_at lay + t → ⊥) → (i ≡ least_at lay + t → ⊥) → (i ≡ heads_at lay + l → ⊥) → (i ≡ line_stamps_at lay + l → ⊥) → get_or w4 i 0 ≡ get_or w i 0
     other i a b c d =
-        get_or_set_other w3 (line_stamps_at lay + l) i stamp 0 d ∙ get_or_set_other w2 (heads_at lay + l) i (t + 1) 0 c
-        ∙ get_or_set_other w1 (least_at lay + t) i o 0 b ∙ get_or_set_other w (links_at lay + t) i (chain_first lay stamp w l) 0 a
+        get_or-set_other w3 (line_stamps_at lay + l) i stamp 0 d ∙ get_or-set_other w2 (heads_at lay + l) i (t + 1) 0 c
+        ∙ get_or-set_other w1 (least_at lay + t) i o 0 b ∙ get_or-set_other w (links_at lay + t) i (chain_first lay stamp w l) 0 a
 
     at_link : get_or w4 (links_at lay + t) 0 ≡ chain_first lay stamp w l
     at_link =
-        get_or_set_other w3 (line_stamps_at lay + l) (links_at lay + t) stamp 0 (λ e. omega (arith, e, hl))
-        ∙ get_or_set_other w2 (heads_at lay + l) (links_at lay + t) (t + 1) 0 (λ e. omega (arith, e, hl))
-        ∙ get_or_set_other w1 (least_at lay + t) (links_at lay + t) o 0 (λ e. omega (arith, e, ht))
+        get_or-set_other w3 (line_stamps_at lay + l) (links_at lay + t) stamp 0 (λ e. omega (arith, e, hl))
+        ∙ get_or-set_other w2 (heads_at lay + l) (links_at lay + t) (t + 1) 0 (λ e. omega (arith, e, hl))
+        ∙ get_or-set_other w1 (least_at lay + t) (links_at lay + t) o 0 (λ e. omega (arith, e, ht))
         ∙ get_or-set_same w (links_at lay + t) (chain_first lay stamp w l) 0 (omega (arith, ok.words, ht))
 
     at_least : get_or w4 (least_at lay + t) 0 ≡ o
     at_least =
-        get_or_set_other w3 (line_stamps_at lay + l) (least_at lay + t) stamp 0 (λ e. omega (arith, e, hl))
-        ∙ get_or_set_other w2 (heads_at lay + l) (least_at lay + t) (t + 1) 0 (λ e. omega (arith, e, hl))
+        get_or-set_other w3 (line_stamps_at lay + l) (least_at lay + t) stamp 0 (λ e. omega (arith, e, hl))
+        ∙ get_or-set_other w2 (heads_at lay + l) (least_at lay + t) (t + 1) 0 (λ e. omega (arith, e, hl))
         ∙ get_or-set_same w1 (least_at lay + t) o 0 (omega (arith, size1, ok.words, ht))
 
     at_head : get_or w4 (heads_at lay + l) 0 ≡ t + 1
     at_head =
-        get_or_set_other w3 (line_stamps_at lay + l) (heads_at lay + l) stamp 0 (λ e. omega (arith, e, hl))
+        get_or-set_other w3 (line_stamps_at lay + l) (heads_at lay + l) stamp 0 (λ e. omega (arith, e, hl))
         ∙ get_or-set_same w2 (heads_at lay + l) (t + 1) 0 (omega (arith, size2, ok.words, hl))
 
     at_stamp : get_or w4 (line_stamps_at lay + l) 0 ≡ stamp
@@ -197,12 +197,12 @@ module _ (lay : Lay) (stamp : ℕ) (w : List ℕ) (ok : WorkSized lay (length w)
         record {
           size = length-set w3 (line_stamps_at lay + l) stamp ∙ size3;
           low =
-              take_set_le (trip_stamps_at lay) w3 (line_stamps_at lay + l) stamp (omega arith) ∙ take_set_le (trip_stamps_at lay) w2 (heads_at lay + l) (t + 1) (omega arith)
-              ∙ take_set_le (trip_stamps_at lay) w1 (least_at lay + t) o (omega arith) ∙ take_set_le (trip_stamps_at lay) w (links_at lay + t) (chain_first lay stamp w l) (omega arith);
+              take-set-le (trip_stamps_at lay) w3 (line_stamps_at lay + l) stamp (omega arith) ∙ take-set-le (trip_stamps_at lay) w2 (heads_at lay + l) (t + 1) (omega arith)
+              ∙ take-set-le (trip_stamps_at lay) w1 (least_at lay + t) o (omega arith) ∙ take-set-le (trip_stamps_at lay) w (links_at lay + t) (chain_first lay stamp w l) (omega arith);
           high =
-              drop_set_lt (least_at lay + lay.trips) w3 (line_stamps_at lay + l) stamp (omega (arith, hl)) ∙ drop_set_lt (least_at lay + lay.trips) w2 (heads_at lay + l) (t + 1) (omega (arith, hl))
-              ∙ drop_set_lt (least_at lay + lay.trips) w1 (least_at lay + t) o (omega (arith, ht))
-              ∙ drop_set_lt (least_at lay + lay.trips) w (links_at lay + t) (chain_first lay stamp w l) (omega (arith, ht));
+              drop-set-lt (least_at lay + lay.trips) w3 (line_stamps_at lay + l) stamp (omega (arith, hl)) ∙ drop-set-lt (least_at lay + lay.trips) w2 (heads_at lay + l) (t + 1) (omega (arith, hl))
+              ∙ drop-set-lt (least_at lay + lay.trips) w1 (least_at lay + t) o (omega (arith, ht))
+              ∙ drop-set-lt (least_at lay + lay.trips) w (links_at lay + t) (chain_first lay stamp w l) (omega (arith, ht));
           below = low_at4;
           members = λ m x h z. same_or m l
               (λ e. in_either x t (chain lay stamp w l) (ap (is_in x) (sym own_chain) ∙ ap (λ (y : ℕ). is_in x (chain lay stamp w4 y)) (sym e) ∙ z)

@@ -103,11 +103,11 @@ every_keep f i b found {whole} {more} inv e h =
     inv ∙ ap (λ (x : Bool). found && x) (every_turn f i b h) ∙ and_again found (f i) (every_in f (i + 1) b) ∙ ap (λ (x : Bool). x && every_in f (i + 1) b) (sym e)
 
 pub every_kept : (f : ℕ → Bool) (i b : ℕ) (found : Bool) {whole : Bool} → whole ≡ found && every_in f i b → b ≤ i → found ≡ whole
-every_kept f i b found {whole} inv h = sym (inv ∙ ap (λ (x : Bool). found && x) (every_done f i b h) ∙ and_true found)
+every_kept f i b found {whole} inv h = sym (inv ∙ ap (λ (x : Bool). found && x) (every_done f i b h) ∙ and-true found)
   where
-    and_true : (a : Bool) → a && true ≡ a
-    and_true true = refl
-    and_true false = refl
+    and-true : (a : Bool) → a && true ≡ a
+    and-true true = refl
+    and-true false = refl
 
 -- two tests at once
 pub every_both : (f g : ℕ → Bool) (i n : ℕ) → every (λ k. f k && g k) i n ≡ every f i n && every g i n

@@ -5,13 +5,13 @@ use mathlib.Core.Bool.{Bool, true, false, ◌&&◌}
 use native.Mathlib.Omega.{arith}
 use lib.Dec.{leb}
 use lib.Bits.{bit_or, or_lt, or_add_and, and_le_l, and_le_r}
-use borrow.Author.Tests.{le_leb, lt-leb, leb-true, leb-false}
+use borrow.Author.Tests.{le-leb, lt-leb, leb-true, leb-false}
 
 pub max_most : (a b n : ℕ) → leb (max a b) n ≡ leb a n && leb b n
 max_most a b n = go (leb a n) refl (leb b n) refl
   where
     go : (x : Bool) → leb a n ≡ x → (y : Bool) → leb b n ≡ y → leb (max a b) n ≡ x && y
-    go true p true q = le_leb (max a b) n (omega (arith, leb-true a n p, leb-true b n q))
+    go true p true q = le-leb (max a b) n (omega (arith, leb-true a n p, leb-true b n q))
     go true p false q = lt-leb (max a b) n (omega (arith, leb-false b n q))
     go false p y q = lt-leb (max a b) n (omega (arith, leb-false a n p))
 
@@ -26,6 +26,6 @@ or_most k a b n e = go (leb a n) refl (leb b n) refl
     back x h = let u : x < n + 1 = subst (λ (m : ℕ). x < m) (sym e) h in omega arith
 
     go : (x : Bool) → leb a n ≡ x → (y : Bool) → leb b n ≡ y → leb (bit_or a b) n ≡ x && y
-    go true p true q = le_leb (bit_or a b) n (back (bit_or a b) (or_lt k a b (below a (leb-true a n p)) (below b (leb-true b n q))))
+    go true p true q = le-leb (bit_or a b) n (back (bit_or a b) (or_lt k a b (below a (leb-true a n p)) (below b (leb-true b n q))))
     go true p false q = lt-leb (bit_or a b) n (omega (arith, leb-false b n q, or_add_and a b, and_le_l a b))
     go false p y q = lt-leb (bit_or a b) n (omega (arith, leb-false a n p, or_add_and a b, and_le_r a b))

@@ -6,7 +6,7 @@ use mathlib.Core.Logic.{◌⊎◌, inl, inr, ⊎_elim}
 use native.Mathlib.Nat.{eq-or-lt_of_le}
 use native.Mathlib.Omega.{arith}
 use lib.Dec.{ltb, leb, eqb}
-use borrow.Author.Tests.{ltb_true, ltb-false, leb-true, leb-false, le_leb, eq-eqb, ne_eqb}
+use borrow.Author.Tests.{ltb-true, ltb-false, leb-true, leb-false, le-leb, eq-eqb, ne_eqb}
 use Rattle.loops.specs.Iter.{first_in, Hit, hit, miss}
 use Rattle.loops.specs.Order.{Stays, KeysRise, Halved}
 use Rattle.loops.proofs.Iter.{first_found, first_before, first_bound, first_none}
@@ -36,7 +36,7 @@ pub split : (a b : ℕ) → (a < b) ⊎ (b ≤ a)
 split a b = pick (ltb a b) refl
   where
     pick : (t : Bool) → ltb a b ≡ t → (a < b) ⊎ (b ≤ a)
-    pick true q = inl (ltb_true a b q)
+    pick true q = inl (ltb-true a b q)
     pick false q = inr (ltb-false a b q)
 
 -- a search finds k exactly where k passes and none before it does, and nothing where none passes
@@ -86,7 +86,7 @@ halved_end f n lo hi h l =
 -- Among keys that do not fall, the first key t is the first that is not below t, if that one is t.
 module _ (key : ℕ → ℕ) (t n : ℕ) (r : KeysRise key n) where
   pub keys_stay : Stays (λ i. leb t (key i)) n
-  keys_stay = record { stays = λ i j l u e. le_leb t (key j) (omega (arith, leb-true t (key i) e, r.rising i j l u)) }
+  keys_stay = record { stays = λ i j l u e. le-leb t (key j) (omega (arith, leb-true t (key i) e, r.rising i j l u)) }
 
   pub found_below : (lo hi : ℕ) → Halved (λ i. leb t (key i)) n lo hi → (j : ℕ) → j < lo → eqb (key j) t ≡ false
   found_below lo hi h j l = ne_eqb (key j) t (λ e. omega (arith, leb-false t (key j) (h.below j l), e))

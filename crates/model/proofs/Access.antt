@@ -9,7 +9,7 @@ use native.Mathlib.Nat.{le_refl, le_trans}
 use native.Mathlib.Omega.{arith}
 use lib.ListN.{get_or, set, replicate, get_or-replicate}
 use lib.Dec.{ltb}
-use borrow.Author.Tests.{ltb_true, ltb-false}
+use borrow.Author.Tests.{ltb-true, ltb-false}
 use Rattle.model.proofs.Base.{set_cases, set_le, set_hit}
 use Rattle.model.proofs.Net.{Net, Plain}
 use Rattle.model.proofs.PlainSearch.{Core, at, best, change, arrive, access, begin}
@@ -45,7 +45,7 @@ module _ (N : Net) where
 
       go : (b : Bool) → ltb (N.start + o.1) (at c o.0) ≡ b → Acc N (o ∷ []) c (elim b [ true ↦ yes' | false ↦ no' ])
       go true e =
-          let l : N.start + o.1 < at c o.0 = ltb_true _ _ e in
+          let l : N.start + o.1 < at c o.0 = ltb-true _ _ e in
           record {
             low = record { e = λ x. set_le c.E o.0 (N.start + o.1) x (omega arith); b = best_le N o.0 (N.start + o.1) c.B };
             hit = λ s d m. let q = Memᴰ.eq_of_singleton m in subst (λ (z : ℕ × ℕ). at yes' z.0 ≤ N.start + z.1) (sym q) (set_hit c.E o.0 (N.start + o.1));

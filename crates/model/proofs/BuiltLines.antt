@@ -13,7 +13,7 @@ use Rattle.line_layout.specs.Claims.{NotLater}
 use Rattle.built_lines.proofs.Laws.{built_fifo}
 use Rattle.model.specs.Tables.{Tables, Query, trips, stop_count, stop_at, arrival, no_drop_off, position, fifo}
 use Rattle.model.specs.Promise.{CalmDay}
-use Rattle.model.proofs.Base.{split, and_true}
+use Rattle.model.proofs.Base.{split, and-true}
 
 module _ (T : Tables) (Q : Query) (P : CalmDay T Q) where
   lines_same : (t u : ℕ) → t < trips T → u < trips T → T.line_of u ≡ T.line_of t → line_of T.timetable u ≡ line_of T.timetable t
@@ -29,7 +29,7 @@ module _ (T : Tables) (Q : Query) (P : CalmDay T Q) where
   unfolding fifo
   not_later t u h l e f q =
       built_fifo T.timetable T.line P.built.lists_built u t l h (lines_same t u h l e)
-      (subst (λ (z : ℕ). fifo_line T.timetable (T.line z) ≡ true) (sym e ∙ P.built.line_built u l) (and_true (ltb (T.line_of t) T.lines) (fifo_line T.timetable (T.line (T.line_of t))) f).1)
+      (subst (λ (z : ℕ). fifo_line T.timetable (T.line z) ≡ true) (sym e ∙ P.built.line_built u l) (and-true (ltb (T.line_of t) T.lines) (fifo_line T.timetable (T.line (T.line_of t))) f).1)
       (subst (λ (n : ℕ). position_in T.line n u ≤ position_in T.line n t) P.built.lines_built q)
 
   pub no_later_arrival : (t u : ℕ) → t < trips T → u < trips T → T.line_of u ≡ T.line_of t → fifo T (T.line_of t) ≡ true → position T u ≤ position T t → (o : ℕ) → o < stop_count T t → arrival T u o ≤ arrival T t o

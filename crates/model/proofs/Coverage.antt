@@ -5,7 +5,7 @@ use mathlib.Core.Bool.{Bool, true, false, cond, ◌&&◌}
 use native.Mathlib.Nat.{le_refl, le_trans}
 use native.Mathlib.Omega.{arith}
 use lib.Dec.{ltb}
-use borrow.Author.Tests.{ltb_true, ltb-false}
+use borrow.Author.Tests.{ltb-true, ltb-false}
 use Rattle.model.proofs.Base.{set_le, set_hit}
 use Rattle.model.proofs.Net.{Net}
 use Rattle.model.proofs.PlainSearch.{Core, at, best, imp, relax}
@@ -38,7 +38,7 @@ module _ (N : Net) where
   best_le s v b = go (N.is_eg s) (ltb (v + N.eg s) b) refl
     where
       go : (x y : Bool) → ltb (v + N.eg s) b ≡ y → cond (x && y) (v + N.eg s) b ≤ b
-      go true true h = omega (arith, ltb_true (v + N.eg s) b h)
+      go true true h = omega (arith, ltb-true (v + N.eg s) b h)
       go true false h = le_refl _
       go false true h = le_refl _
       go false false h = le_refl _
@@ -52,7 +52,7 @@ module _ (N : Net) where
   relax_le stamp s v c = go (ltb v (at c s)) refl
     where
       go : (x : Bool) → ltb v (at c s) ≡ x → Le (cond x (imp N stamp s v c) c) c
-      go true h = imp_le stamp s v c (omega (arith, ltb_true v (at c s) h))
+      go true h = imp_le stamp s v c (omega (arith, ltb-true v (at c s) h))
       go false h = Le-refl c
 
   pub relax_cov : (stamp s v : ℕ) (c : Core) → Cov (relax N stamp s v c) s v

@@ -5,7 +5,7 @@ use mathlib.Core.Logic.{inl, ⊎_elim}
 use mathlib.Core.Bool.{Bool, true, false, cond}
 use native.Mathlib.Omega.{arith}
 use lib.Dec.{eqb}
-use borrow.Author.Tests.{eqb_true}
+use borrow.Author.Tests.{eqb-true}
 use Rattle.door.specs.Door.{time_limit}
 use Rattle.loops.specs.Iter.{Hit, hit, miss}
 use Rattle.loops.proofs.Iter.{first_found}
@@ -27,7 +27,7 @@ pub row_below : (Q : Query) (t i : ℕ) → delay_of Q t ≡ hit i → i < Q.del
 row_below Q t i e = hit_below _ Q.delays.delays i e
 
 pub row_trip : (Q : Query) (t i : ℕ) → delay_of Q t ≡ hit i → (Q.delays.delay i).trip ≡ t
-row_trip Q t i e = eqb_true _ _ (first_found (λ (i : ℕ). eqb (Q.delays.delay i).trip t) 0 (Q.delays.delays - 0) i e)
+row_trip Q t i e = eqb-true _ _ (first_found (λ (i : ℕ). eqb (Q.delays.delay i).trip t) 0 (Q.delays.delays - 0) i e)
 
 module _ (T : Tables) (Q : Query) where
   -- a trip without a delay row arrives on schedule, and stops everywhere

@@ -9,8 +9,8 @@ use native.Mathlib.Nat.{le_trans}
 use native.Mathlib.Omega.{arith}
 use lib.ListN.{get_or, set, length, length-set}
 use lib.Dec.{ltb, leb, eqb}
-use borrow.Author.Tests.{ltb_true, ltb-false, leb-true, eqb_true, eqb-false, not-true, not_false}
-use Rattle.model.proofs.Base.{split, no_both, or_true, or_false, and_true, and_false, set3}
+use borrow.Author.Tests.{ltb-true, ltb-false, leb-true, eqb-true, eqb-false, not-true, not-false}
+use Rattle.model.proofs.Base.{split, no_both, or_true, or-false, and-true, and-false, set3}
 use Rattle.model.proofs.Net.{Net, Boards, Plain, Sorted, more}
 use Rattle.model.proofs.PlainSearch.{Core, Book, St, ride, board, blocked, passed, skips, departures}
 use Rattle.model.proofs.Coverage.{Le, Le-refl, Le-trans, Cov, cov_le, cov_later, by_best}
@@ -176,18 +176,18 @@ module _ (N : Net) (round stamp after : ℕ) where
       here : ((eqb (N.line b.0) (N.line t) && ltb (N.pos b.0) (N.pos t) && leb b.1 o) ≡ true) ⊎ (blocked N t o bs ≡ true) → (blocked N t o bs ≡ true → (b : ℕ × ℕ) × (Memᴰ b bs) × (N.line b.0 ≡ N.line t) × (N.pos b.0 < N.pos t) × (b.1 ≤ o))
           → (b' : ℕ × ℕ) × (Memᴰ b' (b ∷ bs)) × (N.line b'.0 ≡ N.line t) × (N.pos b'.0 < N.pos t) × (b'.1 ≤ o)
       here (inl h) ih =
-          let p = and_true (eqb (N.line b.0) (N.line t) && ltb (N.pos b.0) (N.pos t)) (leb b.1 o) h in
-          let q = and_true (eqb (N.line b.0) (N.line t)) (ltb (N.pos b.0) (N.pos t)) p.0 in
-          (b, Memᴰ.head refl, eqb_true _ _ q.0, ltb_true _ _ q.1, leb-true _ _ p.1)
+          let p = and-true (eqb (N.line b.0) (N.line t) && ltb (N.pos b.0) (N.pos t)) (leb b.1 o) h in
+          let q = and-true (eqb (N.line b.0) (N.line t)) (ltb (N.pos b.0) (N.pos t)) p.0 in
+          (b, Memᴰ.head refl, eqb-true _ _ q.0, ltb-true _ _ q.1, leb-true _ _ p.1)
       here (inr h) ih = let r = ih h in (r.0, Memᴰ.tail r.1, r.2, r.3, r.4)
 
   passed_by : (t o : ℕ) (s : St) → passed N stamp t o s.k ≡ true → Skip s t o
   unfolding passed
   passed_by t o s e =
       let k = s.k in
-      let p = and_true (eqb (t_s k t) stamp) (not (ltb (N.dep t o) (t_d k t) || (eqb (N.dep t o) (t_d k t) && ltb o (t_o k t)))) e in
-      let q = or_false (ltb (N.dep t o) (t_d k t)) (eqb (N.dep t o) (t_d k t) && ltb o (t_o k t)) (not-true _ p.1) in
-      s_passed (eqb_true _ _ p.0) (ltb-false _ _ q.0) (λ h. ⊎_elim (λ n. absurd (eqb-false _ _ n h)) (λ n. ltb-false _ _ n) (and_false _ _ q.1))
+      let p = and-true (eqb (t_s k t) stamp) (not (ltb (N.dep t o) (t_d k t) || (eqb (N.dep t o) (t_d k t) && ltb o (t_o k t)))) e in
+      let q = or-false (ltb (N.dep t o) (t_d k t)) (eqb (N.dep t o) (t_d k t) && ltb o (t_o k t)) (not-true _ p.1) in
+      s_passed (eqb-true _ _ p.0) (ltb-false _ _ q.0) (λ h. ⊎_elim (λ n. absurd (eqb-false _ _ n h)) (λ n. ltb-false _ _ n) (and-false _ _ q.1))
 
   skips_by : (t o : ℕ) (s : St) → skips N stamp after t o s ≡ true → Skip s t o
   unfolding skips
@@ -197,11 +197,11 @@ module _ (N : Net) (round stamp after : ℕ) where
       (λ e₂. ⊎_elim
       (λ e₃. ⊎_elim
       (λ e₄. s_trip (not-true _ e₄))
-      (λ e₄. let p = and_true _ _ e₄ in let b = blocked_by t o s.k.LB p.1 in s_line b.0.0 b.0.1 p.0 b.1 b.2 b.3 b.4)
+      (λ e₄. let p = and-true _ _ e₄ in let b = blocked_by t o s.k.LB p.1 in s_line b.0.0 b.0.1 p.0 b.1 b.2 b.3 b.4)
       (or_true _ _ e₃))
       (λ e₃. s_pick (not-true _ e₃))
       (or_true _ _ e₂))
-      (λ e₂. s_early (ltb_true _ _ e₂))
+      (λ e₂. s_early (ltb-true _ _ e₂))
       (or_true _ _ e₁))
       (λ e₁. ⊎_elim (λ e₂. s_best (leb-true _ _ e₂)) (λ e₂. passed_by t o s e₂) (or_true _ _ e₁))
       (or_true _ _ e)
@@ -209,11 +209,11 @@ module _ (N : Net) (round stamp after : ℕ) where
   pub takes_by : (t o : ℕ) (s : St) → skips N stamp after t o s ≡ false → Take t o
   unfolding skips
   takes_by t o s e =
-      let e₁ = or_false _ _ e in
-      let e₂ = or_false _ _ e₁.0 in
-      let e₃ = or_false _ _ e₂.0 in
-      let e₄ = or_false _ _ e₃.0 in
-      record { ok = not_false _ e₄.0; pick = not_false _ e₃.1; late = ltb-false _ _ e₂.1 }
+      let e₁ = or-false _ _ e in
+      let e₂ = or-false _ _ e₁.0 in
+      let e₃ = or-false _ _ e₂.0 in
+      let e₄ = or-false _ _ e₃.0 in
+      record { ok = not-false _ e₄.0; pick = not-false _ e₃.1; late = ltb-false _ _ e₂.1 }
 
   pub deps_graph : (ds : List (ℕ × ℕ)) (s : St) → Deps ds s (departures N round stamp after ds s)
   unfolding departures

@@ -5,7 +5,7 @@ use mathlib.Core.Bool.{Bool, true, false, ◌||◌, ◌&&◌, not}
 use mathlib.Core.List.{List, [], ◌∷◌, ◌++◌, Memᴰ}
 use native.Mathlib.Omega.{arith}
 use lib.Dec.{ltb, leb}
-use borrow.Author.Tests.{lt_ltb, lt-leb}
+use borrow.Author.Tests.{lt-ltb, lt-leb}
 use Rattle.model.proofs.Base.{no_both}
 use Rattle.model.proofs.Net.{Net}
 use Rattle.model.proofs.PlainSearch.{St, departures, skips, passed, ride, board, blocked}
@@ -17,7 +17,7 @@ module _ (N : Net) (round stamp after : ℕ) where
 
   pub early_skips : (t o : ℕ) (s : St) → N.dep t o < after → skips N stamp after t o s ≡ true
   unfolding skips
-  early_skips t o s h = rw (lt_ltb (N.dep t o) after h, or_right (not (N.ok_trip t) || (N.prunes t && blocked N t o s.k.LB) || not (N.pick t o))) refl
+  early_skips t o s h = rw (lt-ltb (N.dep t o) after h, or_right (not (N.ok_trip t) || (N.prunes t && blocked N t o s.k.LB) || not (N.pick t o))) refl
 
   pub pick_skips : (t o : ℕ) (s : St) → N.pick t o ≡ false → skips N stamp after t o s ≡ true
   unfolding skips

@@ -8,8 +8,8 @@ use mathlib.Core.List.{List, [], ◌∷◌, ◌++◌, Memᴰ}
 use native.Mathlib.Omega.{arith}
 use lib.ListN.{get_or, set}
 use lib.Dec.{ltb, eqb}
-use borrow.Author.Tests.{ltb_true, eqb_true}
-use Rattle.model.proofs.Base.{set_cases, set_hit, and_true}
+use borrow.Author.Tests.{ltb-true, eqb-true}
+use Rattle.model.proofs.Base.{set_cases, set_hit, and-true}
 use Rattle.model.proofs.Net.{Net}
 use Rattle.model.proofs.PlainSearch.{Core, at, best, imp, relax}
 use Rattle.model.proofs.Coverage.{Le, Le-refl, Le-trans, imp_le}
@@ -45,7 +45,7 @@ module _ (N : Net) (stamp : ℕ) where
       go : (x : Bool) → eqb (get_or c.SS s 0) stamp ≡ x → Pend stamp T c₀ (record { lab = set c.lab (13 * s + (stamp - 1)) (suc v); E = set c.E s v; B = best N s v c.B; SS = cond (not x) (set c.SS s stamp) c.SS; Q = cond (not x) (c.Q ++ (s ∷ [])) c.Q })
       go true e =
           record {
-            moved = λ x. ⊎_elim (λ p. inr (subst (λ (y : ℕ). Memᴰ y c.Q ⊎ Memᴰ y T) (sym p.0) (P.marked s (eqb_true _ _ e)))) (λ p. ⊎_elim (λ q. inl (p ∙ q)) (λ q. inr q) (P.moved x)) (set_cases c.E s v x 0);
+            moved = λ x. ⊎_elim (λ p. inr (subst (λ (y : ℕ). Memᴰ y c.Q ⊎ Memᴰ y T) (sym p.0) (P.marked s (eqb-true _ _ e)))) (λ p. ⊎_elim (λ q. inl (p ∙ q)) (λ q. inr q) (P.moved x)) (set_cases c.E s v x 0);
             marked = P.marked;
             bound = P.bound;
           }
@@ -61,7 +61,7 @@ module _ (N : Net) (stamp : ℕ) where
   best_att s v c c' p l e A = go (N.is_eg s && ltb (v + N.eg s) c.B) refl A
     where
       go : (x : Bool) → (N.is_eg s && ltb (v + N.eg s) c.B) ≡ x → Att N c → Att N c'
-      go true h a = att_stop s (and_true _ _ h).0 (let q : c'.B ≡ v + N.eg s = e ∙ ap (λ (x : Bool). cond x (v + N.eg s) c.B) h in omega arith)
+      go true h a = att_stop s (and-true _ _ h).0 (let q : c'.B ≡ v + N.eg s = e ∙ ap (λ (x : Bool). cond x (v + N.eg s) c.B) h in omega arith)
       go false h (att_none m) = att_none (let q : c'.B ≡ c.B = e ∙ ap (λ (x : Bool). cond x (v + N.eg s) c.B) h in omega arith)
       go false h (att_stop y i m) = att_stop y i (let q : c'.B ≡ c.B = e ∙ ap (λ (x : Bool). cond x (v + N.eg s) c.B) h in omega (arith, l y))
 
@@ -75,7 +75,7 @@ module _ (N : Net) (stamp : ℕ) where
     relax_steps s v c j = go (ltb v (at c s)) refl
       where
         go : (x : Bool) → ltb v (at c s) ≡ x → Steps J c (cond x (imp N stamp s v c) c)
-        go true h = step s v j (ltb_true _ _ h) stay
+        go true h = step s v j (ltb-true _ _ h) stay
         go false h = stay
 
     pub steps_le : {c c' : Core} → Steps J c c' → Le c' c

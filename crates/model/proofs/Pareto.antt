@@ -10,8 +10,8 @@ use native.Mathlib.Nat.{le_refl}
 use native.Mathlib.Omega.{arith}
 use lib.ListN.{length, get_or, set, get_or-replicate, length-set, length-replicate}
 use lib.Dec.{ltb, leb, eqb}
-use borrow.Author.Tests.{ltb_true, ltb-false, leb-false, eqb_true, eqb-false}
-use Rattle.model.proofs.Base.{set_cases, and_false, split_eq}
+use borrow.Author.Tests.{ltb-true, ltb-false, leb-false, eqb-true, eqb-false}
+use Rattle.model.proofs.Base.{set_cases, and-false, split_eq}
 use Rattle.model.proofs.Net.{Net, Plain}
 use Rattle.model.proofs.PlainSearch.{Core, St, at, best, imp, ride_st, walk_st, walks, rounds, begin, run, access, arrive, row_best, cands, answer}
 use Rattle.model.proofs.Coverage.{Cov, by_at, by_best}
@@ -65,7 +65,7 @@ module _ (N : Net) where
       same a b = go (eqb a b) refl
         where
           go : (t : Bool) → eqb a b ≡ t → (a ≡ b) ⊎ (a ≡ b → ⊥)
-          go true e = inl (eqb_true a b e)
+          go true e = inl (eqb-true a b e)
           go false e = inr (eqb-false a b e)
 
   -- and no other
@@ -146,7 +146,7 @@ module _ (N : Net) where
       same a b = go (eqb a b) refl
         where
           go : (t : Bool) → eqb a b ≡ t → (a ≡ b) ⊎ (a ≡ b → ⊥)
-          go true e = inl (eqb_true a b e)
+          go true e = inl (eqb-true a b e)
           go false e = inr (eqb-false a b e)
 
       yes' : Core
@@ -211,7 +211,7 @@ module _ (N : Net) where
           → ((row_best N c r es a).0 ≤ a.0) × ((s d v : ℕ) → Memᴰ (s, d) es → get_or c.lab (13 * s + r) 0 ≡ suc v → (row_best N c r es a).0 ≤ v + d)
           → ((row_best N c r es (v + e.1, e.0)).0 ≤ v + e.1) × ((s d w : ℕ) → Memᴰ (s, d) es → get_or c.lab (13 * s + r) 0 ≡ suc w → (row_best N c r es (v + e.1, e.0)).0 ≤ w + d)
           → R (elim y [ true ↦ row_best N c r es (v + e.1, e.0) | false ↦ row_best N c r es a ])
-      one v f true g p q = (omega (arith, q.0, ltb_true (v + e.1) a.0 g), out (row_best N c r es (v + e.1, e.0)) (λ w h. omega (arith, q.0, f, h)) q.1)
+      one v f true g p q = (omega (arith, q.0, ltb-true (v + e.1) a.0 g), out (row_best N c r es (v + e.1, e.0)) (λ w h. omega (arith, q.0, f, h)) q.1)
       one v f false g p q = (p.0, out (row_best N c r es a) (λ w h. omega (arith, p.0, f, h, ltb-false (v + e.1) a.0 g)) p.1)
 
       go : (x : ℕ) → get_or c.lab (13 * e.0 + r) 0 ≡ x
@@ -254,7 +254,7 @@ module _ (N : Net) where
           ⊎_elim
           (λ f. inr (subst (λ (j : ℕ). last ≤ b j) q (ltb-false _ _ f)))
           (λ f. absurd (omega (arith, leb-false (b r) (top + N.slack) f, s, ap b q)))
-          (and_false _ _ e)
+          (and-false _ _ e)
       go false e (inr q) p z = z q
 
   pub pareto : Plain N → (trips n k : ℕ) → n ≤ 12 → k ≤ n → (b : Bool) (m x v : ℕ) → m ≤ k → Reach N b m x v → N.is_eg x ≡ true → v + N.eg x < N.MAX

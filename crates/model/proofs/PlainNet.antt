@@ -8,7 +8,7 @@ use mathlib.Core.List.{List, [], ◌∷◌, map, Memᴰ}
 use native.Mathlib.Omega.{arith}
 use lib.Dec.{ltb, eqb}
 use native.Mathlib.Nat.{eq-or-lt_of_le}
-use borrow.Author.Tests.{ltb_true, eqb_true, eqb-false, lt_ltb, le-ltb, not-true}
+use borrow.Author.Tests.{ltb-true, eqb-true, eqb-false, lt-ltb, le-ltb, not-true}
 use Rattle.loops.specs.Count.{one}
 use Rattle.departures.specs.declared.DepartureRow.{DepartureRow}
 use Rattle.departures.specs.Departures.{frequency_listed, row_departure}
@@ -16,7 +16,7 @@ use Rattle.model.specs.Tables.{never, Tables, Origin, Query, is_egress, egress_w
 use Rattle.model.specs.Search.{departures_at, mark_at, line_at, delay_of, undelayed, skipped, prunable}
 use Rattle.model.specs.Door.{Door, InOrder, EgressRising}
 use Rattle.model.specs.Promise.{effective, Boarding, Alighting, CalmDay, SteadyDay}
-use Rattle.model.proofs.Base.{split, no_both, or_false, and_true}
+use Rattle.model.proofs.Base.{split, no_both, or-false, and-true}
 use Rattle.model.proofs.Net.{Boards, Plain, Sorted, none, more}
 use Rattle.model.proofs.NetOf.{net, pair_of, walk_of, origin_of, count_at}
 use Rattle.model.proofs.Lists.{sort_has, keep_only, upto_only}
@@ -33,12 +33,12 @@ module _ (T : Tables) where
   deps_at x d m = go (ltb x (stops T)) refl m
     where
       go : (b : Bool) → ltb x (stops T) ≡ b → Memᴰ {A = DepartureRow} d (elim b [ true ↦ T.departures x | false ↦ [] ]) → (x < stops T) × Memᴰ d (T.departures x)
-      go true e m = (ltb_true _ _ e, m)
+      go true e m = (ltb-true _ _ e, m)
       go false e m = absurd (Memᴰ.not-nil m)
 
   pub at_deps : (x : ℕ) → x < stops T → departures_at T x ≡ T.departures x
   unfolding departures_at
-  at_deps x h = ap (λ (b : Bool). elim b as (λ z. List DepartureRow) [ true ↦ T.departures x | false ↦ [] ]) (lt_ltb x (stops T) h)
+  at_deps x h = ap (λ (b : Bool). elim b as (λ z. List DepartureRow) [ true ↦ T.departures x | false ↦ [] ]) (lt-ltb x (stops T) h)
 
   out_deps : (x : ℕ) → stops T ≤ x → departures_at T x ≡ []
   unfolding departures_at
@@ -59,12 +59,12 @@ module _ (T : Tables) where
   count_at t o h = go (ltb t (trips T)) refl h
     where
       go : (b : Bool) → ltb t (trips T) ≡ b → o < elim b [ true ↦ stop_count T t | false ↦ 0 ] → (t < trips T) × (o < stop_count T t)
-      go true e h = (ltb_true _ _ e, h)
+      go true e h = (ltb-true _ _ e, h)
       go false e h = absurd (omega arith)
 
   pub at_count : (t : ℕ) → t < trips T → count_at T t ≡ stop_count T t
   unfolding count_at
-  at_count t h = ap (λ (b : Bool). elim b as (λ z. ℕ) [ true ↦ stop_count T t | false ↦ 0 ]) (lt_ltb t (trips T) h)
+  at_count t h = ap (λ (b : Bool). elim b as (λ z. ℕ) [ true ↦ stop_count T t | false ↦ 0 ]) (lt-ltb t (trips T) h)
 
   out_count : (t : ℕ) → trips T ≤ t → count_at T t ≡ 0
   unfolding count_at
@@ -72,7 +72,7 @@ module _ (T : Tables) where
 
   at_line : (t : ℕ) → t < trips T → line_at T t ≡ T.line_of t
   unfolding line_at
-  at_line t h = ap (λ (b : Bool). elim b as (λ z. ℕ) [ true ↦ T.line_of t | false ↦ never ]) (lt_ltb t (trips T) h)
+  at_line t h = ap (λ (b : Bool). elim b as (λ z. ℕ) [ true ↦ T.line_of t | false ↦ never ]) (lt-ltb t (trips T) h)
 
   out_line : (t : ℕ) → trips T ≤ t → line_at T t ≡ never
   unfolding line_at
@@ -83,7 +83,7 @@ module _ (T : Tables) where
   unfolding frequency_listed
   unlisted [] h = refl
   unlisted (d ∷ ds) h =
-      ap (λ (b : Bool). b || frequency_listed T.timetable ds) (le-ltb 0 (T.timetable.trip d.trip).windows (omega (arith, eqb_true (T.timetable.trip d.trip).windows 0 (h d (Memᴰ.head refl)))))
+      ap (λ (b : Bool). b || frequency_listed T.timetable ds) (le-ltb 0 (T.timetable.trip d.trip).windows (omega (arith, eqb-true (T.timetable.trip d.trip).windows 0 (h d (Memᴰ.head refl)))))
       ∙ unlisted ds (λ e m. h e (Memᴰ.tail m))
 
   -- an edge that leaves a stop
@@ -91,7 +91,7 @@ module _ (T : Tables) where
   unfolding edges_from
   edge_in x e m =
       let k = keep_only (λ (e : ℕ). eqb (T.timetable.edge e).from x) _ e m in
-      (upto_only T.timetable.edges e k.0, eqb_true _ _ k.1)
+      (upto_only T.timetable.edges e k.0, eqb-true _ _ k.1)
 
 -- egress stops
 egress_found : (es : List (ℕ × ℕ)) (s d : ℕ) → Memᴰ (s, d) es → is_egress es s ≡ true
@@ -109,7 +109,7 @@ egress_listed [] s e = absurd (no_both e refl)
 egress_listed (x ∷ es) s e = go (eqb x.0 s) refl e (egress_listed es s)
   where
     go : (b : Bool) → eqb x.0 s ≡ b → elim b [ true ↦ true | false ↦ is_egress es s ] ≡ true → (is_egress es s ≡ true → Memᴰ (s, egress_walk es s) es) → Memᴰ {A = ℕ × ℕ} (s, elim b [ true ↦ x.1 | false ↦ egress_walk es s ]) (x ∷ es)
-    go true f e ih = Memᴰ.head (ap (λ (z : ℕ). (z, x.1)) (sym (eqb_true _ _ f)))
+    go true f e ih = Memᴰ.head (ap (λ (z : ℕ). (z, x.1)) (sym (eqb-true _ _ f)))
     go false f e ih = Memᴰ.tail (ih e)
 
 -- of stops that strictly rise, each has one walk
@@ -119,7 +119,7 @@ egress_one [] R s d m = absurd (Memᴰ.not-nil m)
 egress_one (x ∷ es) (EgressRising.more r R) s d m = go (eqb x.0 s) refl (egress_one es R s d)
   where
     go : (b : Bool) → eqb x.0 s ≡ b → (Memᴰ (s, d) es → egress_walk es s ≡ d) → elim b [ true ↦ x.1 | false ↦ egress_walk es s ] ≡ d
-    go true f ih = ⊎_elim (λ q. ap (λ (z : ℕ × ℕ). z.1) (sym q)) (λ i. absurd (omega (arith, r s d i, eqb_true x.0 s f))) (Memᴰ.cases_cons m)
+    go true f ih = ⊎_elim (λ q. ap (λ (z : ℕ × ℕ). z.1) (sym q)) (λ i. absurd (omega (arith, r s d i, eqb-true x.0 s f))) (Memᴰ.cases_cons m)
     go false f ih = ⊎_elim (λ q. absurd (eqb-false _ _ f (ap (λ (z : ℕ × ℕ). z.0) (sym q)))) (λ i. ih i) (Memᴰ.cases_cons m)
 
 pub egress_is : (es : List (ℕ × ℕ)) → EgressRising es → (s d : ℕ) → Memᴰ (s, d) es → (is_egress es s ≡ true) × (egress_walk es s ≡ d)
@@ -159,13 +159,13 @@ module _ (T : Tables) (Q : Query) where
   pub boarding-of : (x t o : ℕ) → Memᴰ (t, o) ((net T Q).deps x) → permitted T Q t ≡ true → (net T Q).pick t o ≡ true → (x < stops T) × Boarding T Q (effective T Q) x t o
   boarding-of x t o m ok k =
       let d = row-of T x t o m in
-      let u = or_false (no_pickup T t o) (skipped T Q (delay_of Q t) t o) (not-true _ k) in
+      let u = or-false (no_pickup T t o) (skipped T Q (delay_of Q t) t o) (not-true _ k) in
       let v : no_pickup T t o ≡ false = u.0 in
       (d.0, record { trip = cc; listed = d.1; pickup = cc; served = ap not u.1 })
 
   pub alighting_of : (t o p : ℕ) → o < p → p < count_at T t → (net T Q).alight t p ≡ true → Alighting T Q (effective T Q) t o p
   alighting_of t o p l h k =
-      let u = or_false (no_drop_off T t p) (skipped T Q (delay_of Q t) t p) (not-true _ k) in
+      let u = or-false (no_drop_off T t p) (skipped T Q (delay_of Q t) t p) (not-true _ k) in
       record { later = omega (arith, l); inside = (count_at T t p h).1; drop_off = u.0; served = ap not u.1 }
 
 module _ (T : Tables) (Q : Query) (D : Door T Q) (S : SteadyDay T Q) where
@@ -178,7 +178,7 @@ module _ (T : Tables) (Q : Query) (D : Door T Q) (S : SteadyDay T Q) where
     where
       go : (b : Bool) → ltb x (stops T) ≡ b → (b && eqb (T.mark x) 1) ≡ false
       go true e =
-          let h : x < stops T = ltb_true _ _ e in
+          let h : x < stops T = ltb-true _ _ e in
           ap (λ (m : ℕ). eqb m 1)
           (P.built.marks_built x h
           ∙ ap one (unlisted T (P.listed x) (λ d m. P.conditions.no-windows d.trip (D.listed_trip x d h (subst (λ (l : List DepartureRow). Memᴰ d l) (sym (P.built.departures_built x h)) (sort_has (row_departure T.timetable) (P.listed x) d m))))))
@@ -208,7 +208,7 @@ module _ (T : Tables) (Q : Query) (D : Door T Q) (S : SteadyDay T Q) where
 
   -- a trip that prunes has no delay row, and the line of one in the table is FIFO
   flag : (t : ℕ) → t < trips T → prunable T Q (delay_of Q t) t ≡ true → (undelayed (delay_of Q t) ≡ true) × (fifo T (T.line_of t) ≡ true)
-  flag t h f = let p = and_true _ _ f in (p.0, subst (λ (z : ℕ). fifo T z ≡ true) (at_line T t h) p.1)
+  flag t h f = let p = and-true _ _ f in (p.0, subst (λ (z : ℕ). fifo T z ≡ true) (at_line T t h) p.1)
 
   boarded : (t o : ℕ) (b : Boards (net T Q) t o) → (b.at < stops T) × Boarding T Q (effective T Q) b.at t o
   boarded t o b = boarding-of T Q b.at t o b.listed b.ok b.pick

@@ -9,8 +9,8 @@ use native.Mathlib.Nat.{le_refl}
 use native.Mathlib.Omega.{arith}
 use lib.ListN.{get_or, set, replicate, get_or-replicate}
 use lib.Dec.{ltb, leb, eqb}
-use borrow.Author.Tests.{ltb_true, ltb-false, eqb_true}
-use Rattle.model.proofs.Base.{set_cases, and_true}
+use borrow.Author.Tests.{ltb-true, ltb-false, eqb-true}
+use Rattle.model.proofs.Base.{set_cases, and-true}
 use Rattle.model.proofs.Net.{Net, Plain}
 use Rattle.model.proofs.PlainSearch.{Core, at, run, begin, rounds, access, arrive, target, row_best, cands, Answer, answer}
 use Rattle.model.proofs.Rounds.{Reach}
@@ -83,9 +83,9 @@ module _ (N : Net) where
           → ((target N c es a).0 ≤ a.0) × ((s d : ℕ) → Memᴰ (s, d) es → (target N c es a).0 ≤ at c s + d)
           → (at c e.0 + e.1 ≤ N.MAX → ((target N c es (at c e.0 + e.1, e.0)).0 ≤ at c e.0 + e.1) × ((s d : ℕ) → Memᴰ (s, d) es → (target N c es (at c e.0 + e.1, e.0)).0 ≤ at c s + d))
           → R (elim x [ true ↦ target N c es a | false ↦ elim y [ true ↦ target N c es (at c e.0 + e.1, e.0) | false ↦ target N c es a ] ])
-      go true f y g p q = (p.0, out (target N c es a) (omega (arith, p.0, eqb_true (at c e.0) N.MAX f)) p.1)
+      go true f y g p q = (p.0, out (target N c es a) (omega (arith, p.0, eqb-true (at c e.0) N.MAX f)) p.1)
       go false f true g p q =
-          let l : at c e.0 + e.1 < a.0 = ltb_true _ _ g in
+          let l : at c e.0 + e.1 < a.0 = ltb-true _ _ g in
           let r = q (omega arith) in
           (omega (arith, r.0), out (target N c es (at c e.0 + e.1, e.0)) r.0 r.1)
       go false f false g p q = (p.0, out (target N c es a) (omega (arith, p.0, ltb-false (at c e.0 + e.1) a.0 g)) p.1)
@@ -150,7 +150,7 @@ module _ (N : Net) where
             → (Memᴰ (total, stop, row) (cands N c top k (suc r) last) → Arrives L n total stop)
             → Memᴰ {A = ℕ × ℕ × ℕ} (total, stop, row) (elim x [ true ↦ (b.0, b.1, r) ∷ cands N c top k (suc r) b.0 | false ↦ cands N c top k (suc r) last ]) → Arrives L n total stop
         go true e p q m =
-            let l : (row_best N c r N.egs (N.MAX, N.MAX)).0 < last = ltb_true _ _ (and_true _ _ e).0 in
+            let l : (row_best N c r N.egs (N.MAX, N.MAX)).0 < last = ltb-true _ _ (and-true _ _ e).0 in
             ⊎_elim
             (λ z. subst (λ (t : ℕ × ℕ × ℕ). Arrives L n t.0 t.1) (sym z) (row_best_is r (omega arith) N.egs (N.MAX, N.MAX) (λ s d m. m) (λ h. absurd (omega arith)) (omega arith)))
             (λ i. p (omega arith) i)

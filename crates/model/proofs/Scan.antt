@@ -6,7 +6,7 @@ use mathlib.Core.Bool.{Bool, true, false}
 use native.Mathlib.Nat.{le_trans}
 use native.Mathlib.Omega.{arith}
 use lib.Dec.{ltb}
-use borrow.Author.Tests.{ltb_true, ltb-false}
+use borrow.Author.Tests.{ltb-true, ltb-false}
 use Rattle.model.proofs.Base.{split_eq}
 use Rattle.model.proofs.Net.{Net, Boards, Plain}
 use Rattle.model.proofs.PlainSearch.{Core, relax, scan}
@@ -32,7 +32,7 @@ module _ (N : Net) (stamp t : ℕ) where
           → Scan (suc k) off c (elim x [ false ↦ scan N stamp t k (suc off) c | true ↦ elim y [ false ↦ c | true ↦ scan N stamp t k (suc off) r ] ])
       go false e y f p q = bar e p
       go true e false f p q = cut e (ltb-false _ _ f)
-      go true e true f p q = step e (ltb_true _ _ f) q
+      go true e true f p q = step e (ltb-true _ _ f) q
 
   pub scan_le : {k off : ℕ} {c c' : Core} → Scan k off c c' → Le c' c
   scan_le done = Le-refl _

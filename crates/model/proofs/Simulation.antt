@@ -8,7 +8,7 @@ use mathlib.Core.List.{List, [], ◌∷◌, ◌++◌, map, Memᴰ}
 use native.Mathlib.Omega.{arith}
 use lib.ListN.{length, get_or, set, replicate, length-set, length-replicate, get_or-map}
 use lib.Dec.{ltb, leb, eqb}
-use borrow.Author.Tests.{ltb_true, leb-false, lt_ltb, eqb_true, eq-eqb, ne_eqb}
+use borrow.Author.Tests.{ltb-true, leb-false, lt-ltb, eqb-true, eq-eqb, ne_eqb}
 use Rattle.frequency.specs.declared.BoardedRun.{BoardedRun}
 use Rattle.frequency.specs.declared.FreqBoard.{FreqBoard}
 use Rattle.frequency.specs.declared.FreqBoard.TheVariants.{Nothing, Board}
@@ -98,7 +98,7 @@ module _ (T : Tables) (Q : Query) where
   unfolding scan_trip_forward PlainSearch.ride count_at
   sim_scan stamp t x o z c h A =
       sim_alightings stamp t x o z (stop_count T t - suc o) (suc o) (λ p l u. A p (omega arith) (omega arith)) c
-      ∙ ap (λ (b : Bool). PlainSearch.scan N stamp t (elim b as (λ z. ℕ) [ true ↦ stop_count T t | false ↦ 0 ] - suc o) (suc o) (core_of c)) (sym (lt_ltb t (trips T) h))
+      ∙ ap (λ (b : Bool). PlainSearch.scan N stamp t (elim b as (λ z. ℕ) [ true ↦ stop_count T t | false ↦ 0 ] - suc o) (suc o) (core_of c)) (sym (lt-ltb t (trips T) h))
 
   sim_blocked : (t o : ℕ) (bs : List (ℕ × ℕ)) → dominated T Q t o bs ≡ PlainSearch.blocked N t o bs
   unfolding dominated PlainSearch.blocked
@@ -200,7 +200,7 @@ module _ (T : Tables) (Q : Query) where
       go : (b : Bool) → ltb (departure T d.trip d.offset) (after - margin_of T Q) ≡ b → PlainSearch.departures N round stamp after (map pair_of (not_before T (after - margin_of T Q) ds)) s ≡ PlainSearch.departures N round stamp after (map pair_of ds) s
           → PlainSearch.departures N round stamp after (map pair_of (elim b as (λ z. List DepartureRow) [ true ↦ not_before T (after - margin_of T Q) ds | false ↦ d ∷ ds ])) s ≡ PlainSearch.departures N round stamp after (map pair_of (d ∷ ds)) s
       go true e p =
-          let l : departure T d.trip d.offset < after - margin_of T Q = ltb_true _ _ e in
+          let l : departure T d.trip d.offset < after - margin_of T Q = ltb-true _ _ e in
           p ∙ sym (early N round stamp after (pair_of d ∷ []) (map pair_of ds) s h
           (λ z m. subst (λ (y : ℕ × ℕ). (departure T y.0 y.1 < after) × ((s : PlainSearch.St) → PlainSearch.skips N stamp after y.0 y.1 s ≡ true))
           (sym (Memᴰ.eq_of_singleton m)) (omega arith, passed_over l (N.ok_trip d.trip) refl (N.pick d.trip d.offset) refl)))
@@ -263,7 +263,7 @@ module _ (T : Tables) (Q : Query) where
           ≡ elim b [ true ↦ PlainSearch.stops N round stamp xs (state_of s) | false ↦ PlainSearch.stops N round stamp xs (PlainSearch.departures N round stamp a (map pair_of (departures_at T x)) (state_of s)) ]
       go true f true e m g p q = p
       go false f true e m g p q = p
-      go true f false e m g p q = absurd (omega (arith, top, eqb_true (get_or s.arrivals.earliest x 0) never f, leb-false s.arrivals.best (get_or s.arrivals.earliest x 0 + change_before Q round) e))
+      go true f false e m g p q = absurd (omega (arith, top, eqb-true (get_or s.arrivals.earliest x 0) never f, leb-false s.arrivals.best (get_or s.arrivals.earliest x 0 + change_before Q round) e))
       go false f false e true g p q = absurd (no_both refl g)
       go false f false e false g p q = q ∙ ap (PlainSearch.stops N round stamp xs) (late_enough round stamp a (departures_at T x) (state_of s) (let l : a < s.arrivals.best = leb-false _ _ e in omega arith) (λ d m i k. P.late d.trip d.offset (record { at = x; listed = Memᴰ.map pair_of m; ok = i; pick = k })))
 

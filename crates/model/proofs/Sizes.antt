@@ -6,7 +6,7 @@ use mathlib.Core.Bool.{Bool, true, false, cond, ◌||◌}
 use native.Mathlib.Omega.{arith}
 use lib.Dec.{ltb}
 use lib.IntN.{ℤ, pos, negsuc, nat_abs, sub_ℕ}
-use borrow.Author.Tests.{ltb_true, ltb-false}
+use borrow.Author.Tests.{ltb-true, ltb-false}
 use Rattle.door.specs.Door.{time_limit}
 use Rattle.loops.specs.Iter.{Hit, hit, miss}
 use Rattle.loops.proofs.Iter.{first_bound, iter_keeps}
@@ -36,7 +36,7 @@ size_sub : (l a b : ℕ) → a ≤ b + l → b ≤ a + l → nat_abs (sub_ℕ a 
 size_sub l a b u v = go (ltb a b) refl
   where
     go : (t : Bool) → ltb a b ≡ t → nat_abs (cond t (negsuc (b - suc a)) (pos (a - b))) ≤ l
-    go true e = omega (arith, ltb_true a b e)
+    go true e = omega (arith, ltb-true a b e)
     go false e = omega (arith, ltb-false a b e)
 
 -- .. as bits

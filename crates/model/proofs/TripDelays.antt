@@ -7,7 +7,7 @@ use native.Mathlib.Omega.{arith}
 use lib.Dec.{eqb}
 use lib.IntN.{ℤ, pos, negsuc, sub_ℕ, ◌+ℤ◌}
 use lib.Signed.{non_neg}
-use borrow.Author.Tests.{eqb_true, lt_ltb, le-ltb}
+use borrow.Author.Tests.{eqb-true, lt-ltb, le-ltb}
 use Rattle.door.specs.Door.{time_limit}
 use Rattle.loops.specs.Iter.{Hit, hit, miss}
 use Rattle.loops.proofs.Iter.{first_found}
@@ -21,7 +21,7 @@ use Rattle.model.specs.Tables.{Tables, Query, stops, trips, stop_count, arrival,
 use Rattle.model.specs.Search.{delay_of, delay_at}
 use Rattle.model.specs.Door.{Door}
 use Rattle.model.specs.Promise.{effective, Boarding, NoTimesFall, CalmDay, SteadyConditions, arrives_from, SteadyDay, TripDelays}
-use Rattle.model.proofs.Base.{no_both, or_false, and_true}
+use Rattle.model.proofs.Base.{no_both, or-false, and-true}
 use Rattle.model.proofs.Sizes.{shifted_back}
 use Rattle.model.proofs.Times.{later}
 use Rattle.model.proofs.Delayed.{row_below, row_trip}
@@ -49,7 +49,7 @@ unchanged (negsuc n) e = absurd (no_both e refl)
 unfloored : (d m : ℕ) → pos (d - suc m) ≡ sub_ℕ d (suc m) → suc m ≤ d
 unfloored d m e =
     ⊎_elim
-    (λ (l : d < suc m). absurd (not_below (d - suc m) (suc m - suc d) (e ∙ ap (λ (t : Bool). cond t (negsuc (suc m - suc d)) (pos (d - suc m))) (lt_ltb d (suc m) l))))
+    (λ (l : d < suc m). absurd (not_below (d - suc m) (suc m - suc d) (e ∙ ap (λ (t : Bool). cond t (negsuc (suc m - suc d)) (pos (d - suc m))) (lt-ltb d (suc m) l))))
     (λ (l : suc m ≤ d). l)
     (split d (suc m))
 
@@ -66,7 +66,7 @@ back d bits u v e = of_sub (shifted d bits) d (omega (arith, shifted_near d bits
         let m = 4294967296 - suc bits in
         let s = moved_high d bits l in
         let k : suc m ≤ d = unfloored d m (ap pos (sym s) ∙ (e ∙ ap (λ (z : ℤ). pos d +ℤ z) (of_high bits l))) in
-        ap (λ (t : Bool). cond t (negsuc (d - suc (shifted d bits))) (pos (shifted d bits - d))) (lt_ltb (shifted d bits) d (omega (arith, s)))
+        ap (λ (t : Bool). cond t (negsuc (d - suc (shifted d bits))) (pos (shifted d bits - d))) (lt-ltb (shifted d bits) d (omega (arith, s)))
         ∙ (ap negsuc (omega (arith, s)) ∙ sym (of_high bits l))
 
 -- how late a trip with this delay row is, in signed seconds
@@ -90,10 +90,10 @@ module _ (T : Tables) (Q : Query) (D : Door T Q) (S : TripDelays T Q) where
           → (departure_given (beside_trip Q.delays (Q.delays.delay i).delay h).flags || arrival_given (beside_trip Q.delays (Q.delays.delay i).delay h).flags) ≡ false
       at_row i f miss e = refl
       at_row i f (hit j) e =
-          let r = and_true _ _ (first_found (λ (j : ℕ). eqb (Q.delays.stop_row j).row i && eqb (Q.delays.stop_row j).sequence (sequence T t o)) 0 (Q.delays.stop_rows - 0) j e) in
+          let r = and-true _ _ (first_found (λ (j : ℕ). eqb (Q.delays.stop_row j).row i && eqb (Q.delays.stop_row j).sequence (sequence T t o)) 0 (Q.delays.stop_rows - 0) j e) in
           let b : j < Q.delays.stop_rows = hit_below _ Q.delays.stop_rows j e in
           S.only_skips j (omega (arith, b))
-          (subst (λ (z : ℕ). z < trips T) (sym (ap (λ (k : ℕ). (Q.delays.delay k).trip) (eqb_true _ _ r.0) ∙ row_trip Q t i f)) u)
+          (subst (λ (z : ℕ). z < trips T) (sym (ap (λ (k : ℕ). (Q.delays.delay k).trip) (eqb-true _ _ r.0) ∙ row_trip Q t i f)) u)
 
       go : (h : Hit) → delay_of Q t ≡ h → (departure_given (delay_at T Q h t o).flags || arrival_given (delay_at T Q h t o).flags) ≡ false
       go miss f = refl
@@ -110,13 +110,13 @@ module _ (T : Tables) (Q : Query) (D : Door T Q) (S : TripDelays T Q) where
   departs_late : (t o : ℕ) → t < trips T → (effective T Q).departs t o ≡ shifted (departure T t o) (late_by Q (delay_of Q t))
   departs_late t o u =
       let d = delay_at T Q (delay_of Q t) t o in
-      ap (λ (b : Bool). shifted (departure T t o) (cond b d.departure_delay d.trip_delay)) (or_false (departure_given d.flags) (arrival_given d.flags) (nothing_given t o u)).0
+      ap (λ (b : Bool). shifted (departure T t o) (cond b d.departure_delay d.trip_delay)) (or-false (departure_given d.flags) (arrival_given d.flags) (nothing_given t o u)).0
       ∙ ap (shifted (departure T t o)) (trip-delay (delay_of Q t) t o)
 
   arrives_late : (t o : ℕ) → t < trips T → (effective T Q).arrives t o ≡ shifted (arrival T t o) (late_by Q (delay_of Q t))
   arrives_late t o u =
       let d = delay_at T Q (delay_of Q t) t o in
-      ap (λ (b : Bool). shifted (arrival T t o) (cond b d.arrival_delay d.trip_delay)) (or_false (departure_given d.flags) (arrival_given d.flags) (nothing_given t o u)).1
+      ap (λ (b : Bool). shifted (arrival T t o) (cond b d.arrival_delay d.trip_delay)) (or-false (departure_given d.flags) (arrival_given d.flags) (nothing_given t o u)).1
       ∙ ap (shifted (arrival T t o)) (trip-delay (delay_of Q t) t o)
 
   -- a trip of the table is late by no more than the cap, and its departures stay where the delay puts them

@@ -8,7 +8,7 @@ use mathlib.Core.List.{List, [], ◌∷◌, Memᴰ}
 use native.Mathlib.Omega.{arith}
 use native.Mathlib.Decide.{ℕ_discrete}
 use lib.Dec.{ltb}
-use borrow.Author.Tests.{ltb_true, ltb-false}
+use borrow.Author.Tests.{ltb-true, ltb-false}
 use Rattle.model.proofs.Net.{Net, Plain}
 use Rattle.model.proofs.PlainSearch.{Core, at, relax, walk, walks}
 use Rattle.model.proofs.Coverage.{Le, Cov, cov_le, cov_later, by_at, by_best, relax_cov}
@@ -39,7 +39,7 @@ module _ (N : Net) (stamp : ℕ) where
 
       test : (b : Bool) → ltb (v + e.1) c.B ≡ b → Walk v es c (walk N stamp v es c) → Walk v es n (walk N stamp v es n) → Walk v (e ∷ es) c (elim b [ false ↦ walk N stamp v es c | true ↦ walk N stamp v es n ])
       test false h p q = skip (ltb-false _ _ h) p
-      test true h p q = go (ltb_true _ _ h) q
+      test true h p q = go (ltb-true _ _ h) q
 
   pub walk_steps : {J : ℕ → ℕ → Type 0} {v : ℕ} {es : List (ℕ × ℕ)} {c c' : Core} → ((y d : ℕ) → Memᴰ (y, d) es → J y (v + d)) → Walk v es c c' → Steps N stamp J c c'
   walk_steps j nil = stay

@@ -11,7 +11,7 @@ use lib.ListN.{get_or}
 use lib.Dec.{ltb, leb, eqb}
 use lib.IntN.{pos, ◌+ℤ◌}
 use lib.Signed.{non_neg}
-use borrow.Author.Tests.{ltb_true, lt_ltb, leb-true, eqb_true, eq-eqb, ne_eqb, not-true}
+use borrow.Author.Tests.{ltb-true, lt-ltb, leb-true, eqb-true, eq-eqb, ne_eqb, not-true}
 use Rattle.loops.specs.Iter.{every_in, some_in}
 use Rattle.loops.specs.Count.{tab_from, upto}
 use Rattle.loops.proofs.Iter.{every_in_at, some_found}
@@ -176,7 +176,7 @@ unfolding rising_test
 rising [] e = EgressRising.none
 rising ((s, d) ∷ es) e =
     let q = both (all_in (λ (y : ℕ × ℕ). ltb s y.0) es) (rising_test es) e in
-    EgressRising.more (λ u w m. ltb_true _ _ (among (λ (y : ℕ × ℕ). ltb s y.0) es (u, w) q.0 m)) (rising es q.1)
+    EgressRising.more (λ u w m. ltb-true _ _ (among (λ (y : ℕ × ℕ). ltb s y.0) es (u, w) q.0 m)) (rising es q.1)
 
 -- the questions
 abbrev pub door_tests : Tables → Query → List Bool
@@ -236,21 +236,21 @@ module _ (T : Tables) (Q : Query) (e : all_of (door_tests T Q) ≡ true) where
         few_trips = leb-true _ _ (passed (door_tests T Q) e 1);
         few-lines = leb-true _ _ (passed (door_tests T Q) e 2);
         few-entries = λ l h. leb-true _ _ (line_test l 0 h);
-        counted = λ t h. ltb_true _ _ (trip_test t 0 h);
+        counted = λ t h. ltb-true _ _ (trip_test t 0 h);
         few_times = λ t h. leb-true _ _ (trip_test t 1 h);
         few_windows = λ t h. leb-true _ _ (trip_test t 2 h);
-        stop_in = λ t o h l. ltb_true _ _ (time_test t o 0 h l);
-        line_in = λ t h. ltb_true _ _ (trip_test t 3 h);
-        entry_in = λ l p h i. ltb_true _ _ (every_in_at (λ p. ltb ((T.line l).trip p) (trips T)) (T.line l).count p (line_test l 1 h) i);
-        listed_trip = λ s d h m. ltb_true _ _ (listed_test s d 0 h m);
-        listed_offset = λ s d h m. ltb_true _ _ (listed_test s d 1 h m);
-        listed_stop = λ s d h m. eqb_true _ _ (listed_test s d 2 h m);
-        edge_from = λ i h. ltb_true _ _ (edge_test i 0 h);
-        edge_to = λ i h. ltb_true _ _ (edge_test i 1 h);
-        origin_in = λ a m. ltb_true _ _ (origin-test a m).0;
-        egress_in = λ s d m. ltb_true _ _ (egress_test (s, d) m).0;
-        delay_in = λ i h. ⊎_elim (λ z. inl (ltb_true _ _ z)) (λ z. inr (eqb_true _ _ z)) (either _ _ (delay_test i 0 h));
-        stop_row_in = λ j h. ltb_true _ _ (stop_row_test j 0 h);
+        stop_in = λ t o h l. ltb-true _ _ (time_test t o 0 h l);
+        line_in = λ t h. ltb-true _ _ (trip_test t 3 h);
+        entry_in = λ l p h i. ltb-true _ _ (every_in_at (λ p. ltb ((T.line l).trip p) (trips T)) (T.line l).count p (line_test l 1 h) i);
+        listed_trip = λ s d h m. ltb-true _ _ (listed_test s d 0 h m);
+        listed_offset = λ s d h m. ltb-true _ _ (listed_test s d 1 h m);
+        listed_stop = λ s d h m. eqb-true _ _ (listed_test s d 2 h m);
+        edge_from = λ i h. ltb-true _ _ (edge_test i 0 h);
+        edge_to = λ i h. ltb-true _ _ (edge_test i 1 h);
+        origin_in = λ a m. ltb-true _ _ (origin-test a m).0;
+        egress_in = λ s d m. ltb-true _ _ (egress_test (s, d) m).0;
+        delay_in = λ i h. ⊎_elim (λ z. inl (ltb-true _ _ z)) (λ z. inr (eqb-true _ _ z)) (either _ _ (delay_test i 0 h));
+        stop_row_in = λ j h. ltb-true _ _ (stop_row_test j 0 h);
         arrival_small = λ t o h l. leb-true _ _ (time_test t o 1 h l);
         departure_small = λ t o h l. leb-true _ _ (time_test t o 2 h l);
         window_start = λ t i h l. leb-true _ _ (window_test t i 0 h l);
@@ -309,7 +309,7 @@ module _ (T : Tables) (Q : Query) where
       ⊎_elim
       (λ h.
       let p = both (eqb d.trip t) (eqb d.offset o) h in
-      Memᴰ.head (ap₂ {A = ℕ} {B = ℕ} {C = DepartureRow} (λ x y. record { trip = x; offset = y }) (sym (eqb_true _ _ p.0)) (sym (eqb_true _ _ p.1))))
+      Memᴰ.head (ap₂ {A = ℕ} {B = ℕ} {C = DepartureRow} (λ x y. record { trip = x; offset = y }) (sym (eqb-true _ _ p.0)) (sym (eqb-true _ _ p.1))))
       (λ h. Memᴰ.tail (has_it ds t o h))
       (either (eqb d.trip t && eqb d.offset o) (has ds t o) e)
 
@@ -405,7 +405,7 @@ module _ (T : Tables) (Q : Query) where
   leaving a e m =
       let r = kept (λ k. eqb (T.timetable.edge k).from a) (upto T.timetable.edges) e m in
       let q = below 0 T.timetable.edges e r.1 in
-      (eqb_true _ _ r.0, omega (arith, q))
+      (eqb-true _ _ r.0, omega (arith, q))
 
   leaves_there : (a e : ℕ) → (T.timetable.edge e).from ≡ a → e < T.timetable.edges → Memᴰ e (edges_from T a)
   unfolding edges_from
@@ -437,7 +437,7 @@ module _ (T : Tables) (Q : Query) where
         let r = both (eqb (T.timetable.edge w.at).from (T.timetable.edge i).from && eqb (edge_to T w.at) (edge_to T j)) (leb (walk_time T Q w.at) (walk_time T Q i + walk_time T Q j)) w.passes in
         let v = both (eqb (T.timetable.edge w.at).from (T.timetable.edge i).from) (eqb (edge_to T w.at) (edge_to T j)) r.0 in
         let u = w.high in
-        (w.at, leaves_there a w.at (eqb_true _ _ v.0 ∙ x.0) (omega (arith, u)), eqb_true _ _ v.1, leb-true _ _ r.1)
+        (w.at, leaves_there a w.at (eqb-true _ _ v.0 ∙ x.0) (omega (arith, u)), eqb-true _ _ v.1, leb-true _ _ r.1)
 
     origins : (a : Origin) (f : ℕ) → Memᴰ a Q.origins → Memᴰ f (edges_from T a.stop)
         → (b : Origin) × (Memᴰ b Q.origins) × (b.stop ≡ edge_to T f) × (b.duration ≤ a.duration + walk_time T Q f)
@@ -448,7 +448,7 @@ module _ (T : Tables) (Q : Query) where
         let w = found (λ (b : Origin). eqb b.stop (edge_to T f) && leb b.duration (a.duration + walk_time T Q f)) Q.origins
         (first_or (eqb (T.timetable.edge f).from a.stop) _ p (eq-eqb _ _ y.0)) in
         let r = both (eqb w.0.stop (edge_to T f)) (leb w.0.duration (a.duration + walk_time T Q f)) w.2 in
-        (w.0, w.1, eqb_true _ _ r.0, leb-true _ _ r.1)
+        (w.0, w.1, eqb-true _ _ r.0, leb-true _ _ r.1)
 
 -- THE CONDITIONS of a day, from its tests
 pub calm_conditions : (T : Tables) (Q : Query) → all_of (calm_tests T Q) ≡ true → CalmConditions T Q
@@ -463,7 +463,7 @@ calm_conditions T Q e =
 pub plain_conditions : (T : Tables) (Q : Query) → all_of (plain_tests T Q) ≡ true → PlainConditions T Q
 plain_conditions T Q e =
     record {
-      no-delays = eqb_true _ _ (passed (plain_tests T Q) e 1);
+      no-delays = eqb-true _ _ (passed (plain_tests T Q) e 1);
       no_times_fall = no_times_fall T (passed (plain_tests T Q) e 2) (passed (plain_tests T Q) e 3);
       evenly_listed = evenly T Q e;
     }
@@ -505,7 +505,7 @@ module _ (T : Tables) (Q : Query) (D : Door T Q) where
         departures = λ x y t o p h i b c l. leb-true _ _ (between_stops (departures_rise T Q) (passed (steady_tests T Q) e 3) t o p (D.listed_trip x _ h b.listed) l (D.listed_offset y _ i c.listed) b.served c.served);
         not_late = λ x t o h b. leb-true _ _ (at-stop (not_late T Q) (passed (steady_tests T Q) e 4) x t o h b);
         not-early = λ x t o h b. leb-true _ _ (at-stop (not_early T Q) (passed (steady_tests T Q) e 5) x t o h b);
-        one-arrival = λ x t o p h b a. eqb_true _ _ (between_stops (one_arrival T Q) (passed (steady_tests T Q) e 6) t o p (D.listed_trip x _ h b.listed) a.later a.inside b.served a.served);
+        one-arrival = λ x t o p h b a. eqb-true _ _ (between_stops (one_arrival T Q) (passed (steady_tests T Q) e 6) t o p (D.listed_trip x _ h b.listed) a.later a.inside b.served a.served);
       }
 
   pub steady_when : (listed : ℕ → List DepartureRow) → LinesBuilt T listed → all_of (steady_tests T Q) ≡ true → SteadyDay T Q
@@ -515,11 +515,11 @@ module _ (T : Tables) (Q : Query) (D : Door T Q) where
 pub trip_delays_when : (T : Tables) (Q : Query) → all_of (trip_delay_tests T Q) ≡ true → TripDelays T Q
 trip_delays_when T Q e =
     record {
-      only_skips = λ j h u. not-true _ (first_or (ltb (Q.delays.delay (Q.delays.stop_row j).row).trip (trips T)) _ (every_in_at (λ j. skip_test T Q j) Q.delays.stop_rows j (passed (trip_delay_tests T Q) e 0) h) (lt_ltb _ _ u));
-      within_cap = λ i h u. leb-true _ _ (first_or (ltb (Q.delays.delay i).trip (trips T)) _ (every_in_at (λ i. cap_test T Q i) Q.delays.delays i (passed (trip_delay_tests T Q) e 1) h) (lt_ltb _ _ u));
+      only_skips = λ j h u. not-true _ (first_or (ltb (Q.delays.delay (Q.delays.stop_row j).row).trip (trips T)) _ (every_in_at (λ j. skip_test T Q j) Q.delays.stop_rows j (passed (trip_delay_tests T Q) e 0) h) (lt-ltb _ _ u));
+      within_cap = λ i h u. leb-true _ _ (first_or (ltb (Q.delays.delay i).trip (trips T)) _ (every_in_at (λ i. cap_test T Q i) Q.delays.delays i (passed (trip_delay_tests T Q) e 1) h) (lt-ltb _ _ u));
       after_zero = λ i o h u n. every_in_at (λ o. zero_test T Q i o) (stop_count T (Q.delays.delay i).trip) o
           (first_or (ltb (Q.delays.delay i).trip (trips T)) _
-          (every_in_at (λ i. not (ltb (Q.delays.delay i).trip (trips T)) || every_in (λ o. zero_test T Q i o) 0 (stop_count T (Q.delays.delay i).trip)) Q.delays.delays i (passed (trip_delay_tests T Q) e 2) h) (lt_ltb _ _ u)) n;
+          (every_in_at (λ i. not (ltb (Q.delays.delay i).trip (trips T)) || every_in (λ o. zero_test T Q i o) 0 (stop_count T (Q.delays.delay i).trip)) Q.delays.delays i (passed (trip_delay_tests T Q) e 2) h) (lt-ltb _ _ u)) n;
     }
 
 -- built tables are as built, also without transfers

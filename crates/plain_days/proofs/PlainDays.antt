@@ -8,7 +8,7 @@ use mathlib.Core.List.{List, [], ◌∷◌, flatten}
 use native.Mathlib.Omega.{arith}
 use lib.ListN.{get_or}
 use lib.Dec.{ltb, eqb}
-use borrow.Author.Tests.{leb-true, ltb_true, eq-eqb}
+use borrow.Author.Tests.{leb-true, ltb-true, eq-eqb}
 use Rattle.loops.specs.Iter.{iter, every, first, some}
 use Rattle.loops.specs.Count.{count, tab_from}
 use Rattle.sorts.specs.Sort.{insert_by, sort_by}
@@ -119,7 +119,7 @@ not_plain d =
     let r = d.calm.conditions.origins_complete (origin 1 700) 1 (Memᴰ.tail (Memᴰ.head refl)) (Memᴰ.tail (Memᴰ.head refl)) in
     let b = r.0 in
     let p = among (λ (b : Origin). not (eqb b.stop 4) || ltb 702 b.duration) query_w.origins b slow_there r.1 in
-    let q = ltb_true 702 b.duration (first_or (eqb b.stop 4) (ltb 702 b.duration) p (eq-eqb b.stop 4 r.2)) in
+    let q = ltb-true 702 b.duration (first_or (eqb b.stop 4) (ltb 702 b.duration) p (eq-eqb b.stop 4 r.2)) in
     let l = r.3 in
     omega (arith, q, l)
 

@@ -6,7 +6,7 @@ use mathlib.Core.List.{List, [], ◌∷◌}
 use native.Mathlib.Omega.{arith}
 use lib.ListN.{length, get_or}
 use lib.Dec.{eqb, ltb}
-use borrow.Author.Tests.{eqb_true}
+use borrow.Author.Tests.{eqb-true}
 use Rattle.loops.specs.Iter.{Hit, hit, every, every_in, first, found_or}
 use Rattle.loops.specs.Count.{count, one, upto}
 use Rattle.loops.proofs.Count.{count_ext}
@@ -91,7 +91,7 @@ module _ (t : List ℕ) (c : Counts) (t' : List ℕ) (c' : Counts) (r : RunsOk t
           → (p && every_in (λ k. eqb (time_at Y a k).stop (time_at Y b k).stop) 0 (X.trip a).count) ≡ (p && every_in (λ k. eqb (time_at X a k).stop (time_at X b k).stop) 0 (X.trip a).count)
       go false e = refl
       go true e =
-          let z = eqb_true (X.trip a).count (X.trip b).count e in
+          let z = eqb-true (X.trip a).count (X.trip b).count e in
           every_ext (λ k. eqb (time_at Y a k).stop (time_at Y b k).stop) (λ k. eqb (time_at X a k).stop (time_at X b k).stop) 0 ((X.trip a).count - 0)
           (λ k v w. ap₂ (λ (p q : StopTimeRow). eqb p.stop q.stop) (time_same a k h (omega arith)) (time_same b k u (omega arith)))
 

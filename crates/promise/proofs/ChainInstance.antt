@@ -9,7 +9,7 @@ use mathlib.Core.List.{List, [], ◌∷◌, ◌++◌, flatten, flat_map}
 use native.Mathlib.Omega.{arith}
 use lib.ListN.{get_or, replicate}
 use lib.Dec.{eqb}
-use borrow.Author.Tests.{eqb_true}
+use borrow.Author.Tests.{eqb-true}
 use Rattle.loops.specs.Iter.{every, every_in, first, iter}
 use Rattle.loops.specs.Count.{count, tab_from}
 use Rattle.loops.proofs.Iter.{every_in_at}
@@ -67,10 +67,10 @@ same_k =
       trips = refl;
       times = refl;
       time = λ i k h u.
-          eqb_true (time_of t_k i k) (time_of t_b i k)
+          eqb-true (time_of t_k i k) (time_of t_b i k)
           (every_in_at (λ k. eqb (time_of t_k i k) (time_of t_b i k)) 6 k (every_in_at (λ i. every_in (λ k. eqb (time_of t_k i k) (time_of t_b i k)) 0 6) 8 i times_test h) u);
       trip = λ i k h u.
-          eqb_true (trip_of t_k c_b i k) (trip_of t_b c_b i k)
+          eqb-true (trip_of t_k c_b i k) (trip_of t_b c_b i k)
           (every_in_at (λ k. eqb (trip_of t_k c_b i k) (trip_of t_b c_b i k)) 6 k (every_in_at (λ i. every_in (λ k. eqb (trip_of t_k c_b i k) (trip_of t_b c_b i k)) 0 6) 3 i trips_test h) u);
     }
 

@@ -5,7 +5,7 @@ use mathlib.Core.Bool.{Bool, cond, not}
 use mathlib.Core.List.{List, [], ◌∷◌, flatten, map}
 use lib.ListN.{take}
 use lib.Dec.{eqb, leb}
-use borrow.Author.Tests.{le_leb}
+use borrow.Author.Tests.{le-leb}
 use Rattle.loops.specs.Count.{tab}
 use Rattle.loops.proofs.Count.{tab_ext}
 use Rattle.sorts.specs.Sort.{sort_by, insert_by}
@@ -25,7 +25,7 @@ unfolding sort_by insert_by
 sort_id key [] ends = refl
 sort_id key (x ∷ []) last = refl
 sort_id {A} key (x ∷ y ∷ l) (next h r) =
-    ap (insert_by key x) (sort_id key (y ∷ l) r) ∙ ap (λ (b : Bool). cond b (x ∷ y ∷ l) (y ∷ insert_by key x l)) (le_leb (key x) (key y) h)
+    ap (insert_by key x) (sort_id key (y ∷ l) r) ∙ ap (λ (b : Bool). cond b (x ∷ y ∷ l) (y ∷ insert_by key x l)) (le-leb (key x) (key y) h)
 
 pub sort_twice : {A : Type 0} (key : A → ℕ) (l : List A) → sort_by key (sort_by key l) ≡ sort_by key l
 sort_twice key l = sort_id key (sort_by key l) (sort_rising key l)

@@ -8,7 +8,7 @@ use mathlib.Core.List.{List, [], ◌∷◌, Memᴰ}
 use native.Mathlib.Omega.{arith}
 use lib.ListN.{length}
 use lib.Dec.{ltb}
-use borrow.Author.Tests.{ltb_true, lt_ltb, le-ltb}
+use borrow.Author.Tests.{ltb-true, lt-ltb, le-ltb}
 use Rattle.sorts.specs.Orders.{All, nil, cons}
 use Rattle.model.specs.Search.{SearchAnswer, use_arc_flags, flags_in_use, search_answer, run_tbr as the_rust, query as the_promise, overflows}
 use Rattle.model.specs.Tables.{Tables, Query}
@@ -37,7 +37,7 @@ over_at room (m ∷ l) e = go (ltb room m) refl e (over_at room l)
   where
     go : (b : Bool) → ltb room m ≡ b → (b || overflows room l) ≡ true → (overflows room l ≡ true → (k : ℕ) × Memᴰ k l × (room < k))
         → (k : ℕ) × Memᴰ k (m ∷ l) × (room < k)
-    go true f h next = (m, Memᴰ.head refl, ltb_true room m f)
+    go true f h next = (m, Memᴰ.head refl, ltb-true room m f)
     go false f h next = let k = next h in (k.0, Memᴰ.tail k.1, k.2)
 
 over_by : (room : ℕ) (l : List ℕ) (m : ℕ) → Memᴰ m l → room < m → overflows room l ≡ true
@@ -45,7 +45,7 @@ unfolding overflows
 over_by room [] m i h = absurd (Memᴰ.not-nil i)
 over_by room (k ∷ l) m i h =
     ⊎_elim
-    (λ (e : m ≡ k). ap (λ (b : Bool). b || overflows room l) (lt_ltb room k (omega arith)))
+    (λ (e : m ≡ k). ap (λ (b : Bool). b || overflows room l) (lt-ltb room k (omega arith)))
     (λ j. go (ltb room k) (over_by room l m j h))
     (Memᴰ.cases_cons i)
   where

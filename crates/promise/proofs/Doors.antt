@@ -7,7 +7,7 @@ use native.Mathlib.Omega.{arith}
 use lib.ListN.{length, get_or, take}
 use lib.Seq.{get_or-take}
 use lib.Dec.{ltb}
-use borrow.Author.Tests.{eq-eqb, le_leb, lt_ltb}
+use borrow.Author.Tests.{eq-eqb, le-leb, lt-ltb}
 use Rattle.loops.specs.Iter.{every_in}
 use Rattle.loops.proofs.Iter.{every_all}
 use Rattle.loops.proofs.Count.{count_le_n, one_le}
@@ -81,7 +81,7 @@ module _ (x : Lent) (k : Chain x) where
       let r = runs_of (T1 x k) k.line_areas.runs in
       let a = ap (λ (m : List ℕ). get_or m (l * 2) 0) e ∙ get_or-take (x.n.lines * 2) r (l * 2) 0 (omega arith) ∙ run-first (T1 x k) k.line_areas.runs l w in
       let b = ap (λ (m : List ℕ). get_or m (l * 2 + 1) 0) e ∙ get_or-take (x.n.lines * 2) r (l * 2 + 1) 0 (omega arith) ∙ run_count (T1 x k) k.line_areas.runs l w in
-      le_leb (get_or (line_runs x.built x.n) (l * 2) 0 + get_or (line_runs x.built x.n) (l * 2 + 1) 0) x.n.entries
+      le-leb (get_or (line_runs x.built x.n) (l * 2) 0 + get_or (line_runs x.built x.n) (l * 2 + 1) 0) x.n.entries
       (omega (arith, a, b, run_ends (T1 x k) l, k.entries_told, k.lines_on.same.trips)))
 
   stop_runs_pass : stop_runs_ok (stop_runs_of x.built x.n) x.n.timetable x.n.departures ≡ true
@@ -89,7 +89,7 @@ module _ (x : Lent) (k : Chain x) where
   stop_runs_pass =
       subst (λ (r : List ℕ). every_in (λ s. run_in x.n.departures (run_at r s)) 0 x.n.timetable.stops ≡ true) (sym (cut x k).fourth)
       (every_all (λ s. run_in x.n.departures (run_at k.stop_runs s)) 0 (x.n.timetable.stops - 0)
-      (λ s u v. le_leb (run_end k.stop_runs s) x.n.departures ((sort_facts x k).listed.stops.run s (omega (arith, k.sort_on.same.stops)))))
+      (λ s u v. le-leb (run_end k.stop_runs s) x.n.departures ((sort_facts x k).listed.stops.run s (omega (arith, k.sort_on.same.stops)))))
 
   line_numbers_pass : line_numbers x.built x.n ≡ true
   unfolding line_numbers column_below entries_ok
@@ -99,12 +99,12 @@ module _ (x : Lent) (k : Chain x) where
       (λ i u v.
       let z : 0 + i * 1 ≡ i = omega arith in
       let e = ap (λ (j : ℕ). get_or x.built j 0) z ∙ (chain_tables x k).line_built i (omega arith) in
-      lt_ltb (column_at x.built 0 1 i) x.n.lines (omega (arith, e, line_is_one (Y x k) i (omega arith), (chain_tables x k).lines_built))))
+      lt-ltb (column_at x.built 0 1 i) x.n.lines (omega (arith, e, line_is_one (Y x k) i (omega arith), (chain_tables x k).lines_built))))
       (every_all (λ p. ltb (get_or (line_entries x.built x.n) p 0) x.n.timetable.trips) 0 (x.n.entries - 0)
       (λ p u v.
       let w : p < k.lines_on.c.trips = omega (arith, k.entries_told, k.lines_on.same.trips) in
       let e = ap (λ (m : List ℕ). get_or m p 0) ((cut x k).third ∙ out_entries x k) in
-      lt_ltb (get_or (line_entries x.built x.n) p 0) x.n.timetable.trips (omega (arith, e, entry_trip (T1 x k) p w, k.lines_on.same.trips))))
+      lt-ltb (get_or (line_entries x.built x.n) p 0) x.n.timetable.trips (omega (arith, e, entry_trip (T1 x k) p w, k.lines_on.same.trips))))
 
   mark_pass : mark_ranges x.built x.n ≡ true
   unfolding mark_ranges column_below
@@ -113,7 +113,7 @@ module _ (x : Lent) (k : Chain x) where
       (λ s u v.
       let z : marks_at x.n + s * 1 ≡ marks_at x.n + s = omega arith in
       let e = ap (λ (j : ℕ). get_or x.built j 0) z ∙ (chain_tables x k).marks_built s (omega arith) in
-      lt_ltb (column_at x.built (marks_at x.n) 1 s) 2 (omega (arith, e, one_le (frequency_listed (Y x k) (callers_list x k s)))))
+      lt-ltb (column_at x.built (marks_at x.n) 1 s) 2 (omega (arith, e, one_le (frequency_listed (Y x k) (callers_list x k s)))))
 
   abbrev rows_out : List ℕ
   rows_out = sorted_rows k.sort_on.t k.sort_on.c x.n.departures k.stop_runs k.sort_areas.rows
@@ -149,7 +149,7 @@ module _ (x : Lent) (k : Chain x) where
       let z : i - 1 + 1 ≡ i = omega arith in
       let rise = departures-rise k.sort_on.t k.sort_on.c k.stop_runs k.sort_areas.rows x.n.departures (sort_facts x k).listed s (i - 1) w (omega arith) in
       let e = ap (λ (j : ℕ). row_departure (T2 x k) (row_at (departures_of k.stop_runs rows_out s) j)) z in
-      le_leb (row_departure (Y x k) (row_at (departures_of k.stop_runs rows_out s) (i - 1))) (row_departure (Y x k) (row_at (departures_of k.stop_runs rows_out s) i))
+      le-leb (row_departure (Y x k) (row_at (departures_of k.stop_runs rows_out s) (i - 1))) (row_departure (Y x k) (row_at (departures_of k.stop_runs rows_out s) i))
       (omega (arith, rise, e, row_departs s (i - 1) w (omega arith), row_departs s i w (omega arith)))))
 
   -- THE DOOR
@@ -157,10 +157,10 @@ module _ (x : Lent) (k : Chain x) where
   unfolding query_verdict query_question1 query_question2 read_ok query_question3 query_question4 query_question5 query_question6
   chain_door l p e =
       ask_yes 1 _ _
-      (ap₂ ◌&&◌ (ap₂ ◌&&◌ e.counts (ap₂ ◌&&◌ (le_leb x.n.cells 512 e.cells) (le_leb x.n.patterns 4096 e.patterns)))
+      (ap₂ ◌&&◌ (ap₂ ◌&&◌ e.counts (ap₂ ◌&&◌ (le-leb x.n.cells 512 e.cells) (le-leb x.n.patterns 4096 e.patterns)))
       (ap₂ ◌&&◌
-      (ap₂ ◌&&◌ (ap₂ ◌&&◌ (le_leb x.n.lines 4096 lines_few) (le_leb x.n.entries 4096 entries_few)) (ap₂ ◌&&◌ (le_leb x.n.departures 65536 (sort_facts x k).listed.stops.few) (le_leb x.n.transfers 65536 p.few)))
-      (ap₂ ◌&&◌ (ap₂ ◌&&◌ (le_leb x.n.delays 4096 e.delays) (le_leb x.n.stop_rows 4096 e.stop-rows)) (ap₂ ◌&&◌ (le_leb x.n.origins 64 e.origins) (le_leb x.n.egress 64 e.egress)))))
+      (ap₂ ◌&&◌ (ap₂ ◌&&◌ (le-leb x.n.lines 4096 lines_few) (le-leb x.n.entries 4096 entries_few)) (ap₂ ◌&&◌ (le-leb x.n.departures 65536 (sort_facts x k).listed.stops.few) (le-leb x.n.transfers 65536 p.few)))
+      (ap₂ ◌&&◌ (ap₂ ◌&&◌ (le-leb x.n.delays 4096 e.delays) (le-leb x.n.stop_rows 4096 e.stop-rows)) (ap₂ ◌&&◌ (le-leb x.n.origins 64 e.origins) (le-leb x.n.egress 64 e.egress)))))
       (ask_yes 14 _ _ e.settings
       (ask_yes 2 _ _
       (ap₂ ◌&&◌ e.slices

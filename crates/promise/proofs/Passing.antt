@@ -5,7 +5,7 @@ use mathlib.Core.List.{List, [], ◌∷◌}
 use native.Mathlib.Omega.{arith}
 use lib.ListN.{length, get_or}
 use lib.Dec.{ltb}
-use borrow.Author.Tests.{le_leb, lt_ltb}
+use borrow.Author.Tests.{le-leb, lt-ltb}
 use Rattle.loops.specs.Count.{tab}
 use Rattle.loops.proofs.Iter.{every_all}
 use Rattle.door.specs.Door.{time_limit}
@@ -86,7 +86,7 @@ module _ (x : Lent) (k : Chain x) (m : TransferChain x k) where
             let z : transfer_run_at x.built x.n e ≡ run_at (runs_from 0 (events_of I)) e = run_seen x k m e ∙ ap (λ (l : List ℕ). run_at l e) runs_are in
             let a = ap (λ (r : StopRun). r.first) z ∙ run-first 0 (events_of I) e w in
             let b = ap (λ (r : StopRun). r.length) z ∙ run_count 0 (events_of I) e w in
-            le_leb ((transfer_run_at x.built x.n e).first + (transfer_run_at x.built x.n e).length) rows
+            le-leb ((transfer_run_at x.built x.n e).first + (transfer_run_at x.built x.n e).length) rows
             (omega (arith, a, b, run_inside (events_of I) e w, facts.counted, rows_told)));
         times = every_all (λ i. ltb (column_at x.transfers 2 4 i) (time_limit + 1)) 0 (rows - 0)
             (λ i u v.
@@ -95,7 +95,7 @@ module _ (x : Lent) (k : Chain x) (m : TransferChain x k) where
             let z : 2 + i * 4 ≡ i * 4 + 2 = omega arith in
             let a : get_or x.transfers (2 + i * 4) 0 ≡ m.on.settings.transfer_time =
             ap₂ (λ (l : List ℕ) (j : ℕ). get_or l j 0) area_is z ∙ ap (λ (r : Transfer). r.time) (area_words I m.areas.area d i w) ∙ all_at (Takes I) (all_transfers I) i d (all_take_time I) w in
-            lt_ltb (column_at x.transfers 2 4 i) (time_limit + 1) (omega (arith, a, facts.facts.time)));
+            lt-ltb (column_at x.transfers 2 4 i) (time_limit + 1) (omega (arith, a, facts.facts.time)));
       }
 
 -- NO TRANSFERS: a caller who makes none (a steady day needs none) lends zeros for the runs, and no transfer
@@ -110,6 +110,6 @@ no_transfers_pass x k e s h =
           let z : transfer_runs_at x.n + e * 2 + 1 ≡ transfer_runs_at x.n + (e * 2 + 1) = omega arith in
           let a = (cut x k).rest (e * 2) ∙ h (e * 2) in
           let b = ap (λ (j : ℕ). get_or x.built j 0) z ∙ (cut x k).rest (e * 2 + 1) ∙ h (e * 2 + 1) in
-          le_leb ((transfer_run_at x.built x.n e).first + (transfer_run_at x.built x.n e).length) (transfer_rows x.n (length x.transfers)) (omega (arith, a, b)));
+          le-leb ((transfer_run_at x.built x.n e).first + (transfer_run_at x.built x.n e).length) (transfer_rows x.n (length x.transfers)) (omega (arith, a, b)));
       times = every_all (λ i. ltb (column_at x.transfers 2 4 i) (time_limit + 1)) 0 (transfer_rows x.n (length x.transfers) - 0) (λ i u v. absurd (omega arith));
     }

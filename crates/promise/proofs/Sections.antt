@@ -3,7 +3,7 @@ use Prim.Native.Nat.{ℕ, ◌+◌, ◌<◌}
 use mathlib.Core.Path.{◌≡◌, sym, ap, ◌∙◌}
 use mathlib.Core.List.{List, ◌++◌, append_assoc}
 use native.Mathlib.Omega.{arith}
-use lib.ListN.{length, get_or, drop, length-append, get_or_append}
+use lib.ListN.{length, get_or, drop, length-append, get_or-append}
 use lib.Seq.{take_at, drop_at, get_or-append-add}
 use Rattle.query_input.specs.Lent.{section}
 
@@ -29,7 +29,7 @@ module _ (a b d e f g r : List ℕ) (na nb nd ne nf ng : ℕ) (s : Sizes a b d e
   all = a ++ (b ++ (d ++ (e ++ (f ++ (g ++ r)))))
 
   at_a : (i : ℕ) → i < na → get_or all i 0 ≡ get_or a i 0
-  at_a i h = get_or_append a (b ++ (d ++ (e ++ (f ++ (g ++ r))))) 0 i (omega (arith, s.a_size))
+  at_a i h = get_or-append a (b ++ (d ++ (e ++ (f ++ (g ++ r))))) 0 i (omega (arith, s.a_size))
 
   is_b : section all na nb ≡ b
   is_b = part_mid a b (d ++ (e ++ (f ++ (g ++ r)))) na nb s.a_size s.b_size
@@ -69,7 +69,7 @@ module _ (a b d e f g r : List ℕ) (na nb nd ne nf ng : ℕ) (s : Sizes a b d e
       let z : all ≡ (a ++ (b ++ (d ++ (e ++ f)))) ++ (g ++ r) = simp append_assoc in
       ap (λ (l : List ℕ). get_or l (na + nb + nd + ne + nf + i) 0) z
       ∙ past (a ++ (b ++ (d ++ (e ++ f)))) (g ++ r) (na + nb + nd + ne + nf) i abdef_size
-      ∙ get_or_append g r 0 i (omega (arith, s.g_size))
+      ∙ get_or-append g r 0 i (omega (arith, s.g_size))
 
   abdefg_size : length (a ++ (b ++ (d ++ (e ++ (f ++ g))))) ≡ na + nb + nd + ne + nf + ng
   abdefg_size =

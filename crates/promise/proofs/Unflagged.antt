@@ -5,7 +5,7 @@ use mathlib.Core.Bool.{Bool, true, false, ◌&&◌, ◌||◌, not, cond}
 use mathlib.Core.List.{List, [], ◌∷◌, ◌++◌}
 use lib.ListN.{length, set}
 use lib.Dec.{leb, ltb, eqb}
-use borrow.Author.Tests.{ltb_true}
+use borrow.Author.Tests.{ltb-true}
 use Rattle.loops.specs.Iter.{Hit}
 use Rattle.cell_bitset.specs.declared.CellBitSet.{CellBitSet}
 use Rattle.cell_bitset.specs.CellSet.{empty_set, with_cell, holds_none}
@@ -52,7 +52,7 @@ module _ (T : Tables) (Q : Query) (line_of mark : ℕ → ℕ) (transfers : ℕ 
   same_line t = go (ltb t (trips T)) refl
     where
       go : (b : Bool) → ltb t (trips T) ≡ b → ◌≡◌ {A = ℕ} (elim b [ true ↦ line_of t | false ↦ never ]) (elim b [ true ↦ T.line_of t | false ↦ never ])
-      go true e = lines t (ltb_true t (trips T) e)
+      go true e = lines t (ltb-true t (trips T) e)
       go false e = refl
 
   same_mark : (x : ℕ) → mark_at U x ≡ mark_at T x
@@ -60,7 +60,7 @@ module _ (T : Tables) (Q : Query) (line_of mark : ℕ → ℕ) (transfers : ℕ 
   same_mark x = go (ltb x (stops T)) refl
     where
       go : (b : Bool) → ltb x (stops T) ≡ b → (b && eqb (mark x) 1) ≡ (b && eqb (T.mark x) 1)
-      go true e = ap (λ (n : ℕ). eqb n 1) (marks x (ltb_true x (stops T) e))
+      go true e = ap (λ (n : ℕ). eqb n 1) (marks x (ltb-true x (stops T) e))
       go false e = refl
 
   -- are arc flags used? The target cells are the same

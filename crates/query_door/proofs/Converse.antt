@@ -9,7 +9,7 @@ use native.Mathlib.Nat.{eq-or-lt_of_le}
 use native.Mathlib.Omega.{arith}
 use lib.ListN.{get_or}
 use lib.Dec.{ltb, leb}
-use borrow.Author.Tests.{le_leb, lt_ltb}
+use borrow.Author.Tests.{le-leb, lt-ltb}
 use Rattle.loops.specs.Count.{tab_from}
 use Rattle.loops.proofs.Iter.{every_all}
 use Rattle.tables.specs.Timetable.{Timetable, timetable}
@@ -43,7 +43,7 @@ module _ (x : Lent) where
       rises : (k : ℕ) → 1 ≤ k → k < 1 + (x.n.egress - 1) → ltb (stop (k - 1)) (stop k) ≡ true
       rises k u v =
           let e : suc (k - 1) ≡ k = omega arith in
-          lt_ltb (stop (k - 1)) (stop k) (omega (arith, ap stop e, rise_next stop walk 0 x.n.egress r (k - 1) (omega arith) (omega arith)))
+          lt-ltb (stop (k - 1)) (stop k) (omega (arith, ap stop e, rise_next stop walk 0 x.n.egress r (k - 1) (omega arith) (omega arith)))
 
   pub departures_asked : ((s : ℕ) → s < x.n.timetable.stops → InOrder (tables_of x) ((tables_of x).departures s))
       → departure_order (timetable x.t x.n.timetable) (stop_runs x.built x.n) (departure_rows x.built x.n) x.n.timetable.stops ≡ true
@@ -65,4 +65,4 @@ module _ (x : Lent) where
       falls : (s : ℕ) → s < x.n.timetable.stops → (k : ℕ) → 1 ≤ k → k < 1 + (run_length runs s - 1) → leb (leaves s (k - 1)) (leaves s k) ≡ true
       falls s w k u v =
           let e : suc (k - 1) ≡ k = omega arith in
-          le_leb (leaves s (k - 1)) (leaves s k) (omega (arith, ap (leaves s) e, order_next (tables_of x) (row_at (rows s)) 0 (run_length runs s) (r s w) (k - 1) (omega arith) (omega arith)))
+          le-leb (leaves s (k - 1)) (leaves s k) (omega (arith, ap (leaves s) e, order_next (tables_of x) (row_at (rows s)) 0 (run_length runs s) (r s w) (k - 1) (omega arith) (omega arith)))

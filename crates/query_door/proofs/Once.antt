@@ -7,7 +7,7 @@ use native.Mathlib.Omega.{arith}
 use lib.ListN.{get_or}
 use lib.Dec.{ltb, leb}
 use lib.Bits.{bit_or}
-use borrow.Author.Tests.{lt-leb, lt_ltb, le-ltb, leb-true, leb-false}
+use borrow.Author.Tests.{lt-leb, lt-ltb, le-ltb, leb-true, leb-false}
 use Rattle.loops.proofs.Most.{or_most}
 use Rattle.door.specs.Door.{time_limit}
 use Rattle.tables.specs.Door.{numbers_ok, ranges_ok, order_ok}
@@ -25,7 +25,7 @@ most_below : (x n : ℕ) → leb x n ≡ ltb x (n + 1)
 most_below x n = go (leb x n) refl
   where
     go : (b : Bool) → leb x n ≡ b → b ≡ ltb x (n + 1)
-    go true e = sym (lt_ltb x (n + 1) (omega (arith, leb-true x n e)))
+    go true e = sym (lt-ltb x (n + 1) (omega (arith, leb-true x n e)))
     go false e = sym (le-ltb x (n + 1) (omega (arith, leb-false x n e)))
 
 pub time_kept : (bits w x : ℕ) → w ≡ x → leb (bit_or bits w) 1048575 ≡ leb bits 1048575 && ltb x (time_limit + 1)

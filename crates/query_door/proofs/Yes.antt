@@ -6,7 +6,7 @@ use mathlib.Core.List.{List}
 use native.Mathlib.Omega.{arith}
 use lib.ListN.{length, get_or}
 use lib.Dec.{ltb, leb, eqb}
-use borrow.Author.Tests.{eqb_true, leb-true, ltb_true}
+use borrow.Author.Tests.{eqb-true, leb-true, ltb-true}
 use Rattle.loops.specs.Iter.{every, first}
 use Rattle.loops.proofs.Iter.{every_in_at, every_at}
 use Rattle.door.specs.Door.{ask, time_limit}
@@ -38,7 +38,7 @@ use Rattle.query_input.proofs.Laws.{door_of}
 -- a column whose numbers are below the bound
 pub column_yes : (l : List ℕ) (first stride count bound : ℕ) → column_below l first stride count bound ≡ true → (i : ℕ) → i < count → get_or l (first + i * stride) 0 < bound
 unfolding column_below
-column_yes l first stride count bound h i u = ltb_true _ bound (every_in_at (λ k. ltb (column_at l first stride k) bound) count i h u)
+column_yes l first stride count bound h i u = ltb-true _ bound (every_in_at (λ k. ltb (column_at l first stride k) bound) count i h u)
 
 -- what holds from 1 on
 from_one : (f : ℕ → Bool) (n i : ℕ) → every f 1 (n - 1) ≡ true → i + 1 < n → f (i + 1) ≡ true
@@ -93,7 +93,7 @@ module _ (t : List ℕ) (n : QueryCounts) (built patterns distances q : ℕ) (l 
       let a = two (eqb built (built_size t n) && eqb patterns (n.patterns * 64)) (eqb distances (n.timetable.edges + n.origins) && eqb q (query_size n)) areas.one in
       let b = two (eqb built (built_size t n)) (eqb patterns (n.patterns * 64)) a.one in
       let d = two (eqb distances (n.timetable.edges + n.origins)) (eqb q (query_size n)) a.two in
-      record { slices = slices_yes t n.timetable slices.one; built_is = eqb_true _ _ b.one; query_is = eqb_true _ _ d.two }
+      record { slices = slices_yes t n.timetable slices.one; built_is = eqb-true _ _ b.one; query_is = eqb-true _ _ d.two }
 
   pub lengthy_yes : Lengthy n patterns distances l
   unfolding read_ok written_ok
@@ -107,13 +107,13 @@ module _ (t : List ℕ) (n : QueryCounts) (built patterns distances q : ℕ) (l 
       let y = two (eqb l.labels (n.timetable.stops * 13 * 8)) (eqb l.label_distances (n.timetable.stops * 13)) x.one in
       let z = two (eqb l.queue_a l.queue_b) (eqb l.candidates 39) w.two in
       record {
-        patterns_is = eqb_true _ _ b.two;
-        distances_is = eqb_true _ _ d.one;
-        labels = eqb_true _ _ y.one;
-        label_distances = eqb_true _ _ y.two;
-        work = eqb_true _ _ x.two;
-        queue = eqb_true _ _ z.one;
-        candidates = eqb_true _ _ z.two;
+        patterns_is = eqb-true _ _ b.two;
+        distances_is = eqb-true _ _ d.one;
+        labels = eqb-true _ _ y.one;
+        label_distances = eqb-true _ _ y.two;
+        work = eqb-true _ _ x.two;
+        queue = eqb-true _ _ z.one;
+        candidates = eqb-true _ _ z.two;
       }
 
 -- 3
@@ -287,7 +287,7 @@ module _ (t built q : List ℕ) (n : QueryCounts) (h : query_question6 t built q
       record {
         edges = order_yes t n.timetable orders.edges;
         departures = λ s k u v. leb-true (leaves s k) (leaves s (k + 1)) (ap (λ (i : ℕ). leb (leaves s i) (leaves s (k + 1))) (back k) ∙ from_one (not_earlier T (rows s)) (run_length (stop_runs built n) s) k (every_in_at (λ i. part_order T (rows i) (run_length (stop_runs built n) i)) n.timetable.stops s orders.departures u) v);
-        egress = λ k u. ltb_true (stop k) (stop (k + 1)) (ap (λ (i : ℕ). ltb (stop i) (stop (k + 1))) (back k) ∙ from_one (λ i. ltb (stop (i - 1)) (stop i)) n.egress k orders.egress u);
+        egress = λ k u. ltb-true (stop k) (stop (k + 1)) (ap (λ (i : ℕ). ltb (stop i) (stop (k + 1))) (back k) ∙ from_one (λ i. ltb (stop (i - 1)) (stop i)) n.egress k orders.egress u);
       }
     where
       T : Timetable

@@ -6,7 +6,7 @@ use mathlib.Core.List.{List, [], ◌∷◌}
 use native.Mathlib.Omega.{arith}
 use native.Mathlib.Numerals.{add-one}
 use lib.Ieee.{Float}
-use borrow.Author.Tests.{not-true, not_false}
+use borrow.Author.Tests.{not-true, not-false}
 use Rattle.door.specs.Door.{time_limit}
 use Rattle.loops.specs.Count.{tab_from}
 use Rattle.stop_delay.specs.Times.{size_of}
@@ -120,4 +120,4 @@ module _ {ctx : Context} {sl : Slices} {stamp : ℕ} {w l : List ℕ} {m : List 
         (λ Q stops d. row Q stops d ∙ ap (λ (r : Ride). delay_of Q r.trip) is) (kept_refl ctx.lay w) refl (falls_refl ctx.lay w) G.chains
         (λ T Q y c u. books_logged round g.trip g.offset c u)
         (subst (λ (r : Ride). QueueStep ctx.lay r.stamp (Nets ctx sl w) (λ T Q. scan_trip_forward T Q flagged r.stamp (hit_of adj) r.shift r.trip r.stop r.offset) (memory w l m h) b q q') is z))
-        (λ T Q y. y) (λ T Q y s v. segment_one T Q flagged round stamp g s true (sym (allowed T Q y) ∙ not_false p e))
+        (λ T Q y. y) (λ T Q y s v. segment_one T Q flagged round stamp g s true (sym (allowed T Q y) ∙ not-false p e))

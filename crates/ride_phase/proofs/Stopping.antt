@@ -9,7 +9,7 @@ use lib.ListN.{length, get_or, drop, drop_of_length-le}
 use lib.Seq.{drop-cons}
 use lib.Ieee.{Float}
 use lib.Dec.{ltb, leb, eqb}
-use borrow.Author.Tests.{lt_ltb, lt-leb, le_leb, ne_eqb}
+use borrow.Author.Tests.{lt-ltb, lt-leb, le-leb, ne_eqb}
 use Rattle.loops.specs.Count.{tab_from}
 use Rattle.tables.specs.declared.Counts.{Counts}
 use Rattle.tables.specs.Timetable.{Timetable, timetable}
@@ -130,7 +130,7 @@ module _ {ctx : Context} {sl : Slices} {w : List ℕ} (L : Laid ctx sl w)
 
   -- in the model
   in_table : (T : Tables) (Q : Query) → Rides ctx sl w T Q → ltb x (stops T) ≡ true
-  in_table T Q y = lt_ltb x (stops T) (omega (arith, in-stops, ap (λ (z : Timetable). z.stops) y.nets.agree.timetable))
+  in_table T Q y = lt-ltb x (stops T) (omega (arith, in-stops, ap (λ (z : Timetable). z.stops) y.nets.agree.timetable))
 
   listed_are : (T : Tables) (Q : Query) → Rides ctx sl w T Q → departures_at T x ≡ rows_of list (length list / 2)
   unfolding departures_at
@@ -174,7 +174,7 @@ module _ {ctx : Context} {sl : Slices} {stamp : ℕ} {w l : List ℕ} {m : List 
   pub stop_late : h.best ≤ get_or w x 0 + change → Rode ctx.lay stamp agree (λ T Q. scan_stops T Q flagged round stamp (x ∷ [])) (memory w l m h) (memory w l m h) q q
   stop_late u =
       ride_none (λ T Q. scan_stops T Q flagged round stamp (x ∷ [])) (memory w l m h) q G.ready G.chains G.room
-      (λ T Q y s e. sym (ap (λ (b : Bool). stop_by T Q flagged round stamp b (mark_at T x) x s) (late_is T Q y s e ∙ le_leb h.best (get_or w x 0 + change) u)) ∙ stop_one T Q flagged round stamp x s)
+      (λ T Q y s e. sym (ap (λ (b : Bool). stop_by T Q flagged round stamp b (mark_at T x) x s) (late_is T Q y s e ∙ le-leb h.best (get_or w x 0 + change) u)) ∙ stop_one T Q flagged round stamp x s)
 
   module _ (u : get_or w x 0 + change < h.best) (list : List ℕ) (is : list ≡ list_at sl.built ctx.counts x)
       (mark : Bool) (told : mark ≡ eqb (get_or sl.built (marks_at ctx.counts + x) 0) 1) where

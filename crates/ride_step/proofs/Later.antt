@@ -8,7 +8,7 @@ use native.Mathlib.Omega.{arith}
 use native.Mathlib.Nat.{le_refl, le_trans}
 use lib.ListN.{length, get_or}
 use lib.Dec.{ltb, leb, eqb}
-use borrow.Author.Tests.{ltb_true}
+use borrow.Author.Tests.{ltb-true}
 use Rattle.loops.specs.Iter.{Hit}
 use Rattle.frequency.specs.declared.BoardedRun.{BoardedRun}
 use Rattle.frequency.specs.declared.FreqBoard.{FreqBoard}
@@ -42,7 +42,7 @@ module _ (T : Tables) (Q : Query) where
   relax_later stamp s v l a = go (ltb v (at a s)) refl
     where
       go : (b : Bool) → ltb v (at a s) ≡ b → Later a (cond b (improve T Q stamp s v l a) a)
-      go true e = record { earlier = λ x. set_le a.earliest s v x (omega (arith, ltb_true v (at a s) e)); queue = le_refl _ }
+      go true e = record { earlier = λ x. set_le a.earliest s v x (omega (arith, ltb-true v (at a s) e)); queue = le_refl _ }
       go false e = later_refl a
 
   -- a segment that is queued, or not

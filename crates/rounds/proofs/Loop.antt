@@ -10,7 +10,7 @@ use lib.Dec.{eqb}
 use lib.Ieee.{Float}
 use Rattle.model.specs.Tables.{Tables, Query, rounds_of}
 use Rattle.model.specs.Search.{Arrivals, State, idle, final, overflows}
-use Rattle.model.proofs.Base.{no_both, or_false}
+use Rattle.model.proofs.Base.{no_both, or-false}
 use Rattle.search_state.specs.View.{Memory, queue_of}
 use Rattle.search_state.proofs.Part.{part_length}
 use Rattle.search_state.proofs.Queue.{queue_length}
@@ -76,7 +76,7 @@ module _ {ctx : Context} {sl : Slices} {distances : List Float} {T : Tables} {Q 
     (R : Running ctx sl T Q limit r even size a qa qb)
     (go : (a.head.full || idle_head ctx.flagged a.head) ≡ false) where
   holds_now : Holds ctx sl T Q r a (read even qa qb)
-  holds_now = R.reached.on (or_false a.head.full (idle_head ctx.flagged a.head) go).0
+  holds_now = R.reached.on (or-false a.head.full (idle_head ctx.flagged a.head) go).0
 
   pub loop_open : r < limit → limit ≤ 12 → BeforeRound ctx sl distances r a (read even qa qb) (length (filled even qa qb))
   loop_open h l =
@@ -98,7 +98,7 @@ module _ {ctx : Context} {sl : Slices} {distances : List Float} {T : Tables} {Q 
       (record {
         between = D.between;
         reached = subst (λ (q : List ℕ). Reached ctx sl T Q (suc r) b q) (turned_read even qa' qb') (D.view T Q F holds_now);
-        onward = onward_next T Q ctx.flagged limit r (idle_is R.between holds_now ∙ (or_false a.head.full (idle_head ctx.flagged a.head) go).1) R.onward;
+        onward = onward_next T Q ctx.flagged limit r (idle_is R.between holds_now ∙ (or-false a.head.full (idle_head ctx.flagged a.head) go).1) R.onward;
         few = h;
         first = la ∙ R.first;
         second = lb ∙ R.second;

@@ -9,7 +9,7 @@ use native.Mathlib.Nat.{le_trans}
 use native.Mathlib.Omega.{arith}
 use lib.ListN.{length, get_or}
 use lib.Dec.{ltb}
-use borrow.Author.Tests.{lt_ltb, le-ltb}
+use borrow.Author.Tests.{lt-ltb, le-ltb}
 use Rattle.model.specs.Tables.{Tables, Query, rounds_of}
 use Rattle.model.specs.Search.{Arrivals, Boardings, State, at, board, emptied, ride_phase, walk_phase, idle, rounds, begin, final, overflows}
 use Rattle.model.specs.Door.{Door}
@@ -30,7 +30,7 @@ stands_in (x ∷ l) (suc i) d h = Memᴰ.tail (stands_in l i d (omega arith))
 -- question 8 of one number more
 pub overflow_now : (room m : ℕ) (ms : List ℕ) → room < m → overflows room (m ∷ ms) ≡ true
 unfolding overflows
-overflow_now room m ms h = ap (λ (b : Bool). b || overflows room ms) (lt_ltb room m h)
+overflow_now room m ms h = ap (λ (b : Bool). b || overflows room ms) (lt-ltb room m h)
 
 pub overflow_none : (room m : ℕ) (ms : List ℕ) → m ≤ room → overflows room ms ≡ false → overflows room (m ∷ ms) ≡ false
 unfolding overflows

@@ -5,7 +5,7 @@ use mathlib.Core.Bool.{Bool, true, false}
 use mathlib.Core.List.{List, [], ◌∷◌}
 use native.Mathlib.Omega.{arith}
 use lib.ListN.{length, get_or, set, replicate, length-set, length-replicate, get_or-replicate}
-use lib.Seq.{get_or-set_same, get_or_set_other}
+use lib.Seq.{get_or-set_same, get_or-set_other}
 use lib.Ieee.{Float, nan}
 use borrow.Author.Tests.{eq-eqb, ne_eqb}
 use Rattle.loops.specs.Count.{tab_from}
@@ -129,15 +129,15 @@ egress_more lay w w' es s d p h l r =
             (λ n. omega (arith, other x n, p.walks.small x u));
       };
       size = length-set w' (rest_at lay + s) (d + 1) ∙ p.size;
-      below = λ i u. get_or_set_other w' (rest_at lay + s) i (d + 1) 0 (λ e. omega (arith, e, u)) ∙ p.below i u;
-      above = λ i u. get_or_set_other w' (rest_at lay + s) i (d + 1) 0 (λ e. omega (arith, e, u, h)) ∙ p.above i u;
+      below = λ i u. get_or-set_other w' (rest_at lay + s) i (d + 1) 0 (λ e. omega (arith, e, u)) ∙ p.below i u;
+      above = λ i u. get_or-set_other w' (rest_at lay + s) i (d + 1) 0 (λ e. omega (arith, e, u, h)) ∙ p.above i u;
     }
   where
     here : get_or (set w' (rest_at lay + s) (d + 1)) (rest_at lay + s) 0 ≡ d + 1
     here = get_or-set_same w' (rest_at lay + s) (d + 1) 0 (omega (arith, p.size, h, r))
 
     other : (x : ℕ) → (s ≡ x → ⊥) → get_or (set w' (rest_at lay + s) (d + 1)) (rest_at lay + x) 0 ≡ get_or w' (rest_at lay + x) 0
-    other x n = get_or_set_other w' (rest_at lay + s) (rest_at lay + x) (d + 1) 0 (λ e. n (omega (arith, e)))
+    other x n = get_or-set_other w' (rest_at lay + s) (rest_at lay + x) (d + 1) 0 (λ e. n (omega (arith, e)))
 
 -- the rows from k on, and one before them
 pub rows_end : (q : List ℕ) (first n : ℕ) → tab_from (egress_row_from q first) n (n - n) ≡ []

@@ -5,7 +5,7 @@ use mathlib.Core.Bool.{Bool, ◌&&◌}
 use mathlib.Core.List.{List, []}
 use native.Mathlib.Omega.{arith}
 use lib.ListN.{length, get_or}
-use borrow.Author.Tests.{lt_ltb}
+use borrow.Author.Tests.{lt-ltb}
 use Rattle.loops.specs.Count.{one}
 use Rattle.tables.specs.Timetable.{timetable}
 use Rattle.tables.specs.Tables.{count_of}
@@ -139,7 +139,7 @@ module _ (x : Lent) (l : Lengths) (A : Admitted x l) (w : List ℕ) (H : Held x 
             ∙ ap (λ (i : ℕ). get_or x.built i 0) e;
         position = λ i u. sym (H.position i u);
         fifo = λ k u.
-            ap (λ (b : Bool). one (b && fifo_line (timetable x.t x.n.timetable) (line_trips_in (line_runs x.built x.n) (line_entries x.built x.n) k))) (lt_ltb k x.n.lines u)
+            ap (λ (b : Bool). one (b && fifo_line (timetable x.t x.n.timetable) (line_trips_in (line_runs x.built x.n) (line_entries x.built x.n) k))) (lt-ltb k x.n.lines u)
             ∙ sym (H.fifo k u);
       }
 

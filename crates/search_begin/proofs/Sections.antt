@@ -4,7 +4,7 @@ use mathlib.Core.Path.{◌≡◌, refl, sym, ap, ap₂, ◌∙◌}
 use mathlib.Core.List.{List}
 use native.Mathlib.Omega.{arith}
 use lib.ListN.{length, get_or, set, take, drop, length-set, length-drop}
-use lib.Seq.{length-take-le, get_or-take, get_or-set_same, get_or_set_other}
+use lib.Seq.{length-take-le, get_or-take, get_or-set_same, get_or-set_other}
 use borrow.Rule.Slice.PartMut.{put_mid}
 use Rattle.loops.specs.Count.{tab}
 use Rattle.loops.proofs.Count.{length_tab_from, get_d_tab}
@@ -32,9 +32,9 @@ put_more a i f w w' v p e h =
       size = length-set w' (a + i) v ∙ p.size;
       inside = λ k u. same_or k i
           (λ q. rw q (get_or-set_same w' (a + i) v 0 h ∙ e))
-          (λ n. get_or_set_other w' (a + i) (a + k) v 0 (λ q. n (omega (arith, q))) ∙ p.inside k (omega (arith, u, n)));
-      below = λ k u. get_or_set_other w' (a + i) k v 0 (λ q. omega (arith, q, u)) ∙ p.below k u;
-      above = λ k u. get_or_set_other w' (a + i) k v 0 (λ q. omega (arith, q, u)) ∙ p.above k (omega (arith, u));
+          (λ n. get_or-set_other w' (a + i) (a + k) v 0 (λ q. n (omega (arith, q))) ∙ p.inside k (omega (arith, u, n)));
+      below = λ k u. get_or-set_other w' (a + i) k v 0 (λ q. omega (arith, q, u)) ∙ p.below k u;
+      above = λ k u. get_or-set_other w' (a + i) k v 0 (λ q. omega (arith, q, u)) ∙ p.above k (omega (arith, u));
     }
 
 -- the part from a up to e, lent to a call that writes f 0, f 1, .. into it

@@ -6,7 +6,7 @@ use mathlib.Core.Bool.{true, false}
 use mathlib.Core.List.{List, [], ◌∷◌, ◌++◌}
 use native.Mathlib.Omega.{arith}
 use lib.ListN.{length, get_or, set, length-set}
-use lib.Seq.{drop_set_lt}
+use lib.Seq.{drop-set-lt}
 use lib.Dec.{eqb}
 use borrow.Author.Tests.{eq-eqb, ne_eqb}
 use Rattle.query_types.specs.declared.Lay.{Lay}
@@ -28,11 +28,11 @@ same_low lay w ok i v h =
     record {
       size = length-set w i v;
       list = part_below w lay.other (lay.stops + 64) i v (omega (arith, ok.other_first, h));
-      rest = drop_set_lt (rest_at lay) w i v (omega (arith, h));
+      rest = drop-set-lt (rest_at lay) w i v (omega (arith, h));
     }
 
 pub same-list : (lay : Lay) (w : List ℕ) → WorkSized lay (length w) → (i v : ℕ) → i < lay.stops + 64 → Same lay w (set w (lay.list + i) v)
-same-list lay w ok i v h = record { size = length-set w (lay.list + i) v; list = go ok.apart; rest = drop_set_lt (rest_at lay) w (lay.list + i) v (omega (arith, h, ok.fits)) }
+same-list lay w ok i v h = record { size = length-set w (lay.list + i) v; list = go ok.apart; rest = drop-set-lt (rest_at lay) w (lay.list + i) v (omega (arith, h, ok.fits)) }
   where
     go : (lay.list + (lay.stops + 64) ≤ lay.other) ⊎ (lay.other + (lay.stops + 64) ≤ lay.list)
         → part (set w (lay.list + i) v) lay.other (lay.stops + 64) ≡ part w lay.other (lay.stops + 64)

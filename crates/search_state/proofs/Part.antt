@@ -8,7 +8,7 @@ use Rattle.loops.specs.Count.{tab_from}
 use Rattle.search_state.specs.Part.{part, tally}
 use native.Mathlib.Numerals.{add-one}
 use lib.Dec.{eqb}
-use lib.Seq.{length-take-le, get_or-take, get_or-drop, drop-set-add, drop_set_lt, take-set-lt, take_set_le, take-suc-set}
+use lib.Seq.{length-take-le, get_or-take, get_or-drop, drop-set-add, drop-set-lt, take-set-lt, take-set-le, take-suc-set}
 use borrow.Author.Tests.{eq-eqb, ne_eqb}
 use Rattle.loops.proofs.Count.{one_le}
 use Rattle.words.proofs.Filling.{all_same}
@@ -32,13 +32,13 @@ module _ (w : List ℕ) (a n : ℕ) where
 
   pub part_below : (i v : ℕ) → i < a → part (set w i v) a n ≡ part w a n
   unfolding part
-  part_below i v h = ap (take n) (drop_set_lt a w i v h)
+  part_below i v h = ap (take n) (drop-set-lt a w i v h)
 
   pub part_above : (i v : ℕ) → a + n ≤ i → part (set w i v) a n ≡ part w a n
   unfolding part
   part_above i v h =
       let e : i ≡ a + (i - a) = omega arith in
-      ap (λ (x : ℕ). take n (drop a (set w x v))) e ∙ ap (take n) (drop-set-add a w (i - a) v) ∙ take_set_le n (drop a w) (i - a) v (omega arith)
+      ap (λ (x : ℕ). take n (drop a (set w x v))) e ∙ ap (take n) (drop-set-add a w (i - a) v) ∙ take-set-le n (drop a w) (i - a) v (omega arith)
 
   pub part_more : (v : ℕ) → a + n < length w → part (set w (a + n) v) a (n + 1) ≡ part w a n ++ (v ∷ [])
   unfolding part

@@ -6,10 +6,10 @@ use mathlib.Core.List.{List, [], ◌∷◌, ◌++◌}
 use native.Mathlib.Omega.{arith}
 use native.Mathlib.Numerals.{add-one}
 use lib.ListN.{length, get_or, set, length-set, length-append}
-use lib.Seq.{get_or-set_same, get_or_set_other}
+use lib.Seq.{get_or-set_same, get_or-set_other}
 use lib.Dec.{leb, ltb}
 use lib.Ieee.{Float}
-use borrow.Author.Tests.{leb-true, leb-false, le-ltb, lt_ltb}
+use borrow.Author.Tests.{leb-true, leb-false, le-ltb, lt-ltb}
 use Rattle.loops.specs.Count.{tab_from}
 use Rattle.loops.proofs.Count.{tab_ext, length_tab_from}
 use Rattle.loops.proofs.Search.{clash}
@@ -49,8 +49,8 @@ module _ (g : Segment) (q : List ℕ) (n : ℕ) (h : 4 * n + 4 ≤ length q) whe
   apart : (i : ℕ) → i < 4 * n → get_or q4 i 0 ≡ get_or q i 0
   unfolding q1 q2 q3 q4
   apart i l =
-      get_or_set_other q3 (4 * n + 3) i g.shift 0 (λ y. omega arith) ∙ get_or_set_other q2 (4 * n + 2) i g.stop 0 (λ y. omega arith)
-      ∙ get_or_set_other q1 (4 * n + 1) i g.offset 0 (λ y. omega arith) ∙ get_or_set_other q (4 * n) i g.trip 0 (λ y. omega arith)
+      get_or-set_other q3 (4 * n + 3) i g.shift 0 (λ y. omega arith) ∙ get_or-set_other q2 (4 * n + 2) i g.stop 0 (λ y. omega arith)
+      ∙ get_or-set_other q1 (4 * n + 1) i g.offset 0 (λ y. omega arith) ∙ get_or-set_other q (4 * n) i g.trip 0 (λ y. omega arith)
 
   before : (k : ℕ) → k < n → segment_at q4 k ≡ segment_at q k
   before k l =
@@ -68,13 +68,13 @@ module _ (g : Segment) (q : List ℕ) (n : ℕ) (h : 4 * n + 4 ≤ length q) whe
       let l2 : length q2 ≡ length q = length-set q1 (4 * n + 1) g.offset ∙ l1 in
       let l3 : length q3 ≡ length q = length-set q2 (4 * n + 2) g.stop ∙ l2 in
       let a : get_or q4 (4 * n) 0 ≡ g.trip =
-      get_or_set_other q3 (4 * n + 3) (4 * n) g.shift 0 (λ y. omega arith) ∙ get_or_set_other q2 (4 * n + 2) (4 * n) g.stop 0 (λ y. omega arith)
-      ∙ get_or_set_other q1 (4 * n + 1) (4 * n) g.offset 0 (λ y. omega arith) ∙ get_or-set_same q (4 * n) g.trip 0 (omega (arith, h)) in
+      get_or-set_other q3 (4 * n + 3) (4 * n) g.shift 0 (λ y. omega arith) ∙ get_or-set_other q2 (4 * n + 2) (4 * n) g.stop 0 (λ y. omega arith)
+      ∙ get_or-set_other q1 (4 * n + 1) (4 * n) g.offset 0 (λ y. omega arith) ∙ get_or-set_same q (4 * n) g.trip 0 (omega (arith, h)) in
       let b : get_or q4 (4 * n + 1) 0 ≡ g.offset =
-      get_or_set_other q3 (4 * n + 3) (4 * n + 1) g.shift 0 (λ y. omega arith) ∙ get_or_set_other q2 (4 * n + 2) (4 * n + 1) g.stop 0 (λ y. omega arith)
+      get_or-set_other q3 (4 * n + 3) (4 * n + 1) g.shift 0 (λ y. omega arith) ∙ get_or-set_other q2 (4 * n + 2) (4 * n + 1) g.stop 0 (λ y. omega arith)
       ∙ get_or-set_same q1 (4 * n + 1) g.offset 0 (omega (arith, h, l1)) in
       let c : get_or q4 (4 * n + 2) 0 ≡ g.stop =
-      get_or_set_other q3 (4 * n + 3) (4 * n + 2) g.shift 0 (λ y. omega arith) ∙ get_or-set_same q2 (4 * n + 2) g.stop 0 (omega (arith, h, l2)) in
+      get_or-set_other q3 (4 * n + 3) (4 * n + 2) g.shift 0 (λ y. omega arith) ∙ get_or-set_same q2 (4 * n + 2) g.stop 0 (omega (arith, h, l2)) in
       let d : get_or q4 (4 * n + 3) 0 ≡ g.shift = get_or-set_same q3 (4 * n + 3) g.shift 0 (omega (arith, h, l3)) in
       λ i. record { trip = a i; offset = b i; stop = c i; shift = d i }
 
@@ -99,7 +99,7 @@ test_is true r o = go (leb r o) refl
   where
     go : (b : Bool) → leb r o ≡ b → ltb o r ≡ not b
     go true e = le-ltb o r (leb-true r o e)
-    go false e = lt_ltb o r (leb-false r o e)
+    go false e = lt-ltb o r (leb-false r o e)
 
 module _ (T : Tables) (Q : Query) (t o s shift : ℕ) (p : Bool) (a : Arrivals) (e : no_windows T t ≡ p) where
   test : (not (no_windows T t) || ltb o (get_or a.seg_reach t 0)) ≡ not (p && leb (get_or a.seg_reach t 0) o)

@@ -5,7 +5,7 @@ use mathlib.Core.List.{List, [], ◌∷◌, ◌++◌}
 use native.Mathlib.Omega.{arith}
 use lib.ListN.{length, get_or, set}
 use lib.Ieee.{Float}
-use borrow.Author.Tests.{lt_ltb, le-ltb}
+use borrow.Author.Tests.{lt-ltb, le-ltb}
 use Rattle.label.specs.declared.Label.{Label}
 use Rattle.label.specs.declared.Label.TheVariants.{Access}
 use Rattle.label.specs.Label.{row_of}
@@ -57,7 +57,7 @@ module _ (T : Tables) (Q : Query) (o : Origin) (a : Arrivals) (v : ℕ) (e : Q.s
   out_early : v < at a o.stop → set_out T Q o a ≡ early T Q v o a
   unfolding set_out
   out_early h =
-      rw (lt_ltb (Q.start + o.duration) (at a o.stop) (rw e h), set_out) (ap (λ (u : ℕ). early T Q u o a) e)
+      rw (lt-ltb (Q.start + o.duration) (at a o.stop) (rw e h), set_out) (ap (λ (u : ℕ). early T Q u o a) e)
 
 module _ (lay : Lay) (start s d : ℕ) (z : Float) (w l : List ℕ) (m : List Float) (h : Head) (ok : Starting lay (memory w l m h)) (in-stops : s < lay.stops) where
   abbrev origin : Origin

@@ -7,7 +7,7 @@ use native.Mathlib.Omega.{arith}
 use lib.ListN.{length, get_or}
 use lib.Dec.{ltb}
 use lib.Ieee.{Float}
-use borrow.Author.Tests.{eq-eqb, ne_eqb, lt_ltb, le-ltb}
+use borrow.Author.Tests.{eq-eqb, ne_eqb, lt-ltb, le-ltb}
 use Rattle.label.specs.declared.Label.{Label}
 use Rattle.label.specs.Label.{row_of}
 use Rattle.label.specs.Table.{InTable, record_of, put_words, put_distance}
@@ -32,7 +32,7 @@ module _ (g v b : ℕ) where
 
   pub best_less : (g ≡ 0 → ⊥) → v + (g - 1) < b → v + (g - 1) ≡ best_by g v b
   unfolding best_by
-  best_less n l = rw (ne_eqb g 0 n, lt_ltb (v + (g - 1)) b l) refl
+  best_less n l = rw (ne_eqb g 0 n, lt-ltb (v + (g - 1)) b l) refl
 
   pub best_more : (g ≡ 0 → ⊥) → b ≤ v + (g - 1) → b ≡ best_by g v b
   unfolding best_by
@@ -141,7 +141,7 @@ module _ (lay : Lay) (stamp s v : ℕ) (how : Label) (w l : List ℕ) (m : List 
   unfolding relax
   relax_go e p =
       record {
-        view = λ T Q g q. p.view T Q g q ∙ rw (lt_ltb v (at (arrivals_of lay (memory w l m h) q) s) (rw (first_at w lay.stops s in-stops) e)) refl;
+        view = λ T Q g q. p.view T Q g q ∙ rw (lt-ltb v (at (arrivals_of lay (memory w l m h) q) s) (rw (first_at w lay.stops s in-stops) e)) refl;
         same = p.same;
         ready = p.ready;
         grown = p.grown;

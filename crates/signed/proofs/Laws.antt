@@ -6,11 +6,11 @@ use native.Mathlib.Omega.{arith}
 use lib.Dec.{ltb}
 use lib.IntN.{ℤ, pos, negsuc, nat_abs, sub_ℕ, ◌+ℤ◌}
 use mir.Val.{sel}
-use borrow.Author.Tests.{lt_ltb, le-ltb, ltb_true}
+use borrow.Author.Tests.{lt-ltb, le-ltb, ltb-true}
 use Rattle.signed.specs.Signed.{of_bits, bits_of, floored}
 
 pub of_low : (b : ℕ) → b < 2147483648 → of_bits b ≡ pos b
-of_low b h = ap (λ (t : Bool). sel t (pos b) (negsuc (4294967296 - suc b))) (lt_ltb b 2147483648 h)
+of_low b h = ap (λ (t : Bool). sel t (pos b) (negsuc (4294967296 - suc b))) (lt-ltb b 2147483648 h)
 
 pub of_high : (b : ℕ) → 2147483648 ≤ b → of_bits b ≡ negsuc (4294967296 - suc b)
 of_high b h = ap (λ (t : Bool). sel t (pos b) (negsuc (4294967296 - suc b))) (le-ltb b 2147483648 h)
@@ -25,7 +25,7 @@ pub floored_sub : (a b : ℕ) → floored (sub_ℕ a b) ≡ a - b
 floored_sub a b = go (ltb a b) refl
   where
     go : (t : Bool) → ltb a b ≡ t → floored (cond t (negsuc (b - suc a)) (pos (a - b))) ≡ a - b
-    go true e = let l : a < b = ltb_true a b e in omega arith
+    go true e = let l : a < b = ltb-true a b e in omega arith
     go false e = refl
 
 -- a time moved on, and moved back
@@ -39,12 +39,12 @@ pub sub_up : (a b : ℕ) → b ≤ a → bits_of (sub_ℕ a b) ≡ a - b
 sub_up a b h = ap (λ (t : Bool). bits_of (cond t (negsuc (b - suc a)) (pos (a - b)))) (le-ltb a b h)
 
 pub sub_down : (a b : ℕ) → a < b → bits_of (sub_ℕ a b) ≡ 4294967296 - suc (b - suc a)
-sub_down a b h = ap (λ (t : Bool). bits_of (cond t (negsuc (b - suc a)) (pos (a - b)))) (lt_ltb a b h)
+sub_down a b h = ap (λ (t : Bool). bits_of (cond t (negsuc (b - suc a)) (pos (a - b)))) (lt-ltb a b h)
 
 -- the bits of a difference mean it
 pub of_sub : (a b : ℕ) → a < 2147483648 → b < 2147483648 → of_bits (bits_of (sub_ℕ a b)) ≡ sub_ℕ a b
 of_sub a b u v = go (ltb a b) refl
   where
     go : (t : Bool) → ltb a b ≡ t → of_bits (bits_of (cond t (negsuc (b - suc a)) (pos (a - b)))) ≡ cond t (negsuc (b - suc a)) (pos (a - b))
-    go true e = let l : a < b = ltb_true a b e in of_high (4294967296 - suc (b - suc a)) (omega arith) ∙ ap negsuc (omega arith)
+    go true e = let l : a < b = ltb-true a b e in of_high (4294967296 - suc (b - suc a)) (omega arith) ∙ ap negsuc (omega arith)
     go false e = of_low (a - b) (omega arith)

@@ -9,7 +9,7 @@ use native.Mathlib.Numerals.{add-one}
 use lib.ListN.{length, get_or}
 use lib.Dec.{leb, ltb}
 use lib.Bits.{bit_or}
-use borrow.Author.Tests.{eqb_true, le_leb, leb-true, ltb_true}
+use borrow.Author.Tests.{eqb-true, le-leb, leb-true, ltb-true}
 use Rattle.loops.proofs.Iter.{and_left, and_right, every_in_at}
 use Rattle.loops.proofs.Most.{max_most, or_most}
 use Rattle.tables.specs.declared.Counts.{Counts}
@@ -52,11 +52,11 @@ counts_yes c h =
 
 pub slices_yes : (t : List ℕ) (c : Counts) → slices_ok t c ≡ true → SlicesOk t c
 unfolding slices_ok
-slices_yes t c h = record { size = eqb_true (length t) (timetable_size c) h }
+slices_yes t c h = record { size = eqb-true (length t) (timetable_size c) h }
 
 pub runs_yes : (t : List ℕ) (c : Counts) → runs_ok t c ≡ true → RunsOk t c
 unfolding runs_ok trip_runs
-runs_yes t c h = record { some = λ i l. ltb_true _ _ (all i l).one; run = λ i l. leb-true _ _ (rest i l).one; windows = λ i l. leb-true _ _ (rest i l).two }
+runs_yes t c h = record { some = λ i l. ltb-true _ _ (all i l).one; run = λ i l. leb-true _ _ (rest i l).one; windows = λ i l. leb-true _ _ (rest i l).two }
   where
     all : (i : ℕ) → i < c.trips → Two (ltb 0 (count_of t c i)) (leb (first_of t c i + count_of t c i) c.times && leb (trip_of t c i 4 + trip_of t c i 5) c.windows)
     all i l = two (ltb 0 (count_of t c i)) (leb (first_of t c i + count_of t c i) c.times && leb (trip_of t c i 4 + trip_of t c i 5) c.windows) (row t c TripRuns i h l)
@@ -67,7 +67,7 @@ runs_yes t c h = record { some = λ i l. ltb_true _ _ (all i l).one; run = λ i 
 pub numbers_yes : (t : List ℕ) (c : Counts) → numbers_ok t c ≡ true → NumbersOk t c
 unfolding numbers_ok stop_time_numbers edge_numbers
 numbers_yes t c h =
-    record { stop = λ i l. ltb_true _ _ (row t c StopTimeNumbers i x.one l); from = λ i l. ltb_true _ _ (both i l).one; to = λ i l. ltb_true _ _ (both i l).two }
+    record { stop = λ i l. ltb-true _ _ (row t c StopTimeNumbers i x.one l); from = λ i l. ltb-true _ _ (both i l).one; to = λ i l. ltb-true _ _ (both i l).two }
   where
     x : Two (every_row t c StopTimeNumbers) (every_row t c EdgeNumbers)
     x = two (every_row t c StopTimeNumbers) (every_row t c EdgeNumbers) h
@@ -183,7 +183,7 @@ kept_turn t c i m a k =
 
 -- as that loop begins
 pub kept_none : (c : Counts) (b : Bool) → b ≡ kept c 0 0 0 && b
-kept_none c b = sym (ap (λ (x : Bool). (x && (leb 0 1048575 && leb 0 3)) && b) (le_leb 0 c.stops (omega arith)))
+kept_none c b = sym (ap (λ (x : Bool). (x && (leb 0 1048575 && leb 0 3)) && b) (le-leb 0 c.stops (omega arith)))
 
 -- one turn of that loop, by the numbers as they were read
 pub kept_next : (t : List ℕ) (c : Counts) (i m a k : ℕ) {s l w1 w2 w4 w5 : ℕ} → s ≡ get_or t (i * 6) 0 → l ≡ max m (s + 1) → w1 ≡ get_or t (i * 6 + 1) 0 → w2 ≡ get_or t (i * 6 + 2) 0

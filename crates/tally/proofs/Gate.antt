@@ -4,7 +4,7 @@
 use mathlib.Core.Path.{◌≡◌}
 use Prim.Native.Nat.{ℕ, ◌≤◌, ◌<◌}
 use mathlib.Core.List.{List}
-use borrow.Author.Tests.{le_leb, lt-leb}
+use borrow.Author.Tests.{le-leb, lt-leb}
 use Rattle.tally.specs.Screen.{for_screen, tally_after}
 use Rattle.tally.specs.Tally.{tally_with}
 
@@ -15,7 +15,7 @@ module _ {A : Type 0} (screen : ℕ) (refused own : A) where
 
   pub opened : {r : A} → screen ≤ 63 → r ≡ own → r ≡ for_screen screen refused own
   unfolding for_screen
-  opened h e = simp (le_leb _ _ h) e
+  opened h e = simp (le-leb _ _ h) e
 
 module _ (ws : List ℕ) (screen code : ℕ) where
   pub shut_tally : {zs : List ℕ} → 63 < screen → zs ≡ ws → zs ≡ tally_after ws screen code

@@ -5,9 +5,9 @@ use mathlib.Core.List.{List, [], ◌∷◌}
 use Prim.Native.Nat.{ℕ, zero, suc, ◌+◌, ◌≤◌, ◌<◌, min}
 use native.Mathlib.Omega.{arith}
 use native.Mathlib.Decide.{ℕ_discrete, dec_le}
-use borrow.Author.Tests.{le_leb, lt-leb, eq-eqb, ne_eqb}
-use lib.ListN.{length, get_or, set, replicate, length-set, length-replicate, get_or_append}
-use lib.Seq.{get_or-set_same, get_or_set_other, get_or-append-add}
+use borrow.Author.Tests.{le-leb, lt-leb, eq-eqb, ne_eqb}
+use lib.ListN.{length, get_or, set, replicate, length-set, length-replicate, get_or-append}
+use lib.Seq.{get_or-set_same, get_or-set_other, get_or-append-add}
 use Rattle.tally.specs.declared.Tally.{Tally}
 use Rattle.tally.specs.declared.ScreenTally.{ScreenTally}
 use Rattle.tally.specs.Tally.{one_more, with_call, tally_words, shown_at, put_at, tally_with}
@@ -30,12 +30,12 @@ put_shown : (ws : List ℕ) (s : ℕ) (t : ScreenTally) → length ws ≡ 128 �
 put_shown ws s t size valid =
     let l = length-set ws s t.answered in
     both
-    (get_or_set_other (set ws s t.answered) (s + 64) s t.refused 0 (omega arith) ∙ get_or-set_same ws s t.answered 0 (omega arith))
+    (get_or-set_other (set ws s t.answered) (s + 64) s t.refused 0 (omega arith) ∙ get_or-set_same ws s t.answered 0 (omega arith))
     (get_or-set_same (set ws s t.answered) (s + 64) t.refused 0 (omega arith))
 
 -- a place that is not the screen's
 put_beside : (ws : List ℕ) (s : ℕ) (t : ScreenTally) (i : ℕ) → ((i ≡ s) → ⊥) → ((i ≡ s + 64) → ⊥) → get_or (put_at ws s t) i 0 ≡ get_or ws i 0
-put_beside ws s t i d e = get_or_set_other (set ws s t.answered) (s + 64) i t.refused 0 e ∙ get_or_set_other ws s i t.answered 0 d
+put_beside ws s t i d e = get_or-set_other (set ws s t.answered) (s + 64) i t.refused 0 e ∙ get_or-set_other ws s i t.answered 0 d
 
 put_other : (ws : List ℕ) (s o : ℕ) (t : ScreenTally) → s ≤ 63 → o ≤ 63 → ((s ≡ o) → ⊥) → shown_at (put_at ws s t) o ≡ shown_at ws o
 put_other ws s o t valid there d =
@@ -139,7 +139,7 @@ total_put ws s t size valid =
     let l = length-set ws s t.answered in
     let one = total_set ws s t.answered (omega arith) in
     let two = total_set (set ws s t.answered) (s + 64) t.refused (omega arith) in
-    let same = get_or_set_other ws s (s + 64) t.answered 0 (omega arith) in
+    let same = get_or-set_other ws s (s + 64) t.answered 0 (omega arith) in
     omega arith
 
 -- a screen's two counts with one call more: one more in all, below the greatest; never more than one
@@ -160,7 +160,7 @@ module _ (ws : List ℕ) (is : IsTally ws) (c : ScreenCall) (cs : List ScreenCal
   adds : Made ws c.screen c.code → tally_sum ws + valid_calls (c ∷ cs) ≤ greatest → tally_sum next + valid_calls cs ≡ tally_sum ws + valid_calls (c ∷ cs)
   unfolding valid_calls
   adds (counted h e) few =
-      let v : valid_calls (c ∷ cs) ≡ suc (valid_calls cs) = rw (le_leb _ _ h) refl in
+      let v : valid_calls (c ∷ cs) ≡ suc (valid_calls cs) = rw (le-leb _ _ h) refl in
       let n : tally_sum next ≡ tally_sum (put_at ws c.screen (with_call (shown_at ws c.screen) c.code)) = ap tally_sum e in
       let t = total_put ws c.screen (with_call (shown_at ws c.screen) c.code) is.size h in
       let a = at_most ws c.screen in
@@ -172,7 +172,7 @@ module _ (ws : List ℕ) (is : IsTally ws) (c : ScreenCall) (cs : List ScreenCal
   adds_at_most : Made ws c.screen c.code → tally_sum next + valid_calls cs ≤ tally_sum ws + valid_calls (c ∷ cs)
   unfolding valid_calls
   adds_at_most (counted h e) =
-      let v : valid_calls (c ∷ cs) ≡ suc (valid_calls cs) = rw (le_leb _ _ h) refl in
+      let v : valid_calls (c ∷ cs) ≡ suc (valid_calls cs) = rw (le-leb _ _ h) refl in
       let n : tally_sum next ≡ tally_sum (put_at ws c.screen (with_call (shown_at ws c.screen) c.code)) = ap tally_sum e in
       let t = total_put ws c.screen (with_call (shown_at ws c.screen) c.code) is.size h in
       let m = at_most_one (shown_at ws c.screen) c.code in
@@ -202,7 +202,7 @@ at_most_from (c ∷ cs) ws is =
 
 valid_few : (c : ScreenCall) (cs : List ScreenCall) → Dec (c.screen ≤ 63) → valid_calls (c ∷ cs) ≤ suc (valid_calls cs)
 unfolding valid_calls
-valid_few c cs (yes h) = rw (le_leb _ _ h) (omega arith)
+valid_few c cs (yes h) = rw (le-leb _ _ h) (omega arith)
 valid_few c cs (no n) = let h : 63 < c.screen = omega arith in rw (lt-leb _ _ h) (omega arith)
 
 valid_at_most : (cs : List ScreenCall) → valid_calls cs ≤ length cs
@@ -247,7 +247,7 @@ the_screen code_of =
 record_is : (t : Tally) → length t.answered ≡ 64 → (s : ℕ) → s ≤ 63 → shown_at (tally_words t) s ≡ of (get_or t.answered s 0) (get_or t.refused s 0)
 record_is t size s h =
     let p : s + 64 ≡ length t.answered + s = omega arith in
-    both (get_or_append t.answered t.refused 0 s (omega arith))
+    both (get_or-append t.answered t.refused 0 s (omega arith))
     (ap (λ (i : ℕ). get_or (tally_words t) i 0) p ∙ get_or-append-add t.answered t.refused s 0)
 
 pub the_tally : TallyLaws

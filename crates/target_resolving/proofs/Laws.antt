@@ -7,7 +7,7 @@ use mathlib.Core.Option.{Option, none, some}
 use native.Mathlib.Omega.{arith}
 use native.Mathlib.Nat.{add-zero}
 use lib.Dec.{ltb, leb, eqb}
-use borrow.Author.Tests.{lt_ltb, le-ltb}
+use borrow.Author.Tests.{lt-ltb, le-ltb}
 use Rattle.loops.specs.Iter.{Hit}
 use Rattle.tables.specs.declared.Counts.{Counts}
 use Rattle.tables.specs.Tables.{time_of, trip_of, first_of}
@@ -25,7 +25,7 @@ use Rattle.target_resolving.specs.Resolving.{choose, weighed, tried, go_on}
 
 -- a boarding against the best total
 pub weigh_take : (f : Bool) (best : ℕ) (b : FreqBoard) (x : BoardedRun) → b ≡ Board x → x.departure < best → Take x ≡ weighed f best b
-weigh_take f best b x e l = rw (e, lt_ltb x.departure best l) refl
+weigh_take f best b x e l = rw (e, lt-ltb x.departure best l) refl
 
 pub weigh_stop : (f : Bool) (best : ℕ) (b : FreqBoard) (x : BoardedRun) → b ≡ Board x → best ≤ x.departure → f ≡ true → Stop ≡ weighed f best b
 weigh_stop f best b x e l z = rw (e, le-ltb x.departure best l, z) refl
@@ -80,11 +80,11 @@ module _ (T : Tables) (Q : Query) (f : Bool) (o after best i : ℕ) where
 
   pub has_short : (t : List ℕ) (c : Counts) (n : ℕ) → T.timetable ≡ timetable t c → i < c.trips → n ≡ trip_of t c i 1 → n ≤ o → has ≡ false
   has_short t c n e h en l =
-      ap (λ (X : Timetable). ltb i X.trips && ltb o (X.trip i).count) e ∙ ap₂ ◌&&◌ (lt_ltb i c.trips h) (ap (ltb o) (sym en) ∙ le-ltb o n l)
+      ap (λ (X : Timetable). ltb i X.trips && ltb o (X.trip i).count) e ∙ ap₂ ◌&&◌ (lt-ltb i c.trips h) (ap (ltb o) (sym en) ∙ le-ltb o n l)
 
   pub has_both : (t : List ℕ) (c : Counts) (n : ℕ) → T.timetable ≡ timetable t c → i < c.trips → n ≡ trip_of t c i 1 → o < n → has ≡ true
   has_both t c n e h en l =
-      ap (λ (X : Timetable). ltb i X.trips && ltb o (X.trip i).count) e ∙ ap₂ ◌&&◌ (lt_ltb i c.trips h) (ap (ltb o) (sym en) ∙ lt_ltb o n l)
+      ap (λ (X : Timetable). ltb i X.trips && ltb o (X.trip i).count) e ∙ ap₂ ◌&&◌ (lt-ltb i c.trips h) (ap (ltb o) (sym en) ∙ lt-ltb o n l)
 
 -- one trip more of a line
 module _ (T : Tables) (Q : Query) (is_fifo : Bool) (o after best : ℕ) (trip : ℕ → ℕ) (k p : ℕ) where

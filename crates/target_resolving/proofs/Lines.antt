@@ -8,7 +8,7 @@ use native.Mathlib.Omega.{arith}
 use native.Mathlib.Nat.{min-le_left}
 use lib.ListN.{get_or}
 use lib.Dec.{ltb, eqb}
-use borrow.Author.Tests.{lt_ltb, le-ltb, eq-eqb, ne_eqb, ltb_true}
+use borrow.Author.Tests.{lt-ltb, le-ltb, eq-eqb, ne_eqb, ltb-true}
 use Rattle.loops.specs.Count.{one}
 use Rattle.loops.proofs.Iter.{and_left}
 use Rattle.tables.specs.declared.Counts.{Counts}
@@ -32,7 +32,7 @@ module _ (T : Tables) (c : Counts) (n : Lined) (built work : List ℕ) (e : trip
   line_past i l = line_as i false (ap (ltb i) e ∙ le-ltb i c.trips l)
 
   pub line_known : (i r : ℕ) → i < c.trips → r ≡ get_or built i 0 → r ≡ line_at T i
-  line_known i r l q = q ∙ sym (h.line_of i l) ∙ line_as i true (ap (ltb i) e ∙ lt_ltb i c.trips l)
+  line_known i r l q = q ∙ sym (h.line_of i l) ∙ line_as i true (ap (ltb i) e ∙ lt-ltb i c.trips l)
 
 -- one trip alone
 module _ (T : Tables) (Q : Query) (f : Bool) (o after best target scan : ℕ) (q : Q.settings.line_scan ≡ scan) where
@@ -74,7 +74,7 @@ module _ (T : Tables) (Q : Query) (e : Transfer) (after best : ℕ) where
 
   trips_known : (l : ℕ) → l < T.lines → line_trips_at T Q l ≡ T.line l
   unfolding line_trips_at
-  trips_known l h = ap (λ (x : Bool). elim x as (λ y. LineTrips) [ true ↦ T.line l | false ↦ no_trips ]) (lt_ltb l T.lines h)
+  trips_known l h = ap (λ (x : Bool). elim x as (λ y. LineTrips) [ true ↦ T.line l | false ↦ no_trips ]) (lt-ltb l T.lines h)
 
   fifo_past : (l : ℕ) → T.lines ≤ l → fifo T l ≡ false
   unfolding fifo
@@ -105,7 +105,7 @@ module _ (T : Tables) (Q : Query) (e : Transfer) (after best : ℕ) where
 
 -- the same in memory
 pub stands_below : (p n : ℕ) (x b : Bool) → b ≡ (ltb p n && x) → b ≡ true → p < n
-stands_below p n x b e z = ltb_true p n (and_left (ltb p n) x (sym e ∙ z))
+stands_below p n x b e z = ltb-true p n (and_left (ltb p n) x (sym e ∙ z))
 
 flag_is : (b : Bool) (x : ℕ) → one b ≡ x → b ≡ eqb x 1
 flag_is true x e = sym (eq-eqb x 1 (sym e))
@@ -115,7 +115,7 @@ guarded : (p n x y t : ℕ) → (p < n → x ≡ y) → (ltb p n && eqb x t) ≡
 guarded p n x y t h = go (ltb p n) refl
   where
     go : (b : Bool) → ltb p n ≡ b → (b && eqb x t) ≡ (b && eqb y t)
-    go true e = ap (λ (z : ℕ). eqb z t) (h (ltb_true p n e))
+    go true e = ap (λ (z : ℕ). eqb z t) (h (ltb-true p n e))
     go false e = refl
 
 module _ (T : Tables) (Q : Query) (e : Transfer) (after best : ℕ) (c : Counts) (n : Lined) (built work : List ℕ) (line target off p scan : ℕ) (f b : Bool) (h : LinesOf T c n built work)

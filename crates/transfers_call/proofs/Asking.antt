@@ -5,7 +5,7 @@ use mathlib.Core.Bool.{Bool, true, false, ◌&&◌}
 use mathlib.Core.List.{List}
 use lib.ListN.{length, get_or}
 use lib.Dec.{ltb, leb, eqb}
-use borrow.Author.Tests.{eqb_true, leb-true, ltb_true}
+use borrow.Author.Tests.{eqb-true, leb-true, ltb-true}
 use Rattle.loops.proofs.Iter.{every_in_at}
 use Rattle.door.specs.Door.{ask}
 use Rattle.door.specs.Settings.{settings_ok}
@@ -36,16 +36,16 @@ sizes_yes t c d lines runs rows transfer_runs h =
     let b = two (eqb lines c.trips) (eqb runs (c.stops * 2)) a.one in
     let e = two (eqb rows (d * 2)) (eqb transfer_runs (events_before (timetable t c) c.trips * 2)) a.two in
     record {
-      lines_is = eqb_true lines c.trips b.one;
-      runs_is = eqb_true runs (c.stops * 2) b.two;
-      rows_is = eqb_true rows (d * 2) e.one;
-      events_is = eqb_true transfer_runs (events_before (timetable t c) c.trips * 2) e.two;
+      lines_is = eqb-true lines c.trips b.one;
+      runs_is = eqb-true runs (c.stops * 2) b.two;
+      rows_is = eqb-true rows (d * 2) e.one;
+      events_is = eqb-true transfer_runs (events_before (timetable t c) c.trips * 2) e.two;
     }
 
 -- 4, of the lines
 pub lines_below : (lines : List ℕ) (trips line_count : ℕ) → line_count ≤ 4096 → length lines ≡ trips → lines_ok lines trips line_count ≡ true → LinesBelow lines trips line_count
 unfolding lines_ok
-lines_below lines trips n k e h = record { size = e; few = k; line = λ i u. ltb_true (get_or lines i 0) n (every_in_at (λ j. ltb (get_or lines j 0) n) trips i h u) }
+lines_below lines trips n k e h = record { size = e; few = k; line = λ i u. ltb-true (get_or lines i 0) n (every_in_at (λ j. ltb (get_or lines j 0) n) trips i h u) }
 
 -- each question from its tests, as the code joins them
 pub answer1 : (x : TransferLent) {a b r : Bool} → r ≡ a && b → a ≡ counts_ok x.c → b ≡ (leb x.line_count 4096 && leb x.d 65536) → r ≡ transfers_question1 x

@@ -6,10 +6,10 @@ use mathlib.Core.List.{List, [], ◌∷◌, ◌++◌, flatten, Memᴰ}
 use mathlib.Core.Logic.{⊎_elim}
 use native.Mathlib.Nat.{eq-or-lt_of_le}
 use native.Mathlib.Omega.{arith}
-use lib.ListN.{length, get_or, take, drop, length-append, length-drop, length-take, get_or_append}
+use lib.ListN.{length, get_or, take, drop, length-append, length-drop, length-take, get_or-append}
 use lib.Seq.{drop-append-add, ext_get_or, get_or-append-add, get_or-drop, get_or-take, take-append_seam}
 use lib.Dec.{leb, eqb}
-use borrow.Author.Tests.{eq-eqb, eqb-false, eqb_true, ne_eqb, not-true}
+use borrow.Author.Tests.{eq-eqb, eqb-false, eqb-true, ne_eqb, not-true}
 use Rattle.loops.specs.Count.{tab, tab_from}
 use Rattle.loops.proofs.Count.{get_d_tab, length_tab_from}
 use Rattle.sorts.specs.Sort.{sort_by}
@@ -75,7 +75,7 @@ transfer_is x trip off line =
     all_imp (λ r. (Listed x trip off line r × Found x trip off line r) × (not (eqb r.trip trip) ≡ true)) (TransferTo x trip off line)
     (λ r h. record {
       listed = h.0.0.0;
-      own = eqb_true (x.line_of r.trip) line h.0.0.1;
+      own = eqb-true (x.line_of r.trip) line h.0.0.1;
       ready = h.0.1.ready;
       earliest =
           all_imp (λ q. of_line x line q ≡ true → ready_at x trip off ≤ departs x q → departs x r ≤ departs x q)
@@ -171,7 +171,7 @@ event_from {A} T f d i (suc n) trip off h u k =
         let z : events_before T trip + off - events_before T i ≡ off = omega (arith, e) in
         let m = ap (λ (k : ℕ). (T.trip k).count) q in
         ap (λ (j : ℕ). get_or (tab (f i) (T.trip i).count ++ rest) j d) z
-        ∙ get_or_append (tab (f i) (T.trip i).count) rest d off (omega (arith, size, m))
+        ∙ get_or-append (tab (f i) (T.trip i).count) rest d off (omega (arith, size, m))
         ∙ get_d_tab (f i) (T.trip i).count off d (omega (arith, m))
         ∙ ap (λ (j : ℕ). f j off) q
 
@@ -261,7 +261,7 @@ area_words x area d k h =
   where
     word : (j : ℕ) → j < 4 → get_or (transfer_words (all_transfers x) ++ drop (length (all_transfers x) * 4) area) (k * 4 + j) 0 ≡ get_or (transfer_words (get_or (all_transfers x) k d ∷ drop (suc k) (all_transfers x))) j 0
     word j u =
-        get_or_append (transfer_words (all_transfers x)) (drop (length (all_transfers x) * 4) area) 0 (k * 4 + j) (omega (arith, length_words (all_transfers x)))
+        get_or-append (transfer_words (all_transfers x)) (drop (length (all_transfers x) * 4) area) 0 (k * 4 + j) (omega (arith, length_words (all_transfers x)))
         ∙ words_at (all_transfers x) d k j h
 
 -- THE AREA past the last transfer keeps its words, and its length

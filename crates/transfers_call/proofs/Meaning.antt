@@ -6,7 +6,7 @@ use mathlib.Core.List.{List, [], flatten, map}
 use native.Mathlib.Omega.{arith}
 use lib.ListN.{take}
 use lib.Dec.{leb, eqb}
-use borrow.Author.Tests.{eqb_true, le_leb, leb-false, leb-true, lt-leb, ne_eqb}
+use borrow.Author.Tests.{eqb-true, le-leb, leb-false, leb-true, lt-leb, ne_eqb}
 use Rattle.loops.specs.Count.{tab}
 use Rattle.loops.proofs.Count.{map_tab_from, tab_ext}
 use Rattle.sorts.specs.Sort.{hi, sort_by}
@@ -33,8 +33,8 @@ same_order : (l a b : ℕ) → eqb (line_x a) l ≡ true → eqb (line_x b) l �
 same_order l a b p q = go (leb (dep_x a) (dep_x b)) refl
   where
     go : (t : Bool) → leb (dep_x a) (dep_x b) ≡ t → leb (hi a) (hi b) ≡ t
-    go true h = le_leb (hi a) (hi b) (omega (arith, leb-true (dep_x a) (dep_x b) h, line_hi a, line_hi b, eqb_true (line_x a) l p, eqb_true (line_x b) l q))
-    go false h = lt-leb (hi a) (hi b) (omega (arith, leb-false (dep_x a) (dep_x b) h, line_hi a, line_hi b, eqb_true (line_x a) l p, eqb_true (line_x b) l q))
+    go true h = le-leb (hi a) (hi b) (omega (arith, leb-true (dep_x a) (dep_x b) h, line_hi a, line_hi b, eqb-true (line_x a) l p, eqb-true (line_x b) l q))
+    go false h = lt-leb (hi a) (hi b) (omega (arith, leb-false (dep_x a) (dep_x b) h, line_hi a, line_hi b, eqb-true (line_x a) l p, eqb-true (line_x b) l q))
 
 -- the transfer to a line, of the rows listed at a stop
 abbrev pub line_rows : Input → List DepartureRow → ℕ → List DepartureRow

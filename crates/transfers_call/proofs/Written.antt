@@ -6,7 +6,7 @@ use mathlib.Core.List.{List, [], ◌∷◌, ◌++◌, flatten, map}
 use native.Mathlib.Omega.{arith}
 use lib.ListN.{length, drop, length-append}
 use lib.Dec.{leb}
-use borrow.Author.Tests.{le_leb, leb-false, leb-true, lt-leb}
+use borrow.Author.Tests.{le-leb, leb-false, leb-true, lt-leb}
 use Rattle.loops.specs.Count.{tab, tab_from}
 use Rattle.loops.proofs.Count.{length_tab_from}
 use Rattle.loops.proofs.Iter.{and_left, and_right}
@@ -21,7 +21,7 @@ use Rattle.event_transfers.specs.Transfers.{Input, all_transfers, built_transfer
 use Rattle.event_transfers.specs.Packed.{AreaSoFar, LineEnds, Most, Prepared, SortedRuns, AreaWalk, all_keys, lay_events, prepared, area_walk}
 use Rattle.transfers_call.specs.Settled.{settled_keys, walk_areas}
 use Rattle.transfers_call.specs.Call.{TransfersAdmitted, TransferAreas, TransferLent, TransfersOutcome, area_with, transfer_areas, input_of, transfers_outcome_of, room_ok, transfers_settled, written}
-use Rattle.event_transfers.proofs.Lists.{flatten_map, length_map, within_is}
+use Rattle.event_transfers.proofs.Lists.{flatten_map, length-map, within_is}
 use Rattle.event_transfers.proofs.Events.{total_is}
 use Rattle.event_transfers.proofs.Laying.{events_laid, events_runs, key_words, lay_area}
 use Rattle.transfers_call.proofs.Packing.{pack_offset, pack_trip}
@@ -40,7 +40,7 @@ runs_are : {A B : Type 0} (f : A → B) (n : ℕ) (l : List (List A)) → runs_f
 unfolding runs_from
 runs_are f n [] = refl
 runs_are f n (x ∷ l) =
-    ap₂ (λ (m : ℕ) (r : List ℕ). n ∷ m ∷ r) (length_map f x) (ap (λ (m : ℕ). runs_from (n + m) (map (map f) l)) (length_map f x) ∙ runs_are f (n + length x) l)
+    ap₂ (λ (m : ℕ) (r : List ℕ). n ∷ m ∷ r) (length-map f x) (ap (λ (m : ℕ). runs_from (n + m) (map (map f) l)) (length-map f x) ∙ runs_are f (n + length x) l)
 
 -- how many events there are
 events_counted : {A : Type 0} (T : Timetable) (f : ℕ → ℕ → A) (i n : ℕ) → length (flatten (tab_from (λ k. tab (f k) (T.trip k).count) i n)) + events_before T i ≡ events_before T (i + n)
@@ -83,7 +83,7 @@ room_yes n area h = record { few = leb-true n 65536 (and_left (leb n 65536) (leb
 
 yes_room : (n area : ℕ) → n ≤ 65536 → n * 4 ≤ area → room_ok n area ≡ true
 unfolding room_ok
-yes_room n area h k = ap₂ ◌&&◌ (le_leb n 65536 h) (le_leb (n * 4) area k)
+yes_room n area h k = ap₂ ◌&&◌ (le-leb n 65536 h) (le-leb (n * 4) area k)
 
 -- THE OUTCOME of an admitted call
 module _ (x : TransferLent) (s : TransferAreas) (a : TransfersAdmitted x (length s.transfer_runs)) where
@@ -95,12 +95,12 @@ module _ (x : TransferLent) (s : TransferAreas) (a : TransfersAdmitted x (length
 
   counted : length (flatten (all_keys (prepared_of x))) ≡ length (all_transfers (input_of x))
   counted =
-      ap length rows ∙ length_map (pack_of x) (flatten (row_events (input_of x)))
-      ∙ sym (ap length (all_are (input_of x)) ∙ length_map (transfer_of x.settings.transfer_time) (flatten (row_events (input_of x))))
+      ap length rows ∙ length-map (pack_of x) (flatten (row_events (input_of x)))
+      ∙ sym (ap length (all_are (input_of x)) ∙ length-map (transfer_of x.settings.transfer_time) (flatten (row_events (input_of x))))
 
   events : length (all_keys (prepared_of x)) * 2 ≡ length s.transfer_runs
   events =
-      omega (arith, ap length keys ∙ length_map (map (pack_of x)) (row_events (input_of x)), ap length (events_are (input_of x)) ∙ length_map (map (transfer_of x.settings.transfer_time)) (row_events (input_of x)), events_length (input_of x), a.events)
+      omega (arith, ap length keys ∙ length-map (map (pack_of x)) (row_events (input_of x)), ap length (events_are (input_of x)) ∙ length-map (map (transfer_of x.settings.transfer_time)) (row_events (input_of x)), events_length (input_of x), a.events)
 
   area_is : length (all_transfers (input_of x)) ≤ 65536 → length (all_transfers (input_of x)) * 4 ≤ length s.area → (lay_events x.settings.transfer_time 0 (all_keys (prepared_of x)) (area_walk 0 s.area s.transfer_runs)).area ≡ area_with (input_of x) s.area
   unfolding area_with

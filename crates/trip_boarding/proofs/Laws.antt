@@ -8,7 +8,7 @@ use native.Mathlib.Nat.{add-zero}
 use lib.ListN.{length, get_or, take, drop, length-drop}
 use lib.Seq.{get_or-drop, get_or-take, length-take-le}
 use lib.Dec.{ltb, eqb}
-use borrow.Author.Tests.{lt_ltb, le-ltb, eq-eqb, ne_eqb}
+use borrow.Author.Tests.{lt-ltb, le-ltb, eq-eqb, ne_eqb}
 use Rattle.loops.proofs.Iter.{iter_as}
 use Rattle.tables.specs.Sane.{Sane}
 use Rattle.frequency.specs.Gtfs.{Window, window_from, window_count, window_in, board_ordinary, earliest_freq_board, board_next, earlier_of, window_board, Nominal}
@@ -110,7 +110,7 @@ module _ (T : Tables) (Q : Query) (h : Hit) (i o after : ℕ) where
 
     pub board_early : n ≡ 0 → dep < after → NoBoard ≡ board_at T Q h i o after
     board_early z l =
-        sym (ap (λ (b : Bool). pick true b planned frequent) (ap (λ (d : ℕ). ltb d after) (sym ed) ∙ lt_ltb dep after l))
+        sym (ap (λ (b : Bool). pick true b planned frequent) (ap (λ (d : ℕ). ltb d after) (sym ed) ∙ lt-ltb dep after l))
         ∙ sym (ap (λ (b : Bool). pick b early planned frequent) (none_is true (eq-eqb n 0 z))) ∙ sym board_is
 
     pub board_planned : (p : ℕ) (b : BoardedRun) → n ≡ 0 → after ≤ dep → p ≡ time_of t (first_of t c i + o) 2 → b ≡ board_ordinary p dep after → Board b ≡ board_at T Q h i o after

@@ -9,7 +9,7 @@ use native.Mathlib.Nat.{le_refl}
 use native.Mathlib.Numerals.{add-one}
 use lib.ListN.{length, get_or, length-append}
 use lib.Dec.{eqb, ltb}
-use borrow.Author.Tests.{not-true, not_false}
+use borrow.Author.Tests.{not-true, not-false}
 use Rattle.loops.specs.Count.{tab_from}
 use Rattle.frequency.specs.declared.BoardedRun.{BoardedRun}
 use Rattle.label.specs.declared.Label.{Label}
@@ -113,7 +113,7 @@ module _ (T : Tables) (Q : Query) (stamp v x : ℕ) where
 
     pub take_none : (h : Bool) (f : Resolved) → h ≡ holds_target T Q e.pattern → not h ≡ false → f ≡ Unresolved → resolved_of f ≡ resolve T Q e (v + e.time) a.best
         → a ≡ take_transfers T Q stamp v x (e ∷ []) a
-    take_none h f p n i r = took_is true none (sym (not_false h n) ∙ p) (sym (ap resolved_of i) ∙ r)
+    take_none h f p n i r = took_is true none (sym (not-false h n) ∙ p) (sym (ap resolved_of i) ∙ r)
 
     pub take_some : (h : Bool) (f : Resolved) (trip off : ℕ) (b : BoardedRun) → h ≡ holds_target T Q e.pattern → not h ≡ false → f ≡ Trip trip b
         → resolved_of f ≡ resolve T Q e (v + e.time) a.best → off ≡ e.offset
@@ -121,7 +121,7 @@ module _ (T : Tables) (Q : Query) (stamp v x : ℕ) where
         ≡ take_transfers T Q stamp v x (e ∷ []) a
     take_some h f trip off b p n i r z =
         ap (λ (k : ℕ). enqueue T Q trip k (stop_at T trip k) b.time_shift_s (relax T Q stamp (stop_at T trip k) b.departure (Walk b.departure x (stop_at T trip k) e.time no_distance (stamp - 1)) a)) z
-        ∙ took_is true (some (trip, b)) (sym (not_false h n) ∙ p) (sym (ap resolved_of i) ∙ r)
+        ∙ took_is true (some (trip, b)) (sym (not-false h n) ∙ p) (sym (ap resolved_of i) ∙ r)
 
   -- the transfers of a run from its j-th on
   abbrev pub take_from : List ℕ → ℕ → ℕ → ℕ → Arrivals → Arrivals

@@ -7,7 +7,7 @@ use native.Mathlib.Nat.{le_refl}
 use native.Mathlib.Numerals.{add-one}
 use lib.ListN.{length}
 use lib.Dec.{ltb}
-use borrow.Author.Tests.{not-true, not_false}
+use borrow.Author.Tests.{not-true, not-false}
 use Rattle.loops.specs.Iter.{Hit}
 use Rattle.model.specs.Tables.{Tables, Query, stop_count, stop_at, no_drop_off}
 use Rattle.model.specs.Search.{Arrivals, arrival_now, take_transfers, alightings, transferring, scan_trip_forward}
@@ -78,4 +78,4 @@ module _ (T : Tables) (Q : Query) (stamp : ℕ) (adj : Hit) (shift t : ℕ) wher
     unfolding scan_trip_forward
     scan_flagged e =
         ap (λ (p : ℕ). transferring T Q stamp adj shift t (stop_count T t - p) p (first_loop p)) (add-one o)
-        ∙ sym (ap (λ (x : Bool). elim x as (λ z. Arrivals) [ true ↦ transferring T Q stamp adj shift t (stop_count T t - suc o) (suc o) (first_loop (suc o)) | false ↦ first_loop (suc o) ]) (not_false flagged e))
+        ∙ sym (ap (λ (x : Bool). elim x as (λ z. Arrivals) [ true ↦ transferring T Q stamp adj shift t (stop_count T t - suc o) (suc o) (first_loop (suc o)) | false ↦ first_loop (suc o) ]) (not-false flagged e))

@@ -6,7 +6,7 @@ use mathlib.Core.Bool.{Bool, true, false}
 use native.Mathlib.Omega.{arith}
 use native.Mathlib.Numerals.{add-one}
 use lib.Dec.{ltb}
-use borrow.Author.Tests.{lt_ltb, le-ltb}
+use borrow.Author.Tests.{lt-ltb, le-ltb}
 use Rattle.model.specs.Search.{Arrivals}
 
 -- one turn: by whether the stop time is closed, and its arrival is before the best total
@@ -41,7 +41,7 @@ module _ (F : ℕ → ℕ → Arrivals → Arrivals) (closed : ℕ → Bool) (at
     turn_cut v e ev l = sym (by_best v false e ev (le-ltb v a.best l))
 
     pub turn_go : (v : ℕ) → b ≡ false → v ≡ at p → v < a.best → F (n - (p + 1)) (p + 1) (step p a) ≡ F (n - p) p a
-    turn_go v e ev l = sym (by_best v true e ev (lt_ltb v a.best l))
+    turn_go v e ev l = sym (by_best v true e ev (lt-ltb v a.best l))
 
   pub turn_end : (n p : ℕ) (a : Arrivals) → n ≤ p → a ≡ F (n - p) p a
   turn_end n p a h = let e : n - p ≡ 0 = omega arith in sym (ap (λ (k : ℕ). F k p a) e ∙ none p a)

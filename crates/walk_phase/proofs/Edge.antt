@@ -7,7 +7,7 @@ use native.Mathlib.Omega.{arith}
 use lib.ListN.{get_or}
 use lib.Ieee.{Float, nan}
 use lib.Dec.{ltb}
-use borrow.Author.Tests.{lt_ltb, le-ltb}
+use borrow.Author.Tests.{lt-ltb, le-ltb}
 use Rattle.walk_time.specs.Walk.{effective_duration}
 use Rattle.label.specs.declared.Label.{Label}
 use Rattle.label.specs.declared.Label.TheVariants.{Walk}
@@ -123,7 +123,7 @@ module _ (lay : Lay) (ctx : Context) (stamp x v e : ℕ) (t : List ℕ) (d : Lis
           view = λ T Q g q. let a : Arrivals = arrivals_of lay (memory w l m h) q in
               p.view T Q g.egress q
               ∙ sym (walk_one T Q g a ∙ ap (λ (z : Bool). one T Q a z y D (get_or d e nan)) s
-              ∙ ap (λ (z : Bool). elim z as (λ _. Arrivals) [ false ↦ a | true ↦ relax T Q stamp y.to (v + D) walk_label a ]) (lt_ltb (v + D) h.best u));
+              ∙ ap (λ (z : Bool). elim z as (λ _. Arrivals) [ false ↦ a | true ↦ relax T Q stamp y.to (v + D) walk_label a ]) (lt-ltb (v + D) h.best u));
           same = p.same;
           ready = p.ready;
           grown = p.grown;

@@ -9,7 +9,7 @@ use native.Mathlib.Omega.{arith}
 use lib.ListN.{get_or, set}
 use lib.Dec.{eqb, ltb}
 use lib.Ieee.{nan}
-use borrow.Author.Tests.{eqb_true, eqb-false, ne_eqb, ltb_true}
+use borrow.Author.Tests.{eqb-true, eqb-false, ne_eqb, ltb-true}
 use Rattle.cell_bitset.specs.CellSet.{empty_set}
 use Rattle.label.specs.declared.Label.{Label}
 use Rattle.tables.specs.Timetable.{timetable}
@@ -45,7 +45,7 @@ told_at word i (suc n) s l u = go (eqb (word i) 0) refl (λ (k : suc i ≤ s). t
   where
     head : (b : Bool) → eqb i s ≡ b → eqb (word i) 0 ≡ false → (suc i ≤ s → word s ≡ egress_word (is_egress (told word (suc i) n) s) (egress_walk (told word (suc i) n) s))
         → word s ≡ egress_word (elim b [ true ↦ true | false ↦ is_egress (told word (suc i) n) s ]) (elim b [ true ↦ word i - 1 | false ↦ egress_walk (told word (suc i) n) s ])
-    head true e q later = let y : word i ≡ word i - 1 + 1 = omega (arith, eqb-false (word i) 0 q) in sym (ap word (eqb_true i s e)) ∙ y
+    head true e q later = let y : word i ≡ word i - 1 + 1 = omega (arith, eqb-false (word i) 0 q) in sym (ap word (eqb-true i s e)) ∙ y
     head false e q later = later (⊎_elim (λ (z : i ≡ s). absurd (eqb-false i s e z)) (λ (k : suc i ≤ s). k) (eq-or-lt_of_le l))
 
     go : (b : Bool) → eqb (word i) 0 ≡ b → (suc i ≤ s → word s ≡ egress_word (is_egress (told word (suc i) n) s) (egress_walk (told word (suc i) n) s))
@@ -54,7 +54,7 @@ told_at word i (suc n) s l u = go (eqb (word i) 0) refl (λ (k : suc i ≤ s). t
         (egress_walk (elim b [ true ↦ told word (suc i) n | false ↦ (i, word i - 1) ∷ told word (suc i) n ]) s)
     go true q later none =
         ⊎_elim
-        (λ (e : i ≡ s). sym (ap word e) ∙ eqb_true (word i) 0 q ∙ ap (λ (b : Bool). egress_word b (egress_walk (told word (suc i) n) s)) (sym (none (omega arith))))
+        (λ (e : i ≡ s). sym (ap word e) ∙ eqb-true (word i) 0 q ∙ ap (λ (b : Bool). egress_word b (egress_walk (told word (suc i) n) s)) (sym (none (omega arith))))
         later (eq-or-lt_of_le l)
     go false q later none = head (eqb i s) refl q later
 
@@ -107,7 +107,7 @@ unfolding relax improve
 relax_falls T Q stamp s v how a k = go (ltb v (get_or a.earliest s 0)) refl
   where
     go : (b : Bool) → ltb v (get_or a.earliest s 0) ≡ b → get_or (cond b (improve T Q stamp s v how a) a).earliest k 0 ≤ get_or a.earliest k 0
-    go true q = set_falls a.earliest s v k (omega (arith, ltb_true v (get_or a.earliest s 0) q))
+    go true q = set_falls a.earliest s v k (omega (arith, ltb-true v (get_or a.earliest s 0) q))
     go false q = omega arith
 
 -- `relax` in memory

@@ -4,12 +4,12 @@ use mathlib.Core.Path.{◌≡◌, refl, ◌∙◌, ap₂, sym}
 use mathlib.Core.List.{List, [], ◌∷◌}
 use native.Mathlib.Omega.{arith}
 use lib.ListN.{length, get_or, set, length-set, replicate, length-replicate, get_or-replicate}
-use lib.Seq.{get_or-set_same, get_or_set_other, ext_get_or}
+use lib.Seq.{get_or-set_same, get_or-set_other, ext_get_or}
 use lib.Ieee.{Float}
 use Rattle.words.specs.Filled.{Filled}
 use mathlib.Core.Bool.{Bool, true, false}
 use lib.Dec.{eqb}
-use borrow.Author.Tests.{eqb_true, eqb-false}
+use borrow.Author.Tests.{eqb-true, eqb-false}
 
 pub filled_none : (a v : ℕ) (w : List ℕ) → Filled a a v w w
 filled_none a v w = record { size = refl; inside = λ i l h. absurd (omega arith); below = λ i h. refl; above = λ i h. refl }
@@ -19,21 +19,21 @@ pub same_or : (i j : ℕ) {A : Type 0} → (i ≡ j → A) → ((i ≡ j → ⊥
 same_or i j {A} x y = go (eqb i j) refl
   where
     go : (t : Bool) → eqb i j ≡ t → A
-    go true e = x (eqb_true i j e)
+    go true e = x (eqb-true i j e)
     go false e = y (eqb-false i j e)
 
 pub filled_again : (a i v : ℕ) (w w' : List ℕ) → Filled a i v w w' → a ≤ i → i < length w' → Filled a (i + 1) v w (set w' i v)
 filled_again a i v w w' f l h =
     record {
       size = length-set w' i v ∙ f.size;
-      inside = λ k x y. same_or k i (λ e. rw e (get_or-set_same w' i v 0 h)) (λ n. get_or_set_other w' i k v 0 n ∙ f.inside k x (omega (arith, y, n)));
-      below = λ k x. get_or_set_other w' i k v 0 (λ e. omega (arith, e, x, l)) ∙ f.below k x;
-      above = λ k x. get_or_set_other w' i k v 0 (λ e. omega (arith, e, x)) ∙ f.above k (omega (arith, x));
+      inside = λ k x y. same_or k i (λ e. rw e (get_or-set_same w' i v 0 h)) (λ n. get_or-set_other w' i k v 0 n ∙ f.inside k x (omega (arith, y, n)));
+      below = λ k x. get_or-set_other w' i k v 0 (λ e. omega (arith, e, x, l)) ∙ f.below k x;
+      above = λ k x. get_or-set_other w' i k v 0 (λ e. omega (arith, e, x)) ∙ f.above k (omega (arith, x));
     }
 
 -- one more distance is +0.0
 pub one_more : (l : List Float) (i : ℕ) (v : Float) → ((k : ℕ) → k < i → get_or l k v ≡ v) → i < length l → (k : ℕ) → k < i + 1 → get_or (set l i v) k v ≡ v
-one_more l i v f h k x = same_or k i (λ e. rw e (get_or-set_same l i v v h)) (λ n. get_or_set_other l i k v v n ∙ f k (omega (arith, x, n)))
+one_more l i v f h k x = same_or k i (λ e. rw e (get_or-set_same l i v v h)) (λ n. get_or-set_other l i k v v n ∙ f k (omega (arith, x, n)))
 
 -- a list of one value
 pub all_same : {A : Type 0} (l : List A) (n : ℕ) (v d : A) → length l ≡ n → ((k : ℕ) → k < n → get_or l k d ≡ v) → l ≡ replicate n v

@@ -6,7 +6,7 @@ use Rattle.tables.specs.Timetable.{timetable}
 use Rattle.loops.specs.Iter.{some_in}
 use Prim.Native.Nat.{◌-◌}
 use mathlib.Core.Path.{◌≡◌, refl}
-use borrow.Author.Tests.{not-true, not_false}
+use borrow.Author.Tests.{not-true, not-false}
 use native.Mathlib.Omega.{arith}
 use Rattle.arc_flags.proofs.skips_edge.Statement.{statement}
 use Rattle.arc_flags.proofs.skips_edge.Tie as tie
@@ -43,7 +43,7 @@ loop-again : tie.Need-loop-preserved invariant-loop decreases-loop
 loop-again c =
     let c₁ = c.before.before.before.before in
     let s = c₁.before.before.before in
-    (c₁.loop.invariant.0, λ T Q e g et. some_again (skips_at T Q) c₁.loop.k _ (c₁.loop.invariant.1 T Q e g et) (skips-at T Q s.args.tables.now s.args.c c₁.loop.k _ _ _ e c.before.before.edge.ensures.0 (c.before.Holds-target.ensures T Q g et) (not_false _ c.if1.false)) c.before.before.before.loop-test.true)
+    (c₁.loop.invariant.0, λ T Q e g et. some_again (skips_at T Q) c₁.loop.k _ (c₁.loop.invariant.1 T Q e g et) (skips-at T Q s.args.tables.now s.args.c c₁.loop.k _ _ _ e c.before.before.edge.ensures.0 (c.before.Holds-target.ensures T Q g et) (not-false _ c.if1.false)) c.before.before.before.loop-test.true)
 
 returns-2 : tie.Need-returns-2 invariant-loop decreases-loop
 returns-2 c = λ T Q e g et. some_left (skips_at T Q) c.before.loop.k _ (c.before.loop.invariant.1 T Q e g et) c.loop-test.false

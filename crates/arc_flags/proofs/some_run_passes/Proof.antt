@@ -1,4 +1,4 @@
-use borrow.Author.Tests.{lt_ltb, le-ltb}
+use borrow.Author.Tests.{lt-ltb, le-ltb}
 use Rattle.loops.specs.Iter.{some_in}
 use Rattle.arc_flags.proofs.Laws.{run_counted, some_yes, some_again, some_left}
 use Rattle.arc_flags.specs.Skipping.{run_some, some_run, within_run, CountedFrom}
@@ -48,7 +48,7 @@ returns : tie.Need-returns invariant-loop decreases-loop
 returns c =
     let c₁ = c.before.before.before.before.before.before in
     let s = c₁.before.before.before in
-    let w = c₁.loop in λ f h. let g = within_run f s.args.from s.args.n in some_yes (run_some g s.args.transfer-runs.now) w.e _ (w.invariant.1 f h) (run_counted g s.args.transfer-runs.now w.e _ _ _ _ _ c.before.before.before.before.field.ensures.0 c.before.before.before.field2.ensures.0 (c.before.before.counted-before.ensures f h) (c.before.counted-before2.ensures f h) (lt_ltb _ _ c.if1.true)) c.before.before.before.before.before.loop-test.true
+    let w = c₁.loop in λ f h. let g = within_run f s.args.from s.args.n in some_yes (run_some g s.args.transfer-runs.now) w.e _ (w.invariant.1 f h) (run_counted g s.args.transfer-runs.now w.e _ _ _ _ _ c.before.before.before.before.field.ensures.0 c.before.before.before.field2.ensures.0 (c.before.before.counted-before.ensures f h) (c.before.counted-before2.ensures f h) (lt-ltb _ _ c.if1.true)) c.before.before.before.before.before.loop-test.true
 
 add-e : tie.Need-overflow-add-e invariant-loop decreases-loop
 add-e c = omega arith

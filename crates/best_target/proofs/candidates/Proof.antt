@@ -8,7 +8,7 @@ use lib.ListN.{length}
 use Prim.Native.Nat.{ℕ, suc, ◌+◌, ◌-◌, ◌≤◌}
 use mathlib.Core.List.{List, ◌++◌}
 use mathlib.Core.Path.{◌≡◌, sym, ap, ◌∙◌}
-use borrow.Author.Tests.{not-true, not_false}
+use borrow.Author.Tests.{not-true, not-false}
 use native.Mathlib.Omega.{arith}
 use borrow.Author.Rules.{rules}
 use Rattle.best_target.proofs.candidates.Statement.{statement}
@@ -69,7 +69,7 @@ loop-again-2 c =
     let c₂ = c₁.before in
     let c₃ = c₂.before in
     let s = c₃.before.before.before.before.before.before.before.before.before in
-    let w = c₃.loop in let p = c.before.before.put-candidate.ensures in (omega (arith, c₂.loop-test.true), omega (arith, w.invariant.1), p.size ∙ w.invariant.2, put_zeros _ _ _ _ _ _ p w.invariant.3, λ T Q a g e d. rows_put T Q a s.args.top (suc s.args.rounds) _ _ w.m _ _ _ _ _ _ p (w.invariant.4 T Q a g e d ∙ ap (λ (l : List (ℕ × ℕ × ℕ)). candidates_in w.candidates w.m ++ l) (rows_take T Q a s.args.top (suc s.args.rounds) w.row w.last s.args.slack c₁.row_target.result s.args.egress.now _ (omega (arith, c₂.loop-test.true)) e d (c₁.row_target.ensures T Q a g) c.before.before.before.before.before.taken.ensures (not_false _ c.before.before.before.before.if1.false))))
+    let w = c₃.loop in let p = c.before.before.put-candidate.ensures in (omega (arith, c₂.loop-test.true), omega (arith, w.invariant.1), p.size ∙ w.invariant.2, put_zeros _ _ _ _ _ _ p w.invariant.3, λ T Q a g e d. rows_put T Q a s.args.top (suc s.args.rounds) _ _ w.m _ _ _ _ _ _ p (w.invariant.4 T Q a g e d ∙ ap (λ (l : List (ℕ × ℕ × ℕ)). candidates_in w.candidates w.m ++ l) (rows_take T Q a s.args.top (suc s.args.rounds) w.row w.last s.args.slack c₁.row_target.result s.args.egress.now _ (omega (arith, c₂.loop-test.true)) e d (c₁.row_target.ensures T Q a g) c.before.before.before.before.before.taken.ensures (not-false _ c.before.before.before.before.if1.false))))
 
 same_length : tie.Need-same-length invariant-loop decreases-loop
 same_length c = let s = c.before.before.before.before.before.before.before.before.before.before in omega (arith, c.before.loop.invariant.2, s.requires.1.1.1)

@@ -1,5 +1,5 @@
 use borrow.Author.Rules.{rules}
-use borrow.Author.Tests.{not_false, not-true}
+use borrow.Author.Tests.{not-false, not-true}
 use mathlib.Core.Path.{◌∙◌, refl, sym}
 use Rattle.door.proofs.Laws.{ask_no, ask_on}
 use Rattle.cell_set_call.proofs.CellSetCall.{set_given, set_refused_by}
@@ -16,7 +16,7 @@ union-with-requires : tie.Need-union-with-requires
 union-with-requires c κs = search rules
 
 returns-2 : tie.Need-returns-2
-returns-2 c = set_given _ (ask_on 14 _ (sym c.before.before.settings-ok.ensures ∙ not_false _ c.before.if1.false) refl) refl c.union-with.ensures
+returns-2 c = set_given _ (ask_on 14 _ (sym c.before.before.settings-ok.ensures ∙ not-false _ c.before.if1.false) refl) refl c.union-with.ensures
 
 pub union-with-spec : {M : Type 1} → statement M
 union-with-spec = tie.close (tie.spec settings-ok-requires returns union-with-requires returns-2)

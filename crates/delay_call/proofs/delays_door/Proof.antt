@@ -1,7 +1,7 @@
 use Rattle.delay_call.specs.DelayCall.{delay_counts, delays_door}
 use Rattle.door.specs.Settings.{settings_ok}
 use Rattle.door.proofs.Laws.{Within, within, not_within, ask_no, ask_on, ask_past}
-use borrow.Author.Tests.{not_false, not-true}
+use borrow.Author.Tests.{not-false, not-true}
 use mathlib.Core.Path.{◌∙◌, sym, refl}
 use borrow.Author.Rules.{rules}
 use Rattle.delay_call.proofs.delays_door.Statement.{statement}
@@ -42,7 +42,7 @@ unfolding delays_door
 returns-3 c =
     let c₁ = c.before.before.before in
     ask_past (q1 c₁.before.before)
-    (ask_on 2 _ (sym c₁.before.delay-lengths.ensures ∙ not_false _ c₁.if2.false)
+    (ask_on 2 _ (sym c₁.before.delay-lengths.ensures ∙ not-false _ c₁.if2.false)
     (ask_no 4 _ _ (sym (rw c.before.before.rows-asked.ensures at c.before.both.ensures) ∙ not-true _ c.if3.true)))
 
 rows-asked-requires-2 : tie.Need-rows-asked-requires-2
@@ -54,8 +54,8 @@ returns-4 c =
     let c₁ = c.before.before in
     let c₂ = c₁.before.before.before in
     ask_past (q1 c₂.before.before)
-    (ask_on 2 _ (sym c₂.before.delay-lengths.ensures ∙ not_false _ c₂.if2.false)
-    (ask_on 4 _ (sym (rw c₁.before.before.rows-asked.ensures at c₁.before.both.ensures) ∙ not_false _ c₁.if3.false)
+    (ask_on 2 _ (sym c₂.before.delay-lengths.ensures ∙ not-false _ c₂.if2.false)
+    (ask_on 4 _ (sym (rw c₁.before.before.rows-asked.ensures at c₁.before.both.ensures) ∙ not-false _ c₁.if3.false)
     (ask_no 5 _ _ (sym c.before.rows-asked2.ensures ∙ not-true _ c.if4.true))))
 
 rows-asked-requires-3 : tie.Need-rows-asked-requires-3
@@ -68,9 +68,9 @@ returns-5 c =
     let c₂ = c₁.before.before in
     let c₃ = c₂.before.before.before in
     ask_past (q1 c₃.before.before)
-    (ask_on 2 _ (sym c₃.before.delay-lengths.ensures ∙ not_false _ c₃.if2.false)
-    (ask_on 4 _ (sym (rw c₂.before.before.rows-asked.ensures at c₂.before.both.ensures) ∙ not_false _ c₂.if3.false)
-    (ask_on 5 _ (sym c₁.before.rows-asked2.ensures ∙ not_false _ c₁.if4.false)
+    (ask_on 2 _ (sym c₃.before.delay-lengths.ensures ∙ not-false _ c₃.if2.false)
+    (ask_on 4 _ (sym (rw c₂.before.before.rows-asked.ensures at c₂.before.both.ensures) ∙ not-false _ c₂.if3.false)
+    (ask_on 5 _ (sym c₁.before.rows-asked2.ensures ∙ not-false _ c₁.if4.false)
     (ask_no 6 _ _ (sym c.before.rows-asked3.ensures ∙ not-true _ c.if5.true)))))
 
 returns-6 : tie.Need-returns-6
@@ -80,10 +80,10 @@ returns-6 c =
     let c₂ = c₁.before.before in
     let c₃ = c₂.before.before.before in
     ask_past (q1 c₃.before.before)
-    (ask_on 2 _ (sym c₃.before.delay-lengths.ensures ∙ not_false _ c₃.if2.false)
-    (ask_on 4 _ (sym (rw c₂.before.before.rows-asked.ensures at c₂.before.both.ensures) ∙ not_false _ c₂.if3.false)
-    (ask_on 5 _ (sym c₁.before.rows-asked2.ensures ∙ not_false _ c₁.if4.false)
-    (ask_on 6 _ (sym c.before.rows-asked3.ensures ∙ not_false _ c.if5.false) refl))))
+    (ask_on 2 _ (sym c₃.before.delay-lengths.ensures ∙ not-false _ c₃.if2.false)
+    (ask_on 4 _ (sym (rw c₂.before.before.rows-asked.ensures at c₂.before.both.ensures) ∙ not-false _ c₂.if3.false)
+    (ask_on 5 _ (sym c₁.before.rows-asked2.ensures ∙ not-false _ c₁.if4.false)
+    (ask_on 6 _ (sym c.before.rows-asked3.ensures ∙ not-false _ c.if5.false) refl))))
 
 pub delays-door-spec : {M : Type 1} → statement M
 delays-door-spec =

@@ -1,5 +1,5 @@
 use lib.Dec.{leb}
-use borrow.Author.Tests.{le_leb, lt-leb}
+use borrow.Author.Tests.{le-leb, lt-leb}
 use Rattle.delay_lookup.specs.Halving.{key_at}
 use Rattle.loops.proofs.Search.{halved_end, halved_down, halved_start, halved_up}
 use Rattle.delay_lookup.proofs.Search.{mul_below}
@@ -40,7 +40,7 @@ loop-less-2 : tie.Need-loop-smaller-2 invariant-loop decreases-loop
 loop-less-2 c = omega arith
 
 loop-again-2 : tie.Need-loop-preserved-2 invariant-loop decreases-loop
-loop-again-2 c = halved_down _ _ _ _ _ c.before.before.before.before.before.requires.stays c.before.before.before.loop.invariant (le_leb _ _ (rw c.before.key-at.ensures at c.if1.false)) (omega arith) (omega arith)
+loop-again-2 c = halved_down _ _ _ _ _ c.before.before.before.before.before.requires.stays c.before.before.before.loop.invariant (le-leb _ _ (rw c.before.key-at.ensures at c.if1.false)) (omega arith) (omega arith)
 
 returns : tie.Need-returns invariant-loop decreases-loop
 returns c = halved_end _ _ _ _ c.before.loop.invariant (omega arith)

@@ -2,7 +2,7 @@ use Rattle.loops.specs.Iter.{every_in}
 use Rattle.delay_rows.specs.Flat.{delay_row_count, delay_row_at}
 use Rattle.delay_rows.specs.Asked.{delay_asked}
 use Prim.Native.Nat.{◌-◌}
-use borrow.Author.Tests.{not_false, not-true}
+use borrow.Author.Tests.{not-false, not-true}
 use Rattle.loops.proofs.Iter.{every_again, every_left, every_no}
 use native.Mathlib.Omega.{arith}
 use mathlib.Core.Path.{◌∙◌, refl, sym, ◌≡◌}
@@ -31,7 +31,7 @@ loop-less : tie.Need-loop-smaller invariant-loop decreases-loop
 loop-less c = omega arith
 
 loop-again : tie.Need-loop-preserved invariant-loop decreases-loop
-loop-again c = (omega arith, every_again _ _ _ c.before.before.before.loop.invariant.1 (sym c.before.delay-asked.ensures ∙ not_false _ c.if1.false) (omega arith))
+loop-again c = (omega arith, every_again _ _ _ c.before.before.before.loop.invariant.1 (sym c.before.delay-asked.ensures ∙ not-false _ c.if1.false) (omega arith))
 
 returns-2 : tie.Need-returns-2 invariant-loop decreases-loop
 returns-2 c = every_left _ _ _ c.before.loop.invariant.1 (omega arith)

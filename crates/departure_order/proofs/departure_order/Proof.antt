@@ -1,5 +1,5 @@
 use Rattle.tables.specs.Timetable.{timetable}
-use borrow.Author.Tests.{not_false, not-true}
+use borrow.Author.Tests.{not-false, not-true}
 use Rattle.loops.specs.Iter.{every_in}
 use Rattle.loops.proofs.Iter.{every_again, every_left, every_no}
 use Rattle.departures.specs.Departures.{departures_of, run_length}
@@ -33,7 +33,7 @@ loop-less : tie.Need-loop-smaller invariant-loop decreases-loop
 loop-less c = omega arith
 
 loop-again : tie.Need-loop-preserved invariant-loop decreases-loop
-loop-again c = (c.before.before.before.loop.invariant.0, every_again _ _ _ c.before.before.before.loop.invariant.1 (sym c.before.stop-order.ensures ∙ not_false _ c.if1.false) (omega arith))
+loop-again c = (c.before.before.before.loop.invariant.0, every_again _ _ _ c.before.before.before.loop.invariant.1 (sym c.before.stop-order.ensures ∙ not-false _ c.if1.false) (omega arith))
 
 returns-2 : tie.Need-returns-2 invariant-loop decreases-loop
 returns-2 c = every_left _ _ _ c.before.loop.invariant.1 (omega arith)

@@ -2,7 +2,7 @@ use Rattle.departure_order.proofs.Turn.{never}
 use Prim.Native.Nat.{◌-◌, ◌≤◌, ℕ}
 use mathlib.Core.Path.{◌≡◌, ap, refl, subst}
 use native.Mathlib.Omega.{arith}
-use borrow.Author.Tests.{eqb_true, not_false}
+use borrow.Author.Tests.{eqb-true, not-false}
 use Rattle.departures.specs.declared.StopRun.{StopRun}
 use Rattle.departure_order.proofs.Turn.{Turned, in-turn, turned_more, turned_none}
 use Rattle.departure_order.proofs.in_turn.Statement.{statement}
@@ -48,10 +48,10 @@ loop-again c =
     let c₂ = c₁.before in
     let c₃ = c₂.before.before in
     let s = c₃.before.before.before.before in
-    let l = c₃.loop in (l.invariant.0, omega (arith, c₁.if1.false, s.requires.1.1.0.run l.s (omega arith), ap (λ (x : StopRun). x.first) c₂.stop-run.ensures.0, ap (λ (x : StopRun). x.length) c₂.stop-run.ensures.0), omega arith, turned_more s.args.tables.now s.args.c s.args.rows.now s.args.runs.now l.s l.end c₂.stop-run.result l.invariant.3 c₂.stop-run.ensures.0 c₁.if1.false (c.before.run-right.ensures (not_false _ c.if2.false)))
+    let l = c₃.loop in (l.invariant.0, omega (arith, c₁.if1.false, s.requires.1.1.0.run l.s (omega arith), ap (λ (x : StopRun). x.first) c₂.stop-run.ensures.0, ap (λ (x : StopRun). x.length) c₂.stop-run.ensures.0), omega arith, turned_more s.args.tables.now s.args.c s.args.rows.now s.args.runs.now l.s l.end c₂.stop-run.result l.invariant.3 c₂.stop-run.ensures.0 c₁.if1.false (c.before.run-right.ensures (not-false _ c.if2.false)))
 
 returns-3 : tie.Need-returns-3 invariant-loop decreases-loop
-returns-3 c = λ h. let s = c.before.before.before.before.before in let l = c.before.loop in let q : l.s ≡ s.args.c.stops = omega arith in in-turn s.args.tables.now s.args.c s.args.rows.now s.args.runs.now s.args.d l.end s.requires.0 s.requires.1.0 s.requires.1.1.0 s.requires.1.1.1 (subst (λ (i : ℕ). Turned s.args.tables.now s.args.c s.args.rows.now s.args.runs.now i l.end) q l.invariant.3) (eqb_true l.end s.args.d h)
+returns-3 c = λ h. let s = c.before.before.before.before.before in let l = c.before.loop in let q : l.s ≡ s.args.c.stops = omega arith in in-turn s.args.tables.now s.args.c s.args.rows.now s.args.runs.now s.args.d l.end s.requires.0 s.requires.1.0 s.requires.1.1.0 s.requires.1.1.1 (subst (λ (i : ℕ). Turned s.args.tables.now s.args.c s.args.rows.now s.args.runs.now i l.end) q l.invariant.3) (eqb-true l.end s.args.d h)
 
 pub in-turn-spec : {M : Type 1} → statement M
 in-turn-spec =

@@ -1,7 +1,7 @@
 use Rattle.tables.specs.Timetable.{Timetable, timetable}
 use Rattle.departures.specs.Departures.{row_at, row_departure}
 use Rattle.departure_order.specs.Order.{not_earlier, part_order}
-use borrow.Author.Tests.{not_false, not-true}
+use borrow.Author.Tests.{not-false, not-true}
 use borrow.Author.Rules.{rules}
 use Rattle.loops.specs.Iter.{every_in}
 use Rattle.loops.proofs.Iter.{every_again, every_left, every_no}
@@ -58,7 +58,7 @@ loop-again c =
     let c₁ = c.before.before.before.before in
     let k = c₁.loop.k in
     let e : k + 1 - 1 ≡ k = omega arith in
-    (omega arith, rw e c.before.before.departure-at2.ensures, every_again _ _ _ c₁.loop.invariant.2 (tested _ _ _ c₁.loop.invariant.1 c.before.before.departure-at2.ensures (sym c.before.in_order.ensures ∙ not_false _ c.if2.false)) (omega arith))
+    (omega arith, rw e c.before.before.departure-at2.ensures, every_again _ _ _ c₁.loop.invariant.2 (tested _ _ _ c₁.loop.invariant.1 c.before.before.departure-at2.ensures (sym c.before.in_order.ensures ∙ not-false _ c.if2.false)) (omega arith))
 
 returns-3 : tie.Need-returns-3 invariant-loop decreases-loop
 returns-3 c = every_left _ _ _ c.before.loop.invariant.2 (omega arith)

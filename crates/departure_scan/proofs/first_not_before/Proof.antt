@@ -2,7 +2,7 @@ use Rattle.tables.specs.Timetable.{timetable}
 use Rattle.departures.specs.Departures.{row_at, row_departure}
 use lib.ListN.{length}
 use lib.Dec.{leb}
-use borrow.Author.Tests.{le_leb, lt-leb}
+use borrow.Author.Tests.{le-leb, lt-leb}
 use Rattle.loops.proofs.Search.{halved_down, halved_end, halved_start, halved_up, keys_stay}
 use Rattle.departure_scan.proofs.Tail.{departures_rising}
 use native.Mathlib.Omega.{arith}
@@ -45,7 +45,7 @@ loop-less-2 : tie.Need-loop-smaller-2 invariant-loop decreases-loop
 loop-less-2 c = omega arith
 
 loop-again-2 : tie.Need-loop-preserved-2 invariant-loop decreases-loop
-loop-again-2 c = let s = c.before.before.before.before.before.before.before in halved_down _ _ _ _ _ (keys_stay _ s.args.m _ (departures_rising _ _ _ _ s.requires)) c.before.before.before.before.loop.invariant (le_leb _ _ (rw (c.before.row-departure.ensures, c.before.before.departure-row.ensures) at c.if1.false)) (omega arith) (omega arith)
+loop-again-2 c = let s = c.before.before.before.before.before.before.before in halved_down _ _ _ _ _ (keys_stay _ s.args.m _ (departures_rising _ _ _ _ s.requires)) c.before.before.before.before.loop.invariant (le-leb _ _ (rw (c.before.row-departure.ensures, c.before.before.departure-row.ensures) at c.if1.false)) (omega arith) (omega arith)
 
 returns : tie.Need-returns invariant-loop decreases-loop
 returns c = halved_end _ _ _ _ c.before.loop.invariant (omega arith)

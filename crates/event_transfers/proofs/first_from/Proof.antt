@@ -3,7 +3,7 @@ use Rattle.loops.specs.Order.{Halved}
 use Rattle.loops.proofs.Search.{keys_stay}
 use Rattle.sorts.specs.Sort.{hi}
 use borrow.Author.Rules.{rules}
-use borrow.Author.Tests.{le_leb, lt-leb}
+use borrow.Author.Tests.{le-leb, lt-leb}
 use lib.Dec.{leb}
 use lib.ListN.{get_or, length}
 use native.Mathlib.Omega.{arith}
@@ -67,7 +67,7 @@ returns-3 : tie.Need-returns-3 invariant-loop decreases-loop
 unfolding hi
 returns-3 c =
     let c₁ = c.before.before.before.before.before.before.before in
-    last_down _ _ _ _ (keys_stay (λ i. hi (get_or c₁.args.part.now i 0)) c₁.args.key _ c₁.requires.0.rising) c.before.before.before.loop.invariant.2 (omega arith) (le_leb _ _ c.if2.false)
+    last_down _ _ _ _ (keys_stay (λ i. hi (get_or c₁.args.part.now i 0)) c₁.args.key _ c₁.requires.0.rising) c.before.before.before.loop.invariant.2 (omega arith) (le-leb _ _ c.if2.false)
 
 pub first-from-spec : {M : Type 1} → statement M
 first-from-spec =

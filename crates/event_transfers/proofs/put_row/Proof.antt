@@ -1,7 +1,7 @@
 use Rattle.departures.specs.Packed.{un_offset, un_trip}
 use Rattle.event_transfers.specs.Packed.{put_row}
 use lib.ListN.{length-set}
-use borrow.Author.Tests.{le_leb, lt-leb}
+use borrow.Author.Tests.{le-leb, lt-leb}
 use Rattle.event_transfers.proofs.Laying.{four}
 use native.Mathlib.Omega.{arith}
 use mathlib.Core.Path.{◌∙◌}
@@ -67,7 +67,7 @@ same_length c = search rules
 
 returns-2 : tie.Need-returns-2
 unfolding put_row un_trip un_offset
-returns-2 c = four c.before.args.area.now (c.before.args.n * 4) (c.before.args.x % 4294967296 / 65536) (c.before.args.x % 65536) c.before.args.time 0 (omega arith) ∙ simp (le_leb _ _ c.if1.false)
+returns-2 c = four c.before.args.area.now (c.before.args.n * 4) (c.before.args.x % 4294967296 / 65536) (c.before.args.x % 65536) c.before.args.time 0 (omega arith) ∙ simp (le-leb _ _ c.if1.false)
 
 pub put-row-spec : {M : Type 1} → statement M
 put-row-spec =

@@ -1,7 +1,7 @@
 use Rattle.event_transfers.proofs.Laying.{two}
 use Rattle.event_transfers.specs.Packed.{put_run}
 use lib.ListN.{length-set}
-use borrow.Author.Tests.{le_leb, lt-leb}
+use borrow.Author.Tests.{le-leb, lt-leb}
 use native.Mathlib.Omega.{arith}
 use mathlib.Core.Path.{◌∙◌}
 use Prim.Native.Nat.{◌*◌, ◌-◌}
@@ -48,7 +48,7 @@ same_length c = search rules
 
 returns-2 : tie.Need-returns-2
 unfolding put_run
-returns-2 c = two c.before.args.transfer-runs.now (c.before.args.e * 2) c.before.args.n (c.before.args.r - c.before.args.n) (omega arith) ∙ simp (le_leb _ _ c.if1.false)
+returns-2 c = two c.before.args.transfer-runs.now (c.before.args.e * 2) c.before.args.n (c.before.args.r - c.before.args.n) (omega arith) ∙ simp (le-leb _ _ c.if1.false)
 
 pub put-run-spec : {M : Type 1} → statement M
 put-run-spec =

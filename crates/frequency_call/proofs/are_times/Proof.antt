@@ -1,4 +1,4 @@
-use borrow.Author.Tests.{le_leb, lt-leb}
+use borrow.Author.Tests.{le-leb, lt-leb}
 use Rattle.frequency_call.proofs.are_times.Statement.{statement}
 use Rattle.frequency_call.proofs.are_times.Tie as tie
 
@@ -6,10 +6,10 @@ returns : tie.Need-returns
 returns c = simp (lt-leb _ _ c.if1.true)
 
 returns-2 : tie.Need-returns-2
-returns-2 c = simp (le_leb _ _ c.before.if1.false, lt-leb _ _ c.if2.true)
+returns-2 c = simp (le-leb _ _ c.before.if1.false, lt-leb _ _ c.if2.true)
 
 returns-3 : tie.Need-returns-3
-returns-3 c = simp (le_leb _ _ c.before.if1.false, le_leb _ _ c.if2.false)
+returns-3 c = simp (le-leb _ _ c.before.if1.false, le-leb _ _ c.if2.false)
 
 pub are-times-spec : {M : Type 1} → statement M
 are-times-spec = tie.close (tie.spec returns returns-2 returns-3)

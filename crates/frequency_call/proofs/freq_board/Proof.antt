@@ -1,5 +1,5 @@
 use Rattle.frequency_call.proofs.FrequencyCall.{answered, nominal, refused}
-use borrow.Author.Tests.{eq-eqb, leb-true, ne_eqb, not_false, not-true}
+use borrow.Author.Tests.{eq-eqb, leb-true, ne_eqb, not-false, not-true}
 use mathlib.Core.Path.{◌∙◌, refl, sym}
 use lib.Dec.{leb}
 use Rattle.door.specs.Settings.{settings_ok}
@@ -46,7 +46,7 @@ returns-3 : tie.Need-returns-3
 returns-3 c = c.no-board3.ensures ∙ simp ((q1 c.before.before.before.before).counts_yes, (q1 c.before.before.before.before).settings_yes, eq-eqb _ _ c.before.before.before.if2.false, sym c.before.before.freq-in-range.ensures ∙ not-true _ c.before.if3.true)
 
 earliest-freq-board-requires : tie.Need-earliest-freq-board-requires
-earliest-freq-board-requires c κs = let a = c.before.before.before.before.before.before.args in nominal a.count a.windows.now _ _ _ (sym c.before.freq-in-range.ensures ∙ not_false _ c.if3.false) c.before.before.if2.false (leb-true _ _ (q1 c.before.before.before).counts_yes)
+earliest-freq-board-requires c κs = let a = c.before.before.before.before.before.before.args in nominal a.count a.windows.now _ _ _ (sym c.before.freq-in-range.ensures ∙ not-false _ c.if3.false) c.before.before.if2.false (leb-true _ _ (q1 c.before.before.before).counts_yes)
 
 enum-known-b : tie.Need-enum-known-b
 enum-known-b c = search rules
@@ -62,14 +62,14 @@ returns-4 c =
     let c₁ = c.before.before.before.before.before.before in
     let c₂ = c₁.before in
     let c₃ = c₂.before.before.before in
-    let a = c₃.args in answered a.settings a.count a.windows.now a.base a.dep a.after Nothing c.no-board4.ensures (sym c.before.enum_told.given.1 ∙ c.before.before.before.earliest-freq-board.ensures) (sym c.before.before.before.before.before.freq-in-range.ensures ∙ not_false _ c.before.before.before.before.if3.false) c₁.if2.false (q1 c₂)
+    let a = c₃.args in answered a.settings a.count a.windows.now a.base a.dep a.after Nothing c.no-board4.ensures (sym c.before.enum_told.given.1 ∙ c.before.before.before.earliest-freq-board.ensures) (sym c.before.before.before.before.before.freq-in-range.ensures ∙ not-false _ c.before.before.before.before.if3.false) c₁.if2.false (q1 c₂)
 
 returns-5 : tie.Need-returns-5
 returns-5 c =
     let c₁ = c.before.before.before.before.before.before in
     let c₂ = c₁.before in
     let c₃ = c₂.before.before.before in
-    let a = c₃.args in answered a.settings a.count a.windows.now a.base a.dep a.after (Board c.before.b.given.0.0) refl (sym c.before.b.given.1 ∙ c.before.before.before.earliest-freq-board.ensures) (sym c.before.before.before.before.before.freq-in-range.ensures ∙ not_false _ c.before.before.before.before.if3.false) c₁.if2.false (q1 c₂)
+    let a = c₃.args in answered a.settings a.count a.windows.now a.base a.dep a.after (Board c.before.b.given.0.0) refl (sym c.before.b.given.1 ∙ c.before.before.before.earliest-freq-board.ensures) (sym c.before.before.before.before.before.freq-in-range.ensures ∙ not-false _ c.before.before.before.before.if3.false) c₁.if2.false (q1 c₂)
 
 pub freq-board-spec : {M : Type 1} → statement M
 freq-board-spec =

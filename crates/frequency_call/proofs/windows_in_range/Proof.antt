@@ -1,6 +1,6 @@
 use Rattle.frequency_call.specs.FrequencyCall.{window_in_range, windows_in_range}
 use Rattle.frequency.specs.Gtfs.{window_in, window_count}
-use borrow.Author.Tests.{not_false, not-true}
+use borrow.Author.Tests.{not-false, not-true}
 use Rattle.loops.specs.Iter.{every_in}
 use Rattle.loops.proofs.Iter.{every_again, every_left, every_no}
 use native.Mathlib.Omega.{arith}
@@ -37,7 +37,7 @@ loop-less : tie.Need-loop-smaller invariant-loop decreases-loop
 loop-less c = omega arith
 
 loop-again : tie.Need-loop-preserved invariant-loop decreases-loop
-loop-again c = (omega arith, every_again _ _ _ c.before.before.before.loop.invariant.1 (sym c.before.window-in-range.ensures ∙ not_false _ c.if1.false) (omega arith))
+loop-again c = (omega arith, every_again _ _ _ c.before.before.before.loop.invariant.1 (sym c.before.window-in-range.ensures ∙ not-false _ c.if1.false) (omega arith))
 
 returns-2 : tie.Need-returns-2 invariant-loop decreases-loop
 returns-2 c = every_left _ _ _ c.before.loop.invariant.1 (omega arith)

@@ -1,5 +1,5 @@
 use borrow.Author.Rules.{rules}
-use borrow.Author.Tests.{le_leb, lt-leb, not_false, not-true}
+use borrow.Author.Tests.{le-leb, lt-leb, not-false, not-true}
 use mathlib.Core.Path.{◌∙◌, refl, sym}
 use native.Mathlib.Omega.{arith}
 use lib.Dec.{leb}
@@ -36,23 +36,23 @@ returns-3 : tie.Need-returns-3
 unfolding place_code
 returns-3 c =
     ask_past (q1 c.before.before.before)
-    (ask_on 2 _ (sym c.before.before.lengths-right.ensures ∙ not_false _ c.before.if2.false) (ask_no 4 _ _ (not-true c.before.before.before.before.before.args.below c.if3.true)))
+    (ask_on 2 _ (sym c.before.before.lengths-right.ensures ∙ not-false _ c.before.if2.false) (ask_no 4 _ _ (not-true c.before.before.before.before.before.args.below c.if3.true)))
 
 returns-4 : tie.Need-returns-4
 unfolding place_code
 returns-4 c =
     let c₁ = c.before.before.before.before.before.before in
     ask_past (q1 c.before.before.before.before)
-    (ask_on 2 _ (sym c.before.before.before.lengths-right.ensures ∙ not_false _ c.before.before.if2.false)
-    (ask_on 4 _ (not_false c₁.args.below c.before.if3.false) (ask_no 5 _ _ (lt-leb c₁.args.row 12 (omega arith)))))
+    (ask_on 2 _ (sym c.before.before.before.lengths-right.ensures ∙ not-false _ c.before.before.if2.false)
+    (ask_on 4 _ (not-false c₁.args.below c.before.if3.false) (ask_no 5 _ _ (lt-leb c₁.args.row 12 (omega arith)))))
 
 returns-5 : tie.Need-returns-5
 unfolding place_code
 returns-5 c =
     let c₁ = c.before.before.before.before.before.before in
     ask_past (q1 c.before.before.before.before)
-    (ask_on 2 _ (sym c.before.before.before.lengths-right.ensures ∙ not_false _ c.before.before.if2.false)
-    (ask_on 4 _ (not_false c₁.args.below c.before.if3.false) (ask_on 5 _ (le_leb c₁.args.row 12 (omega arith)) refl)))
+    (ask_on 2 _ (sym c.before.before.before.lengths-right.ensures ∙ not-false _ c.before.before.if2.false)
+    (ask_on 4 _ (not-false c₁.args.below c.before.if3.false) (ask_on 5 _ (le-leb c₁.args.row 12 (omega arith)) refl)))
 
 pub place-spec : {M : Type 1} → statement M
 place-spec =

@@ -1,5 +1,5 @@
 use borrow.Author.Rules.{rules}
-use borrow.Author.Tests.{not_false, not-true}
+use borrow.Author.Tests.{not-false, not-true}
 use mathlib.Core.Path.{◌∙◌, refl, sym}
 use Rattle.door.proofs.Laws.{ask_on, given_is}
 use Rattle.leaf_calls.proofs.max_rounds.Statement.{statement}
@@ -22,7 +22,7 @@ given-requires c κs = search rules
 
 returns-2 : tie.Need-returns-2
 returns-2 c =
-    c.given.ensures ∙ given_is (ask_on 14 _ (sym c.before.before.before.settings-ok.ensures ∙ not_false _ c.before.before.if1.false) refl) refl c.before.tbr-max-rounds.ensures
+    c.given.ensures ∙ given_is (ask_on 14 _ (sym c.before.before.before.settings-ok.ensures ∙ not-false _ c.before.before.if1.false) refl) refl c.before.tbr-max-rounds.ensures
 
 pub max-rounds-spec : {M : Type 1} → statement M
 max-rounds-spec =

@@ -1,5 +1,5 @@
 use lib.Dec.{ltb}
-use borrow.Author.Tests.{le-ltb, lt_ltb}
+use borrow.Author.Tests.{le-ltb, lt-ltb}
 use lib.ListN.{get_or}
 use Rattle.loops.specs.Iter.{every_in}
 use Rattle.loops.proofs.Iter.{every_again, every_left, every_no}
@@ -33,7 +33,7 @@ loop-less : tie.Need-loop-smaller invariant-loop decreases-loop
 loop-less c = omega arith
 
 loop-again : tie.Need-loop-preserved invariant-loop decreases-loop
-loop-again c = let s = c.before.before.before.before.before in every_again _ _ _ c.before.before.before.loop.invariant (lt_ltb (get_or s.args.entries.now c.before.before.before.loop.p 0) s.args.c.trips (omega (arith, c.before.field.ensures.0, c.if1.false))) (omega arith)
+loop-again c = let s = c.before.before.before.before.before in every_again _ _ _ c.before.before.before.loop.invariant (lt-ltb (get_or s.args.entries.now c.before.before.before.loop.p 0) s.args.c.trips (omega (arith, c.before.field.ensures.0, c.if1.false))) (omega arith)
 
 returns-2 : tie.Need-returns-2 invariant-loop decreases-loop
 unfolding entries_ok

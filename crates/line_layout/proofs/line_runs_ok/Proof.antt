@@ -1,5 +1,5 @@
 use Rattle.line_layout.specs.Layout.{line_run_at}
-use borrow.Author.Tests.{not_false, not-true}
+use borrow.Author.Tests.{not-false, not-true}
 use Rattle.line_layout.specs.Listed.{line_runs_ok, line_run_in}
 use Rattle.loops.specs.Iter.{every_in}
 use Rattle.loops.proofs.Iter.{every_again, every_left, every_no}
@@ -35,7 +35,7 @@ loop-less : tie.Need-loop-smaller invariant-loop decreases-loop
 loop-less c = omega arith
 
 loop-again : tie.Need-loop-preserved invariant-loop decreases-loop
-loop-again c = every_again _ _ _ c.before.before.before.before.loop.invariant (sym (c.before.run_in.ensures ∙ ap (line_run_in _) c.before.before.line-run.ensures.0) ∙ not_false _ c.if1.false) (omega arith)
+loop-again c = every_again _ _ _ c.before.before.before.before.loop.invariant (sym (c.before.run_in.ensures ∙ ap (line_run_in _) c.before.before.line-run.ensures.0) ∙ not-false _ c.if1.false) (omega arith)
 
 returns-2 : tie.Need-returns-2 invariant-loop decreases-loop
 unfolding line_runs_ok

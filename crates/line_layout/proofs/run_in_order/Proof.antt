@@ -1,4 +1,4 @@
-use borrow.Author.Tests.{not_false, not-true}
+use borrow.Author.Tests.{not-false, not-true}
 use Rattle.line_layout.specs.Layout.{neighbours}
 use Rattle.tables.specs.Timetable.{timetable}
 use borrow.Author.Rules.{rules}
@@ -51,7 +51,7 @@ loop-less : tie.Need-loop-smaller invariant-loop decreases-loop
 loop-less c = omega arith
 
 loop-again : tie.Need-loop-preserved invariant-loop decreases-loop
-loop-again c = let s = c.before.before.before.before.before.before.before.before in (omega arith, every_again _ _ _ c.before.before.before.before.before.loop.invariant.1 (sym (ap₂ (neighbours (timetable s.args.tables.now s.args.c)) c.before.before.before.field.ensures.0 c.before.before.field2.ensures.0) ∙ sym c.before.neighbours-ok.ensures ∙ not_false _ c.if1.false) (omega arith))
+loop-again c = let s = c.before.before.before.before.before.before.before.before in (omega arith, every_again _ _ _ c.before.before.before.before.before.loop.invariant.1 (sym (ap₂ (neighbours (timetable s.args.tables.now s.args.c)) c.before.before.before.field.ensures.0 c.before.before.field2.ensures.0) ∙ sym c.before.neighbours-ok.ensures ∙ not-false _ c.if1.false) (omega arith))
 
 returns-2 : tie.Need-returns-2 invariant-loop decreases-loop
 returns-2 c = every_left _ _ _ c.before.loop.invariant.1 (omega arith)

@@ -1,4 +1,4 @@
-use borrow.Author.Tests.{not_false, not-true}
+use borrow.Author.Tests.{not-false, not-true}
 use borrow.Author.Rules.{rules}
 use Rattle.line_layout.specs.Layout.{in_order}
 use Rattle.loops.specs.Iter.{every_in}
@@ -47,7 +47,7 @@ loop-less : tie.Need-loop-smaller invariant-loop decreases-loop
 loop-less c = omega arith
 
 loop-again : tie.Need-loop-preserved invariant-loop decreases-loop
-loop-again c = every_again _ _ _ c.before.before.before.before.before.loop.invariant (sym (c.before.in_order.ensures ∙ ap₂ in_order c.before.before.before.stop-time-row.ensures c.before.before.stop-time-row2.ensures) ∙ not_false _ c.if1.false) (omega arith)
+loop-again c = every_again _ _ _ c.before.before.before.before.before.loop.invariant (sym (c.before.in_order.ensures ∙ ap₂ in_order c.before.before.before.stop-time-row.ensures c.before.before.stop-time-row2.ensures) ∙ not-false _ c.if1.false) (omega arith)
 
 returns-2 : tie.Need-returns-2 invariant-loop decreases-loop
 returns-2 c = every_left _ _ _ c.before.loop.invariant (omega arith)

@@ -1,4 +1,4 @@
-use borrow.Author.Tests.{not-true, not_false}
+use borrow.Author.Tests.{not-true, not-false}
 use Rattle.search_state.proofs.Part.{few_of}
 use Rattle.line_pruning.proofs.Reading.{listed_no, listed_seen, listed_new}
 use borrow.Author.Rules.{rules}
@@ -31,10 +31,10 @@ returns-2 c =
     let c₁ = c.before.before.before.before.before.before in
     let c₂ = c₁.before in
     let s = c₂.before.before in
-    listed_seen s.args.lay s.args.stamp s.args.line s.args.trip s.args.off s.args.work.now s.args.prunes _ _ c₁.trip-stamps-at.ensures (not_false _ c₂.if1.false) c.before.before.before.before.if2.true c.before.before.lower.ensures
+    listed_seen s.args.lay s.args.stamp s.args.line s.args.trip s.args.off s.args.work.now s.args.prunes _ _ c₁.trip-stamps-at.ensures (not-false _ c₂.if1.false) c.before.before.before.before.if2.true c.before.before.lower.ensures
 
 link-requires : tie.Need-link-requires
-link-requires c κs = let s = c.before.before.before.before.before.before in (s.requires.0, (s.requires.1.0 (not_false _ c.before.before.before.before.if1.false), s.requires.1.1))
+link-requires c κs = let s = c.before.before.before.before.before.before in (s.requires.0, (s.requires.1.0 (not-false _ c.before.before.before.before.if1.false), s.requires.1.1))
 
 same-length-2 : tie.Need-same-length-2
 same-length-2 c = search rules
@@ -44,7 +44,7 @@ returns-3 c =
     let c₁ = c.before.before.before.before.before.before in
     let c₂ = c₁.before in
     let s = c₂.before.before in
-    listed_new s.args.lay s.args.stamp s.args.line s.args.trip s.args.off s.args.work.now s.args.prunes _ _ c₁.trip-stamps-at.ensures (not_false _ c₂.if1.false) c.before.before.before.before.if2.false c.before.before.link.ensures
+    listed_new s.args.lay s.args.stamp s.args.line s.args.trip s.args.off s.args.work.now s.args.prunes _ _ c₁.trip-stamps-at.ensures (not-false _ c₂.if1.false) c.before.before.before.before.if2.false c.before.before.link.ensures
 
 pub list-spec : {M : Type 1} → statement M
 list-spec =

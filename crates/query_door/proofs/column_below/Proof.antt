@@ -1,5 +1,5 @@
 use lib.Dec.{ltb}
-use borrow.Author.Tests.{le-ltb, lt_ltb}
+use borrow.Author.Tests.{le-ltb, lt-ltb}
 use Rattle.loops.specs.Iter.{every_in, first}
 use Rattle.loops.proofs.Iter.{every_again, every_left, every_no}
 use Rattle.loops.specs.Count.{count}
@@ -39,7 +39,7 @@ loop-less : tie.Need-loop-smaller invariant-loop decreases-loop
 loop-less c = omega arith
 
 loop-again : tie.Need-loop-preserved invariant-loop decreases-loop
-loop-again c = every_again _ _ _ c.before.before.before.loop.invariant (lt_ltb _ _ (rw c.before.field.ensures.0 at c.if1.false)) (omega arith)
+loop-again c = every_again _ _ _ c.before.before.before.loop.invariant (lt-ltb _ _ (rw c.before.field.ensures.0 at c.if1.false)) (omega arith)
 
 returns-2 : tie.Need-returns-2 invariant-loop decreases-loop
 returns-2 c = every_left _ _ _ c.before.loop.invariant (omega arith)

@@ -3,7 +3,7 @@ use Prim.Native.Nat.{ℕ}
 use mathlib.Core.Path.{◌∙◌, ap, subst, sym}
 use mathlib.Core.List.{List}
 use lib.ListN.{length}
-use borrow.Author.Tests.{not_false}
+use borrow.Author.Tests.{not-false}
 use Rattle.query_input.specs.Lent.{departure_rows}
 use Rattle.departure_order.specs.Turn.{InTurn}
 use Rattle.query_input.proofs.Parts.{marks_room, rows_size}
@@ -39,7 +39,7 @@ returns-3 : tie.Need-returns-3
 returns-3 c =
     let c₁ = c.before.before.before.before.before.before in
     let c₂ = c₁.before.before.before.before in
-    λ h. let s = c₂.before in let t = s.args.tables.now in let b = s.args.built.now in let counts = s.args.counts in passed_yes t b s.args.transfers.now s.args.query.now counts s.args.transfer-rows (sym c₁.query-ok.ensures ∙ not_false _ c.before.before.before.before.before.if1.false) (sym c.before.before.before.before.tables-ok.ensures ∙ not_false _ c.before.before.before.if2.false) (subst (λ (l : List ℕ). InTurn t counts.timetable l (departure_rows b counts) counts.departures) c.before.before.stop-runs.ensures (subst (λ (l : List ℕ). InTurn t counts.timetable c.before.before.stop-runs.result.now l counts.departures) c.before.departure-rows.ensures (c.in-turn.ensures h)))
+    λ h. let s = c₂.before in let t = s.args.tables.now in let b = s.args.built.now in let counts = s.args.counts in passed_yes t b s.args.transfers.now s.args.query.now counts s.args.transfer-rows (sym c₁.query-ok.ensures ∙ not-false _ c.before.before.before.before.before.if1.false) (sym c.before.before.before.before.tables-ok.ensures ∙ not-false _ c.before.before.before.if2.false) (subst (λ (l : List ℕ). InTurn t counts.timetable l (departure_rows b counts) counts.departures) c.before.before.stop-runs.ensures (subst (λ (l : List ℕ). InTurn t counts.timetable c.before.before.stop-runs.result.now l counts.departures) c.before.departure-rows.ensures (c.in-turn.ensures h)))
 
 pub passed-spec : {M : Type 1} → statement M
 passed-spec =

@@ -1,6 +1,6 @@
 use Rattle.stop_delay.proofs.Times.{arrival-given, arrival_shifted}
 use mathlib.Core.Bool.{◌||◌, false, true}
-use borrow.Author.Tests.{not_false, not-true}
+use borrow.Author.Tests.{not-false, not-true}
 use mathlib.Core.Path.{◌∙◌, ap₂, sym}
 use borrow.Author.Rules.{rules}
 use Rattle.stop_delay.proofs.rt_effective_arr_s.Statement.{statement}
@@ -28,7 +28,7 @@ returns-2 : tie.Need-returns-2
 returns-2 c =
     let c₁ = c.before.before.before.before.before in
     let s = c₁.before in
-    c.moved2.ensures ∙ sym (arrival-given s.args.arrival s.args.time-shift-s s.args.d true (sym (c.before.before.before.either.ensures ∙ ap₂ ◌||◌ c.before.before.before.before.departure-given.ensures c₁.arrival-given.ensures) ∙ not_false _ c.before.before.if1.false) (sym c₁.arrival-given.ensures ∙ c.before.if2.true))
+    c.moved2.ensures ∙ sym (arrival-given s.args.arrival s.args.time-shift-s s.args.d true (sym (c.before.before.before.either.ensures ∙ ap₂ ◌||◌ c.before.before.before.before.departure-given.ensures c₁.arrival-given.ensures) ∙ not-false _ c.before.before.if1.false) (sym c₁.arrival-given.ensures ∙ c.before.if2.true))
 
 moved-requires-3 : tie.Need-moved-requires-3
 moved-requires-3 c κs = search rules
@@ -37,7 +37,7 @@ returns-3 : tie.Need-returns-3
 returns-3 c =
     let c₁ = c.before.before.before.before.before in
     let s = c₁.before in
-    c.moved3.ensures ∙ sym (arrival-given s.args.arrival s.args.time-shift-s s.args.d false (sym (c.before.before.before.either.ensures ∙ ap₂ ◌||◌ c.before.before.before.before.departure-given.ensures c₁.arrival-given.ensures) ∙ not_false _ c.before.before.if1.false) (sym c₁.arrival-given.ensures ∙ c.before.if2.false))
+    c.moved3.ensures ∙ sym (arrival-given s.args.arrival s.args.time-shift-s s.args.d false (sym (c.before.before.before.either.ensures ∙ ap₂ ◌||◌ c.before.before.before.before.departure-given.ensures c₁.arrival-given.ensures) ∙ not-false _ c.before.before.if1.false) (sym c₁.arrival-given.ensures ∙ c.before.if2.false))
 
 pub rt-effective-arr-s-spec : {M : Type 1} → statement M
 rt-effective-arr-s-spec =

@@ -25,7 +25,7 @@ use sound.WpLaws.{FmC, fm_of, WpFn-mono}
 use denote.RattleType.{owns}
 use denote.Laws.{Is, shows}
 use denote.Memory.{mem, cell_at, part_of}
-use denote.Plain.{Nothing, uint_vals, uint_tells, uint_makes}
+use denote.Plain.{Nothing, uint_vals, uint_Tells, uint_Makes}
 use denote.Builtin.{u32}
 use denote.Ref.{MutBor, MutRef}
 use denote.Lend.{lends_ref, ref_back}
@@ -38,7 +38,7 @@ use denote.Triple.Statement.{Contract, Triple}
 use denote.Triple.Call.{calls_at}
 use denote.Triple.Clauses.{ensured, lasts}
 use denote.Triple.Table.{entered, cited}
-use denote.Triple.Walked.{says, Stays, stay_none, walk_of, AllGo, Goes-none, Walks, ends_at, walked, walk_meets}
+use denote.Triple.Walked.{says, Stays, stay_none, walk_of, AllGo, Goes-none, Walks, ends_at, walked, walk_Meets}
 use denote.Exit.{yes}
 use Rattle.tally.specs.Tally.{with_call}
 use Rattle.tally.specs.declared.ScreenTally.{ScreenTally}
@@ -83,7 +83,7 @@ module _ {M : Type 1} {𝓤 : Ura M} (𝓛 : Logic 𝓤) (at_mem : Memory → SP
   exits r e =
       qed 𝓛 (‵ ((T.the_row).own_val r (mach r ∷ [])) ∷ []) ∵
       suffices ! _ (ends_at 𝓛 f.ended stayed (f.clauses 𝓛 at_mem run) ((tt, tt, tt, x, at), tt) (mach r) r (tt, (tt, tt)) (tt, (tt, tt))) $ says ! e $
-      nothing ! $ owned ! u32 (Is u32) (uint_makes 𝓛 w32) k _ (refl, k-fits) $ fjoin ! $
+      nothing ! $ owned ! u32 (Is u32) (uint_Makes 𝓛 w32) k _ (refl, k-fits) $ fjoin ! $
       owned ! T.the_row (Is T.the_row) ((LL.makes T.the_type T'.the_plain) 𝓛) h _ is $ fjoin ! $ nothing ! $ done !
 
   -- what `count`'s triple binds outside: the local l lent for the lifetime ν, under the name δ
@@ -96,7 +96,7 @@ module _ {M : Type 1} {𝓤 : Ura M} (𝓛 : Logic 𝓤) (at_mem : Memory → SP
   goes_in : (l ν : ℕ) (δ : GName) → ent 𝓤 (sep 𝓤 (A.lft (ν ∷ []) full_share) (sem 𝓛 ((MutRef (named 0) (ν ∷ []) T.the_row).own_val (lent_at l δ).0 (vptr l 0 ∷ [])))) ((Callee 𝓛 at_mem run).pre (to-callee l ν δ))
   goes_in l ν δ =
       qed 𝓛 (‵ (flft (ν ∷ []) full_share) ∷ ‵ ((MutRef (named 0) (ν ∷ []) T.the_row).own_val (lent_at l δ).0 (vptr l 0 ∷ [])) ∷ []) ∵ nothing ! $ move ! (1 ∷ 0 ∷ []) $ join ! $
-      nothing ! $ owned ! u32 (Is u32) (uint_makes 𝓛 w32) k _ (refl, k-fits) $ fjoin ! $ move ! (2 ∷ 0 ∷ []) $ fjoin ! $ move ! (1 ∷ 0 ∷ []) $ join ! $ frame ! $ done !
+      nothing ! $ owned ! u32 (Is u32) (uint_Makes 𝓛 w32) k _ (refl, k-fits) $ fjoin ! $ move ! (2 ∷ 0 ∷ []) $ fjoin ! $ move ! (1 ∷ 0 ∷ []) $ join ! $ frame ! $ done !
 
   module _ (C : Calls 𝓤 H) (Λ : Loops 𝓤 H) (fm : FmC 𝓤 H 𝓛.laws C) (known : Triple 𝓤 (C #tally·count) (Callee 𝓛 at_mem run)) where
     walk : ent 𝓤 (on_entry 𝓛 f.signature tt tt x at) (WpFn 𝓤 H C Λ code.function (mach h ∷ vint w32 k ∷ []) Post)
@@ -136,7 +136,7 @@ module _ {M : Type 1} {𝓤 : Ura M} (𝓛 : Logic 𝓤) (at_mem : Memory → SP
   open 𝓛 use {H}
 
   tallied-walks : (C : Calls 𝓤 H) (Λ : Loops 𝓤 H) → FmC 𝓤 H 𝓛.laws C → Triple 𝓤 (C #tally·count) (Callee 𝓛 at_mem run) → Walks 𝓛 f.ended stayed (WpFn 𝓤 H C Λ code.function) (f.clauses 𝓛 at_mem run)
-  tallied-walks C Λ fm known = walked 𝓛 f.ended stayed (f.clauses 𝓛 at_mem run) (WpFn 𝓤 H C Λ code.function) (λ κs. (LL.vals T.the_type T'.the_laws, (uint_vals w32, tt))) (λ κs. (LL.tells T.the_type T'.the_laws, (uint_tells w32, tt)))
+  tallied-walks C Λ fm known = walked 𝓛 f.ended stayed (f.clauses 𝓛 at_mem run) (WpFn 𝓤 H C Λ code.function) (λ κs. (LL.vals T.the_type T'.the_laws, (uint_vals w32, tt))) (λ κs. (LL.tells T.the_type T'.the_laws, (uint_Tells w32, tt)))
       (λ κs qs bounds a _ are. via 𝓤 _ (fst∗ 𝓤 _ (emp 𝓤)) (walk 𝓛 at_mem run a.0 a.1.0 are.0 are.1.0.1 C Λ fm known))
 
   goes : AllGo 𝓛 0 (f.signature).params (f.ended).kept stayed
@@ -144,7 +144,7 @@ module _ {M : Type 1} {𝓤 : Ura M} (𝓛 : Logic 𝓤) (at_mem : Memory → SP
 
 tallied-meets : {M : Type 1} {𝓤 : Ura M} (𝓛 : Logic 𝓤) (at_mem : Memory → SProp 𝓤) (run : Routine → Fun 𝓤) (𝓣 : Tables 𝓤 𝓛.H) → Triple 𝓤 (𝓣.C #tally·count) (Callee 𝓛 at_mem run)
     → Meets 𝓛 f.signature (WpFn 𝓤 𝓛.H 𝓣.C 𝓣.Λ code.function) (f.spec 𝓛 at_mem run)
-tallied-meets {𝓤 = 𝓤} 𝓛 at_mem run 𝓣 known = walk_meets 𝓛 f.ended stayed (goes 𝓛 at_mem run) (f.clauses 𝓛 at_mem run) (WpFn 𝓤 𝓛.H 𝓣.C 𝓣.Λ code.function) (WpFn-mono 𝓤 𝓛.H 𝓛.laws 𝓣 code.function) (tallied-walks 𝓛 at_mem run 𝓣.C 𝓣.Λ (fm_of 𝓤 𝓛.H 𝓛.laws 𝓣) known)
+tallied-meets {𝓤 = 𝓤} 𝓛 at_mem run 𝓣 known = walk_Meets 𝓛 f.ended stayed (goes 𝓛 at_mem run) (f.clauses 𝓛 at_mem run) (WpFn 𝓤 𝓛.H 𝓣.C 𝓣.Λ code.function) (WpFn-mono 𝓤 𝓛.H 𝓛.laws 𝓣 code.function) (tallied-walks 𝓛 at_mem run 𝓣.C 𝓣.Λ (fm_of 𝓤 𝓛.H 𝓛.laws 𝓣) known)
 
 pub tallied-spec : {M : Type 1} → stated.statement M
 unfolding code.routine tables_of

@@ -1,7 +1,7 @@
 use Rattle.target_resolving.proofs.Lines.{stands_below, resolve_absent, resolve_stands, stands_listed}
 use Rattle.target_resolving.specs.Resolving.{line_run_first, line_run_count}
 use Rattle.model.specs.Search.{resolve_in}
-use borrow.Author.Tests.{not-true, not_false}
+use borrow.Author.Tests.{not-true, not-false}
 use native.Mathlib.Omega.{arith}
 use native.Mathlib.Nat.{min-le_left}
 use Prim.Native.Nat.{ℕ, ◌+◌, ◌-◌, ◌<◌, min}
@@ -66,7 +66,7 @@ returns c =
 sub-smaller : tie.Need-sub-smaller
 sub-smaller c =
     let c₁ = c.before.before.before.before in
-    let lo : c.before.before.field4.result < c₁.field3.result = stands_below c.before.before.field4.result c₁.field3.result _ _ c.before.stands.ensures (not_false _ c.if1.left) in omega arith
+    let lo : c.before.before.field4.result < c₁.field3.result = stands_below c.before.before.field4.result c₁.field3.result _ _ c.before.stands.ensures (not-false _ c.if1.left) in omega arith
 
 cast-smaller : tie.Need-cast-smaller
 cast-smaller c = search rules
@@ -80,7 +80,7 @@ add-resolve-in c =
     let c₂ = c₁.before.before in
     let c₃ = c₂.before.before.before in
     let s = c₃.before.before.before.before.before.before.before.before.before in
-    let h = s.pre.1.1.0 in let u = s.pre.1.1.1.0 in let v = s.pre.1.1.1.1 in let lo : c₁.field4.result < c₂.field3.result = stands_below c₁.field4.result c₂.field3.result _ _ c.before.before.before.stands.ensures (not_false _ c.before.before.if1.left) in omega (arith, h.entries s.args.line u, c₃.field2.ensures.0, c₂.field3.ensures.0)
+    let h = s.pre.1.1.0 in let u = s.pre.1.1.1.0 in let v = s.pre.1.1.1.1 in let lo : c₁.field4.result < c₂.field3.result = stands_below c₁.field4.result c₂.field3.result _ _ c.before.before.before.stands.ensures (not-false _ c.before.before.if1.left) in omega (arith, h.entries s.args.line u, c₃.field2.ensures.0, c₂.field3.ensures.0)
 
 resolve-in-requires : tie.Need-resolve-in-requires
 resolve-in-requires c κs =
@@ -88,7 +88,7 @@ resolve-in-requires c κs =
     let c₂ = c₁.before.before in
     let c₃ = c₂.before.before.before in
     let s = c₃.before.before.before.before.before.before.before.before.before in
-    let h = s.pre.1.1.0 in let u = s.pre.1.1.1.0 in let v = s.pre.1.1.1.1 in let lo : c₁.field4.result < c₂.field3.result = stands_below c₁.field4.result c₂.field3.result _ _ c.before.before.before.stands.ensures (not_false _ c.before.before.if1.left) in (s.pre.0, (s.pre.1.0, omega (arith, h.entries s.args.line u, c₃.field2.ensures.0, c₂.field3.ensures.0, c.smaller.ensures, min-le_left (c₂.field3.result - c₁.field4.result) s.args.terms.line_scan)))
+    let h = s.pre.1.1.0 in let u = s.pre.1.1.1.0 in let v = s.pre.1.1.1.1 in let lo : c₁.field4.result < c₂.field3.result = stands_below c₁.field4.result c₂.field3.result _ _ c.before.before.before.stands.ensures (not-false _ c.before.before.if1.left) in (s.pre.0, (s.pre.1.0, omega (arith, h.entries s.args.line u, c₃.field2.ensures.0, c₂.field3.ensures.0, c.smaller.ensures, min-le_left (c₂.field3.result - c₁.field4.result) s.args.terms.line_scan)))
 
 returns-2 : tie.Need-returns-2
 returns-2 c =
@@ -98,7 +98,7 @@ returns-2 c =
     let c₄ = c₃.before.before.before in
     let c₅ = c₄.before.before in
     let s = c₅.before.before.before.before.before.before.before in
-    let h = s.pre.1.1.0 in let u = s.pre.1.1.1.0 in let v = s.pre.1.1.1.1 in let eb : c₁.stands.result ≡ (ltb c₂.field4.result (line_run_count s.args.lined s.args.built.now s.args.line) && eqb (get_or s.args.built.now (s.args.lined.entries + line_run_first s.args.lined s.args.built.now s.args.line + c₂.field4.result) 0) s.args.target) = c₁.stands.ensures ∙ ap₂ (λ (x y : ℕ). ltb c₂.field4.result x && eqb (get_or s.args.built.now (s.args.lined.entries + y + c₂.field4.result) 0) s.args.target) c₃.field3.ensures.0 c₄.field2.ensures.0 in let ek : c.before.smaller.result ≡ min (line_run_count s.args.lined s.args.built.now s.args.line - c₂.field4.result) s.args.terms.line_scan = c.before.smaller.ensures ∙ ap (λ (x : ℕ). min (x - c₂.field4.result) s.args.terms.line_scan) c₃.field3.ensures.0 in λ T Q e g q hl m el. resolve_stands T Q e s.args.after s.args.best s.args.c s.args.lined s.args.built.now s.args.work.now s.args.line s.args.target s.args.off c₂.field4.result s.args.terms.line_scan (eqb c₅.field.result 1) c₁.stands.result hl el u v q.line_scan c₂.field4.ensures.0 (ap (λ (x : ℕ). eqb x 1) c₅.field.ensures.0) eb m (not_false _ c.before.before.before.if1.left) _ (c.resolve-in.ensures T Q (T.line s.args.line).trip c₂.field4.result g q (stands_listed T Q e s.args.after s.args.best s.args.c s.args.lined s.args.built.now s.args.work.now s.args.line s.args.target s.args.off c₂.field4.result s.args.terms.line_scan (eqb c₅.field.result 1) c₁.stands.result hl el u v q.line_scan c₂.field4.ensures.0 (ap (λ (x : ℕ). eqb x 1) c₅.field.ensures.0) eb _ _ ek (ap (λ (x : ℕ). s.args.lined.entries + x + c₂.field4.result) c₄.field2.ensures.0)) ∙ ap (λ (k : ℕ). resolve_in T Q (eqb c₅.field.result 1) s.args.off s.args.after s.args.best (T.line s.args.line).trip k c₂.field4.result) ek)
+    let h = s.pre.1.1.0 in let u = s.pre.1.1.1.0 in let v = s.pre.1.1.1.1 in let eb : c₁.stands.result ≡ (ltb c₂.field4.result (line_run_count s.args.lined s.args.built.now s.args.line) && eqb (get_or s.args.built.now (s.args.lined.entries + line_run_first s.args.lined s.args.built.now s.args.line + c₂.field4.result) 0) s.args.target) = c₁.stands.ensures ∙ ap₂ (λ (x y : ℕ). ltb c₂.field4.result x && eqb (get_or s.args.built.now (s.args.lined.entries + y + c₂.field4.result) 0) s.args.target) c₃.field3.ensures.0 c₄.field2.ensures.0 in let ek : c.before.smaller.result ≡ min (line_run_count s.args.lined s.args.built.now s.args.line - c₂.field4.result) s.args.terms.line_scan = c.before.smaller.ensures ∙ ap (λ (x : ℕ). min (x - c₂.field4.result) s.args.terms.line_scan) c₃.field3.ensures.0 in λ T Q e g q hl m el. resolve_stands T Q e s.args.after s.args.best s.args.c s.args.lined s.args.built.now s.args.work.now s.args.line s.args.target s.args.off c₂.field4.result s.args.terms.line_scan (eqb c₅.field.result 1) c₁.stands.result hl el u v q.line_scan c₂.field4.ensures.0 (ap (λ (x : ℕ). eqb x 1) c₅.field.ensures.0) eb m (not-false _ c.before.before.before.if1.left) _ (c.resolve-in.ensures T Q (T.line s.args.line).trip c₂.field4.result g q (stands_listed T Q e s.args.after s.args.best s.args.c s.args.lined s.args.built.now s.args.work.now s.args.line s.args.target s.args.off c₂.field4.result s.args.terms.line_scan (eqb c₅.field.result 1) c₁.stands.result hl el u v q.line_scan c₂.field4.ensures.0 (ap (λ (x : ℕ). eqb x 1) c₅.field.ensures.0) eb _ _ ek (ap (λ (x : ℕ). s.args.lined.entries + x + c₂.field4.result) c₄.field2.ensures.0)) ∙ ap (λ (k : ℕ). resolve_in T Q (eqb c₅.field.result 1) s.args.off s.args.after s.args.best (T.line s.args.line).trip k c₂.field4.result) ek)
 
 pub resolve-line-spec : {M : Type 1} → statement M
 resolve-line-spec =

@@ -1,4 +1,4 @@
-use borrow.Author.Tests.{le-ltb, lt_ltb}
+use borrow.Author.Tests.{le-ltb, lt-ltb}
 use Prim.Native.Nat.{ℕ, ◌+◌}
 use lib.ListN.{get_or}
 use lib.Dec.{eqb}
@@ -18,7 +18,7 @@ field-requires : tie.Need-field-requires
 field-requires c κs = search rules
 
 returns-2 : tie.Need-returns-2
-returns-2 c = let s = c.before.before.before in ap (λ (x : ℕ). eqb x s.args.target) c.field.ensures.0 ∙ sym (ap (λ (b : Bool). b && eqb (get_or s.args.built.now (s.args.first + s.args.p) 0) s.args.target) (lt_ltb s.args.p s.args.count c.before.if1.false))
+returns-2 c = let s = c.before.before.before in ap (λ (x : ℕ). eqb x s.args.target) c.field.ensures.0 ∙ sym (ap (λ (b : Bool). b && eqb (get_or s.args.built.now (s.args.first + s.args.p) 0) s.args.target) (lt-ltb s.args.p s.args.count c.before.if1.false))
 
 pub stands-spec : {M : Type 1} → statement M
 stands-spec = tie.close (tie.spec returns add-field field-requires returns-2)

@@ -1,7 +1,7 @@
 use Rattle.transfers_call.specs.Call.{TransferLent, transfer_lent, transfers_question2, transfers_question3, transfers_question4, transfers_question5}
 use mathlib.Core.Path.{◌≡◌}
 use mathlib.Core.Bool.{true}
-use borrow.Author.Tests.{not_false, not-true}
+use borrow.Author.Tests.{not-false, not-true}
 use Rattle.door.proofs.Laws.{within}
 use Rattle.transfers_call.proofs.Asking.{FirstYes, answer1, answer2, answer3, answer4, answer5, answer6, need2, need3, need4, no1, no2, no3, no4, no5, no6, second, yes}
 use borrow.Author.Rules.{rules}
@@ -17,10 +17,10 @@ q1 c =
     within c.before.limits.ensures (answer1 (lent_at c.before.before.before.before.before.before.before.before.before) c.before.before.both2.ensures c.before.before.before.counts-ok.ensures c.before.before.before.before.both.ensures) c.if1.false
 
 q2 : (c : tie.Else2) → transfers_question2 (lent_at c.before.before.before.before.before.before.before.before.before.before.before) c.before.before.before.before.before.before.before.before.before.before.before.args.evs ≡ true
-q2 c = answer2 _ _ c.before.Lent-ok.ensures (not_false _ c.if2.false)
+q2 c = answer2 _ _ c.before.Lent-ok.ensures (not-false _ c.if2.false)
 
 q3 : (c : tie.Else3) → transfers_question3 (lent_at c.before.before.before.before.before.before.before.before.before.before.before.before.before.before.before) ≡ true
-q3 c = answer3 _ c.before.both3.ensures c.before.before.runs-ok.ensures c.before.before.before.stop-runs-ok.ensures (not_false _ c.if3.false)
+q3 c = answer3 _ c.before.both3.ensures c.before.before.runs-ok.ensures c.before.before.before.stop-runs-ok.ensures (not-false _ c.if3.false)
 
 q4 : (c : tie.Else4) → transfers_question4 (lent_at c.before.before.before.before.before.before.before.before.before.before.before.before.before.before.before.before.before.before.before.before.before) ≡ true
 q4 c =
@@ -28,10 +28,10 @@ q4 c =
     let c₂ = c₁.before.before.before.before.before.before.before.before.before.before in
     let c₃ = c₂.before.before in
     let size = (second (lent_at c₂.before.before) c₃.args.evs (q2 c₁.before)).sizes.lines_is in
-    answer4 _ c.before.both5.ensures c.before.before.numbers-ok.ensures c.before.before.before.both4.ensures c.before.before.before.before.lines_ok.ensures size c.before.before.before.before.before.listed_ok.ensures (not_false _ c.if4.false)
+    answer4 _ c.before.both5.ensures c.before.before.numbers-ok.ensures c.before.before.before.both4.ensures c.before.before.before.before.lines_ok.ensures size c.before.before.before.before.before.listed_ok.ensures (not-false _ c.if4.false)
 
 q5 : (c : tie.Else5) → transfers_question5 (lent_at c.before.before.before.before.before.before.before.before.before.before.before.before.before.before.before.before.before.before.before.before.before.before.before) ≡ true
-q5 c = answer5 _ c.before.ranges-ok.ensures (not_false _ c.if5.false)
+q5 c = answer5 _ c.before.ranges-ok.ensures (not-false _ c.if5.false)
 
 both-requires : tie.Need-both-requires
 both-requires c κs = search rules
@@ -139,7 +139,7 @@ returns-7 c =
     let c₁ = c.before.before.before.before.before.before.before.before.before in
     let c₂ = c₁.before.before.before.before in
     let c₃ = c₂.before.before in
-    yes _ _ (q1 c₃.before) (q2 c₂.before) (q3 c₁.before) (q4 c.before.before.before.before) (q5 c.before.before) (answer6 _ c.before.order-ok.ensures (not_false _ c.if6.false))
+    yes _ _ (q1 c₃.before) (q2 c₂.before) (q3 c₁.before) (q4 c.before.before.before.before) (q5 c.before.before) (answer6 _ c.before.order-ok.ensures (not-false _ c.if6.false))
 
 pub questions-spec : {M : Type 1} → statement M
 questions-spec =

@@ -1,7 +1,7 @@
 use Rattle.transfers_call.proofs.Written.{settle_most, settle_no, settle_yes}
 use Rattle.event_transfers.specs.Packed.{prepared}
 use Rattle.transfers_call.specs.Call.{transfer_areas}
-use borrow.Author.Tests.{not_false, not-true}
+use borrow.Author.Tests.{not-false, not-true}
 use borrow.Author.Rules.{rules}
 use Rattle.transfers_call.proofs.settle.Statement.{statement}
 use Rattle.transfers_call.proofs.settle.Tie as tie
@@ -61,7 +61,7 @@ returns-3 c =
     let c₂ = c₁.before in
     let c₃ = c₂.before in
     let c₄ = c₃.before.before.before.before.before.before.before.before.before.before in
-    settle_yes (prepared c₄.args.tables.now c₄.args.c c₄.args.runs.now c₄.args.work.now c₄.args.time) (transfer_areas c₄.args.area.now c₄.args.transfer-runs.now) _ _ _ _ _ c₃.total.ensures c₂.room-ok2.ensures (not_false _ c₁.if2.false) c.before.before.before.before.all-events2.ensures.0
+    settle_yes (prepared c₄.args.tables.now c₄.args.c c₄.args.runs.now c₄.args.work.now c₄.args.time) (transfer_areas c₄.args.area.now c₄.args.transfer-runs.now) _ _ _ _ _ c₃.total.ensures c₂.room-ok2.ensures (not-false _ c₁.if2.false) c.before.before.before.before.all-events2.ensures.0
 
 pub settle-spec : {M : Type 1} → statement M
 settle-spec =

@@ -3,7 +3,7 @@ use Rattle.model.specs.Search.{skipped}
 use Rattle.trip_boarding.specs.Reads.{hit_of}
 use mathlib.Core.Bool.{Bool, true, false, ◌||◌}
 use mathlib.Core.Path.{◌∙◌, ap₂}
-use borrow.Author.Tests.{not-true, not_false}
+use borrow.Author.Tests.{not-true, not-false}
 use Rattle.trip_scan.proofs.Alighting.{shut_by}
 use borrow.Author.Rules.{rules}
 use Rattle.trip_scan.proofs.shut.Statement.{statement}
@@ -24,7 +24,7 @@ either-requires c κs = search rules
 returns-2 : tie.Need-returns-2
 returns-2 c =
     let c₁ = c.before.before.before.before.before.before.before in
-    let x = c₁.args in λ T Q y. c.either.ensures ∙ ap₂ (λ (x z : Bool). x || z) (c.before.before.before.no-drop-off.ensures T Q y) (c.before.skipped.ensures T Q y) ∙ shut_by x.tested true (no_drop_off T x.trip x.off || skipped T Q (hit_of x.adj) x.trip x.off) (no_drop_off T x.trip x.off) (not_false x.tested c.before.before.if1.false)
+    let x = c₁.args in λ T Q y. c.either.ensures ∙ ap₂ (λ (x z : Bool). x || z) (c.before.before.before.no-drop-off.ensures T Q y) (c.before.skipped.ensures T Q y) ∙ shut_by x.tested true (no_drop_off T x.trip x.off || skipped T Q (hit_of x.adj) x.trip x.off) (no_drop_off T x.trip x.off) (not-false x.tested c.before.before.if1.false)
 
 pub shut-spec : {M : Type 1} → statement M
 shut-spec =

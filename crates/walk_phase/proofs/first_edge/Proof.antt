@@ -2,7 +2,7 @@ use Prim.Native.Nat.{◌-◌}
 use native.Mathlib.Omega.{arith}
 use lib.Dec.{leb}
 use borrow.Author.Rules.{rules}
-use borrow.Author.Tests.{le_leb, lt-leb}
+use borrow.Author.Tests.{le-leb, lt-leb}
 use Rattle.loops.specs.Order.{Halved}
 use Rattle.loops.proofs.Search.{halved_start, halved_up, halved_down, halved_end, keys_stay}
 use Rattle.tables.specs.Tables.{edge_of}
@@ -45,7 +45,7 @@ loop-less-2 c = omega arith
 loop-again-2 : tie.Need-loop-preserved-2 invariant-loop decreases-loop
 loop-again-2 c =
     let c₁ = c.before.before.before.before.before in
-    halved_down _ _ _ _ _ (keys_stay (λ i. edge_of c₁.args.tables.now c₁.args.c i 0) c₁.args.x _ (edges_rising _ _ c₁.requires.1)) c.before.before.before.loop.invariant (le_leb _ _ (rw c.before.edge.ensures.0 at c.if1.false)) (omega arith) (omega arith)
+    halved_down _ _ _ _ _ (keys_stay (λ i. edge_of c₁.args.tables.now c₁.args.c i 0) c₁.args.x _ (edges_rising _ _ c₁.requires.1)) c.before.before.before.loop.invariant (le-leb _ _ (rw c.before.edge.ensures.0 at c.if1.false)) (omega arith) (omega arith)
 
 returns : tie.Need-returns invariant-loop decreases-loop
 returns c = halved_end _ _ _ _ c.before.loop.invariant (omega arith)

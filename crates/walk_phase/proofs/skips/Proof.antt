@@ -1,4 +1,4 @@
-use borrow.Author.Tests.{not-true, not_false}
+use borrow.Author.Tests.{not-true, not-false}
 use mathlib.Core.Bool.{Bool, not, ◌&&◌}
 use mathlib.Core.Path.{sym, ap, ◌∙◌}
 use Rattle.model.specs.Search.{holds_target}
@@ -16,7 +16,7 @@ returns-2 : tie.Need-returns-2
 returns-2 c =
     let c₁ = c.before.before.before.before.before in
     λ T Q g e.
-    ap not (c.Holds-target.ensures T Q g e) ∙ sym (ap (λ (b : Bool). b && not (holds_target T Q c₁.args.p)) (not_false c₁.args.ctx.flagged c.before.before.if1.false))
+    ap not (c.Holds-target.ensures T Q g e) ∙ sym (ap (λ (b : Bool). b && not (holds_target T Q c₁.args.p)) (not-false c₁.args.ctx.flagged c.before.before.if1.false))
 
 pub skips-spec : {M : Type 1} → statement M
 skips-spec = tie.close (tie.spec returns holds-target-requires returns-2)

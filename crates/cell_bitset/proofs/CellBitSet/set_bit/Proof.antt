@@ -1,6 +1,6 @@
 use Prim.Native.Nat.{◌/◌, ◌<◌, ◌≤◌}
 use native.Mathlib.Omega.{arith}
-use borrow.Author.Tests.{lt_ltb, le-ltb}
+use borrow.Author.Tests.{lt-ltb, le-ltb}
 use Rattle.cell_bitset.specs.CellSet.{reserved_of}
 use Rattle.cell_bitset.proofs.Bits.{one_shl}
 use borrow.Author.Rules.{rules}
@@ -28,7 +28,7 @@ element-write-self c = search rules
 returns : tie.Need-returns
 returns c =
     let h : c.before.before.before.args.cell / 8 < reserved_of c.before.before.before.args.t1 = omega arith in
-    simp (one_shl, lt_ltb _ _ h)
+    simp (one_shl, lt-ltb _ _ h)
 
 returns-2 : tie.Need-returns-2
 returns-2 c =
