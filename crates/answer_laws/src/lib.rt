@@ -6,3 +6,5 @@
 // reached lists fit (Reached); that the segment queue never fills without frequency trips (Queue `queue_never_fills`); what "no way" says, and that
 // without arc flags no segment is queued (Calls).
 // Assumes nothing.
+
+#![tactic(auto)]

@@ -3,6 +3,8 @@
 // Specs (inner): egress rows, earliest arrivals and labels as the slices hold them (Totals).
 // Proves: each function equal to the model's definition of the same name, for all states that agree.
 // Assumes nothing.
+#![tactic(auto)]
+
 ghost use Rattle.std.specs.Prelude.{◌≡◌, suc, ◌+◌, ◌*◌, ◌/◌, ◌≤◌, ◌<◌, length, ◌&&◌, ltb, leb, ◌⊎◌};
 ghost use Rattle.model.specs.Tables.{Tables, Query, never};
 ghost use Rattle.model.specs.Search.{Arrivals, best_target, row_target, reached_by, candidates_from};

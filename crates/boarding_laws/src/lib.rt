@@ -7,3 +7,5 @@
 // frequency trip is its earliest run with its waiting; target resolving hands it on as it is (`query_boards`). A boarding has the
 // departure, shift, window and run that it had, and `query` and `run_tbr` answer every query as they did (`as_before`).
 // Assumes nothing.
+
+#![tactic(auto)]

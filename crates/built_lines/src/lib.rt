@@ -4,3 +4,5 @@
 // Proves, of any timetable: what the lines call writes lists as built; built lines list every trip once, so that their layout is
 // what it should be: a trip's position is its place, and in a FIFO line a trip with a lower position is nowhere later.
 // Assumes nothing.
+
+#![tactic(auto)]

@@ -4,6 +4,8 @@
 // Proves: a word is the number of its bytes; each test by the word says what the test of every byte says, by one law over the width (proofs/Words
 // `word_and`: the `and` of two words is 0 exactly if the `and` of every two of their bytes is).
 // Assumes nothing.
+#![tactic(auto)]
+
 ghost use Rattle.std.specs.Prelude.{◌≡◌, ℕ, ◌+◌, ◌*◌, ◌%◌, ◌^◌, ◌≤◌, ◌<◌, not, length};
 ghost use Rattle.loops.specs.Iter.{some_in};
 ghost use Rattle.byte_words.specs.ByteWord.{byte_in, word_of, words_of, Bytes, has_bit, both_have};

@@ -7,6 +7,8 @@
 // made hold and keep, and that two sets meet exactly where their bytes share a bit; in proofs/WellFormed that whole groups
 // stay whole groups with nothing past them; in proofs/Examples the worked examples.
 // Assumes nothing.
+#![tactic(auto)]
+
 ghost use Rattle.std.specs.Prelude.{◌≡◌, ◌≤◌, min, get_or};
 ghost use Rattle.std.specs.Int.Bits.{bit_or};
 ghost use Rattle.loops.specs.Count.{tab};

@@ -4,6 +4,8 @@
 // Specs (claim): the questions and the outcome of each call (CellSetCall). What a set then holds is defined in `cell_bitset`.
 // Proves: each call's outcome is the defined one, on every value of the struct; the limits and question 14 as computed rows (proofs/Examples).
 // Assumes nothing.
+#![tactic(auto)]
+
 ghost use Rattle.std.specs.Prelude.{◌≡◌};
 ghost use Rattle.cell_set_call.specs.CellSetCall.{created, resized, with_cell_answer, union_answer};
 ghost use Rattle.door.specs.Door.{success};

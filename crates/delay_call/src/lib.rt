@@ -4,6 +4,8 @@
 // Specs (claims): the questions and the outcome of both calls (DelayCall). Rows, look-up and margin are defined in `delay_rows`.
 // Proves: each call's outcome is the defined one, on every input; worked rows (proofs/DelayExamples).
 // Assumes nothing.
+#![tactic(auto)]
+
 ghost use Rattle.std.specs.Prelude.{◌≡◌};
 ghost use Rattle.delay_call.specs.DelayCall.{delay_counts, delay_lengths, delays_door, margin_outcome, told, delay_at_outcome};
 ghost use Rattle.delay_rows.specs.Delays.{margin};

@@ -5,6 +5,8 @@
 // without a no gives tables with one row for a trip and one for a stop time, and delays in their range; that without a delay row the
 // margin is 0; that the margin covers every trip delay and every given stop delay, or is the cap.
 // Assumes nothing.
+#![tactic(auto)]
+
 ghost use Rattle.std.specs.Prelude.{◌≡◌, cond, ◌+◌, ◌*◌, ◌<◌, length, leb};
 ghost use Rattle.loops.specs.Iter.{hit};
 ghost use Rattle.loops.specs.Order.{Halved};

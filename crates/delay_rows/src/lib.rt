@@ -7,6 +7,8 @@
 // 6 of the rows); these are claims. Asked (how the code asks) is inner.
 // Proves: each question is answered as its definition, on every input.
 // Assumes nothing.
+#![tactic(auto)]
+
 ghost use Rattle.std.specs.Prelude.{◌≡◌, ◌-◌, ◌<◌};
 ghost use Rattle.loops.specs.Iter.{every_in};
 ghost use Rattle.delay_rows.specs.Flat.{delay_row_count, stop_row_count, delay_row_at, stop_row_at, delay_tables};

@@ -3,6 +3,8 @@
 // Specs: the order of a stop's departures, and of all (Order, a claim: the query's question 6 names it); what the pass gives (Turn, inner).
 // Proves: `departure_order` answers the question; `in_turn` reads each row once, and its yes is a yes to both questions.
 // Assumes nothing.
+#![tactic(auto)]
+
 ghost use Rattle.std.specs.Prelude.{◌≡◌, ◌*◌, ◌≤◌, ◌<◌, true, length, leb};
 ghost use Rattle.tables.specs.Timetable.{timetable};
 ghost use Rattle.tables.specs.Sane.{SlicesOk, CountsOk, RunsOk};

@@ -5,6 +5,8 @@
 // model's `boarding`, and each scan is the model's of the same name on the state in memory, for all tables, queries and states that agree with what
 // is read; what is read stays as it came.
 // Assumes nothing.
+#![tactic(auto)]
+
 ghost use Rattle.std.specs.Prelude.{◌≡◌, ◌+◌, ◌/◌, ◌≤◌, ◌<◌, ◌-◌, ◌||◌, not, ◌&&◌, length, leb};
 ghost use Rattle.loops.specs.Order.{Halved};
 ghost use Rattle.tables.specs.Timetable.{timetable};

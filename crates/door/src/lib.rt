@@ -6,6 +6,8 @@
 // Proves: that the two ways to make an answer are those of the definition, and question 14 with the one that is asked before or after it.
 // In proofs/House: what a yes to question 14 gives, each range's ends.
 // Assumes nothing.
+#![tactic(auto)]
+
 ghost use Rattle.std.specs.Prelude.{◌≡◌, ◌&&◌, ◌||◌};
 ghost use Rattle.door.specs.Door.{ask, refusal, success};
 ghost use Rattle.door.specs.Settings.{default_settings, settings_ok, ranges_asked};

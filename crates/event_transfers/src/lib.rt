@@ -4,6 +4,8 @@
 // Specs: the transfers of a timetable (Transfers, a claim); how the code holds a departure in one number and writes row by row (Packed, inner).
 // Proves: each function meets its definition of Packed, which `transfers_call` shows to be Transfers' own; how many events there are.
 // Assumes nothing.
+#![tactic(auto)]
+
 ghost use Rattle.std.specs.Prelude.{◌≡◌, ◌+◌, ◌-◌, ◌/◌, ◌≤◌, ◌<◌, ℕ, min, length, get_or, drop, ltb, leb, eqb};
 ghost use Rattle.loops.specs.Count.{one};
 ghost use Rattle.door.specs.Settings.{transfer_time_limit};

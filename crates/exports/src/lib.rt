@@ -7,6 +7,8 @@
 // Place: the library's own crate.
 // Proves: each call's whole outcome is its crate's definition of it, for a screen of 0 to 63; the tally at exit, on every input.
 // Assumes nothing.
+#![tactic(auto)]
+
 ghost use Rattle.std.specs.Prelude.{◌≡◌};
 ghost use Rattle.tally.specs.Screen.{for_screen, tally_after};
 ghost use Rattle.door.specs.Door.{refusal};

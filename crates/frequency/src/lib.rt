@@ -9,6 +9,8 @@
 // two formulas of the wait one number (Waits); the Rust's arithmetic with its limit of 32 tries gives the same departure and shift (Rust).
 // Worked examples: `frequency_call`.
 // Assumes nothing.
+#![tactic(auto)]
+
 ghost use Rattle.std.specs.Prelude.{◌≡◌, ◌-◌, ◌≤◌, ◌<◌};
 ghost use Rattle.frequency.specs.Gtfs.{no_headways, boarding_of, board_ordinary};
 ghost use Rattle.frequency.specs.Gtfs.{window_count, window_from, window_in, earliest_freq_board, Nominal};

@@ -5,6 +5,8 @@
 // Proves: the call's outcome is the defined one, on every input; it tells the earliest boarding with its waiting, or that there is none
 // (`freq_told`); the worked rows of documents 01 and 02 (proofs/FrequencyExamples).
 // Assumes nothing.
+#![tactic(auto)]
+
 ghost use Rattle.std.specs.Prelude.{◌≡◌, ◌<◌};
 ghost use Rattle.frequency.specs.Gtfs.{window_count, window_in};
 ghost use Rattle.frequency_call.specs.FrequencyCall.{are_times, window_in_range, windows_in_range, freq_in_range, freq_outcome, no_board};

@@ -6,3 +6,5 @@
 // the ride's row or a lower one (`query_joined`, `run_tbr_joined`); with or without them no sooner than that label (`query_joined_departures`,
 // `run_tbr_joined_departures`).
 // Assumes nothing.
+
+#![tactic(auto)]

@@ -7,6 +7,8 @@
 // Proves: each function meets its definition; in proofs/Laws that a label stored and loaded is the same label, its distance with it; that a store
 // changes no other record; that records of different stops or rows are different. Distances are equal as the prover's floats are: it has one NaN.
 // Assumes nothing. (That a record lies in both slices is required of a caller; the call asks it.)
+#![tactic(auto)]
+
 ghost use Rattle.std.specs.Prelude.{◌≡◌, ◌<◌, length, replicate};
 ghost use Rattle.label.specs.Label.{row_of, label_of, no_distance};
 ghost use Rattle.label.specs.Table.{InTable, record_of, label_row_at, loaded, put_words, put_distance};

@@ -4,6 +4,8 @@
 // Proves: each call meets its definition for every input, refusals included; in proofs/Calls that a label stored by a call and loaded by
 // one is the same label, and that a store, made or refused, changes no load of another record; in proofs/Examples a label of each kind.
 // Assumes nothing.
+#![tactic(auto)]
+
 ghost use Rattle.std.specs.Prelude.{◌≡◌};
 ghost use Rattle.label.specs.Table.{lengths_right};
 ghost use Rattle.label_call.specs.Calls.{stops_below, place_code, label_outcome, store_outcome, refused_label, load_answer};

@@ -3,6 +3,8 @@
 // Specs (a claim): its questions in order and what it answers and writes (Call). What the flags and positions are: `line_layout`.
 // Proves: the call's outcome is the defined one on every input, on lines made by hand too. In proofs/Examples: Timetable K, computed.
 // Assumes nothing.
+#![tactic(auto)]
+
 ghost use Rattle.std.specs.Prelude.{◌≡◌, ◌≤◌, length};
 ghost use Rattle.layout_call.specs.Call.{layout_areas, layout_sizes_ok, layout_verdict, layout_made, layout_outcome, layout_outcome_of};
 ghost use Rattle.layout_call.specs.Call.{LayoutAdmitted};

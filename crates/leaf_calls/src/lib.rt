@@ -7,6 +7,8 @@
 // Proves: each call's outcome is the defined one, on every input; of clock readings that none is above 172,799, and that two are equal only if
 // hours, minutes and seconds are; document 01's worked rows (proofs/..Examples).
 // Assumes nothing.
+#![tactic(auto)]
+
 ghost use Rattle.std.specs.Prelude.{◌≡◌, true};
 ghost use Rattle.leaf_calls.specs.ClockCall.{clock_in_range, reading, service_second};
 ghost use Rattle.leaf_calls.specs.StopDelayCall.{time_in_range, departure_outcome, arrival_outcome, skipped_outcome};

@@ -7,6 +7,8 @@
 // later; a trip's position is its place where it is listed last, 4,294,967,295 where no line lists it; where every trip is listed once,
 // in its line, its position is its place there.
 // Assumes nothing.
+#![tactic(auto)]
+
 ghost use Rattle.std.specs.Prelude.{◌≡◌, ◌+◌, ◌*◌, ◌-◌, ◌≤◌, ◌<◌, eqb, length, get_or, set};
 ghost use Rattle.loops.specs.Count.{tab, one};
 ghost use Rattle.loops.specs.Iter.{every_in};

@@ -5,6 +5,8 @@
 // trips have one line exactly if they have the same stops in the same order; every trip stands once among the entries, in its line's run; lines are
 // numbered by first trip.
 // Assumes nothing.
+#![tactic(auto)]
+
 ghost use Rattle.std.specs.Prelude.{◌≡◌, ◌+◌, ◌≤◌, ◌<◌, length, get_or};
 ghost use Rattle.loops.specs.Count.{tab};
 ghost use Rattle.loops.specs.Iter.{every_in, range};

@@ -5,6 +5,8 @@
 // Proves: each test is the model's of the same name and `note` is its `board`, for all tables and queries that agree with what they read; all else in
 // memory is as it came. proofs/Rounds: the boardings of a new round.
 // Assumes nothing.
+#![tactic(auto)]
+
 ghost use Rattle.std.specs.Prelude.{◌≡◌, ℕ, ◌≤◌, ◌<◌, true, List, length, get_or};
 ghost use Rattle.tables.specs.declared.Counts.{Counts};
 ghost use Rattle.trip_boarding.specs.Reads.{hit_of};

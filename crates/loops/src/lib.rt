@@ -4,3 +4,5 @@
 // Proves: one law for each need of such a loop (as it begins, one turn, each way out), what a check or a search says
 // of each number, and that halving an interval finds the first number that passes a test that stays passed.
 // Assumes nothing. There is no code here.
+
+#![tactic(auto)]

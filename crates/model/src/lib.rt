@@ -12,3 +12,5 @@
 // How: a plain search (PlainSearch) that does what the full one does on a steady day (Delayed, Simulation) covers every journey
 // (Coverage to Optimal) and reaches a stop only by a way (Ways, PlainTotals).
 // Assumes nothing.
+
+#![tactic(auto)]

@@ -9,3 +9,5 @@
 // query breaks demand 3 (`needs_rides`, `needs_arrivals`, `needs_departures`, `needs_not_late`, `needs_not_early`, `needs_one_arrival`; of delays of
 // whole trips also `needs_after_zero`).
 // Assumes nothing.
+
+#![tactic(auto)]

@@ -8,3 +8,5 @@
 // excluded were then (Alike, Changes), so that demand 3 holds at the end of the chain (Chain). Instances: Timetable K as lent slices (Instance), a
 // steady day with delays (SteadyInstance), and both through the calls' outcomes (ChainInstance `whole_k`, `whole_d`).
 // Assumes nothing.
+
+#![tactic(auto)]

@@ -5,6 +5,8 @@
 // Proves: each call's whole outcome is its definition, on every input. Inside: after `search` memory holds the model's `final` in the mode of the
 // call, or question 8 is answered no. The three demands of the calls: crate `promise`.
 // Assumes nothing.
+#![tactic(auto)]
+
 ghost use Rattle.std.specs.Prelude.{◌≡◌, List, ℕ, ◌/◌, length, Float};
 ghost use Rattle.query_call.specs.Workspace.{workspace_answer};
 ghost use Rattle.search_state.specs.View.{memory};

@@ -7,6 +7,8 @@
 // gives the model's door. In proofs/Converse: question 6 finds departures and egress stops in order where the model's door has them so. In
 // proofs/Examples: Timetable K passes, damaged copies are refused.
 // Assumes nothing.
+#![tactic(auto)]
+
 ghost use Rattle.std.specs.Prelude.{◌≡◌, ◌+◌, ◌*◌, ◌≤◌, ◌-◌, ◌<◌, length, true, ltb};
 ghost use Rattle.tables.specs.Sane.{SlicesOk};
 ghost use Rattle.query_input.specs.Lent.{transfer_runs_at, built_size, marks_at, query_size, delays_of, stop_runs, departure_rows, lent};

@@ -3,6 +3,8 @@
 // Specs: where each section stands, the tables and the query that the lent slices say (Lent, a claim); what the door's yes gives (Sane, inner).
 // Proves: each function meets its definition; in proofs/Laws that what the door admits is what the model's door admits.
 // Assumes nothing.
+#![tactic(auto)]
+
 ghost use Rattle.std.specs.Prelude.{◌≡◌, ◌+◌, ◌*◌, ◌≤◌, ◌<◌, length, get_or, eqb};
 ghost use Rattle.query_input.specs.Lent.{marks_at, transfer_runs_at, query_size, section, line_runs, line_entries, stop_runs, departure_rows};
 ghost use Rattle.query_input.specs.Lent.{delay_rows, stop_rows, egress_part, transfer_runs, transfer_rows};

@@ -4,6 +4,8 @@
 // are given and leave (Finish, inner).
 // Proves: after the rounds the reply, the candidate rows and the cleared areas are as the outcome says.
 // Assumes nothing.
+#![tactic(auto)]
+
 ghost use Rattle.std.specs.Prelude.{◌≡◌, false, length};
 ghost use Rattle.model.specs.Tables.{Tables, Query};
 ghost use Rattle.model.specs.Search.{Arrivals};

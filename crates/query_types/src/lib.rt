@@ -3,6 +3,8 @@
 // Specs: where each section of the working numbers begins, and how many numbers there are in all (Layout; the size is a claim, a caller lends it).
 // Proves: each section begins where Layout says.
 // Assumes nothing.
+#![tactic(auto)]
+
 ghost use Rattle.std.specs.Prelude.{◌≡◌, ◌≤◌};
 ghost use Rattle.query_types.specs.Layout.{stamps_at, reach_at, rest_at, positions_at, fifo_at, events_at, trip_stamps_at, boarded_offsets_at};
 ghost use Rattle.query_types.specs.Layout.{boarded_departures_at, line_stamps_at, heads_at, links_at, least_at, work_size, lay_for, Few};

@@ -4,6 +4,8 @@
 // how many differed. All calls count in one tally, zero at first, which lines of the list compare with the list's own count.
 // Place: a program; it has no specs.
 // Proves: that it is safe and ends. Assumes the contracts of the kit's io and libc.
+#![tactic(auto)]
+
 mod building;
 mod cases;
 mod chains;

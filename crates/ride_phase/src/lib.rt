@@ -5,6 +5,8 @@
 // Proves: each function is the model's of the same name on the state in memory, for all tables and queries that agree with what is read; what is read
 // stays as it came.
 // Assumes nothing.
+#![tactic(auto)]
+
 ghost use Rattle.std.specs.Prelude.{◌≡◌, [], ◌∷◌, ◌+◌, ◌*◌, ◌-◌, ◌≤◌, ◌/◌, ◌<◌, length, get_or, cond, eqb};
 ghost use Rattle.tables.specs.Timetable.{timetable};
 ghost use Rattle.model.specs.Search.{ride_segments, scan_stops};

@@ -4,6 +4,8 @@
 // Proves: `round` is the model's on the state in memory, or a segment does not fit in the queue, and what is read stays as it came; after `rounds`
 // memory holds the model's `final` of the tables and the query that the lent slices say, or question 8 is answered no.
 // Assumes nothing.
+#![tactic(auto)]
+
 ghost use Rattle.std.specs.Prelude.{◌≡◌, length, ◌||◌, ◌/◌};
 ghost use Rattle.search_state.specs.View.{memory};
 ghost use Rattle.rounds.specs.Round.{BeforeRound, Round, idle_head, read, filled};

@@ -5,6 +5,8 @@
 // Proves: after `begin` memory holds the model's `begin` of the tables and the query that the lent slices say, and all that the rounds read.
 // proofs/Turns: from one phase to the next.
 // Assumes nothing.
+#![tactic(auto)]
+
 ghost use Rattle.std.specs.Prelude.{◌≡◌, Bool, ◌+◌, ◌≤◌, ◌<◌, [], length, get_or, set, replicate};
 ghost use Rattle.label.specs.Label.{no_distance};
 ghost use Rattle.search_state.specs.Places.{WorkSized, Sized, EgressTable, turned};

@@ -7,6 +7,8 @@
 // (Written). proofs/Steps, Queue: how calls compose (step_as, step-then, queue_step, queue_then; alight and transfer are
 // callers); proofs/Labels: the label slices are the words and distances of the model's labels (labels_are).
 // Assumes nothing.
+#![tactic(auto)]
+
 ghost use Rattle.std.specs.Prelude.{◌≡◌, ℕ, ◌+◌, ◌*◌, ◌-◌, ◌/◌, ◌≤◌, ◌<◌, false, cond, List, length, set, Float};
 ghost use Rattle.label.specs.Label.{no_distance};
 ghost use Rattle.tables.specs.Timetable.{timetable};

@@ -3,6 +3,8 @@
 // Specs (a claim): what the bits mean is the language's own reading of an i32 (`to_z w32`); a time moved by signed seconds stops at 0.
 // Proves: size, moved time and difference are those of the integers that the bits mean.
 // Assumes nothing.
+#![tactic(auto)]
+
 ghost use Rattle.std.specs.Prelude.{◌≡◌, ◌<◌, pos, nat_abs, ◌+ℤ◌};
 ghost use Rattle.std.proofs.Math.IntN.{sub_ℕ};
 ghost use Rattle.signed.specs.Signed.{of_bits, floored, bits_of};

@@ -4,6 +4,8 @@
 // Specs (a claim): what a call shows of an outcome (Shown).
 // Proves: each call's whole outcome is the call crate's definition of it.
 // Assumes nothing.
+#![tactic(auto)]
+
 ghost use Rattle.std.specs.Prelude.{◌≡◌};
 ghost use Rattle.departures_call.specs.Call.{sort_areas, sort_outcome_of, sort_outcome};
 ghost use Rattle.lines_call.specs.Call.{line_areas, lines_answer, lines_outcome};

@@ -3,6 +3,8 @@
 // Specs (a claim): the counts made of those numbers (Counts).
 // Proves: every function equal to its definition.
 // Assumes nothing.
+#![tactic(auto)]
+
 ghost use Rattle.std.specs.Prelude.{◌≡◌};
 ghost use Rattle.sizes.specs.Counts.{counts_of, gathered, query_counts_of};
 

@@ -6,6 +6,8 @@
 // Proves: every function equal to its definition; that without a delay row times stand; that effective times are at most
 // 2,097,150 where question 5 is answered yes.
 // Assumes nothing.
+#![tactic(auto)]
+
 ghost use Rattle.std.specs.Prelude.{◌≡◌, ◌<◌};
 ghost use Rattle.stop_delay.specs.Times.{departure_given, arrival_given, skipped_at, no_delay, effective_departure, effective_arrival};
 ghost use Rattle.stop_delay.specs.Door.{size_ok};

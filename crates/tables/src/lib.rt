@@ -5,6 +5,8 @@
 // row by row (Door), what a yes gives (Sane).
 // Proves: each test answers exactly its definition; a timetable that passes has the facts that inner functions need.
 // Assumes nothing.
+#![tactic(auto)]
+
 ghost use Rattle.std.specs.Prelude.{◌≡◌, ◌&&◌, ◌+◌, ◌*◌, ◌<◌};
 ghost use Rattle.tables.specs.Tables.{time_of, trip_of, edge_of, window_of, stop_time_at, trip_at, window_at, edge_at};
 ghost use Rattle.tables.specs.Door.{counts_ok, slices_ok, trip_runs, stop_time_numbers, edge_numbers, stop_time_ranges, trip_ranges, window_ranges};

@@ -8,6 +8,8 @@
 // Proves: every function equal to its definition; in proofs/Laws what a screen shows after any calls, that the other screens' calls do not change
 // it, and the sum over all screens; in proofs/Gate a call for a screen by its two cases; in proofs/Examples rows by computation.
 // Assumes nothing.
+#![tactic(auto)]
+
 ghost use Rattle.std.specs.Prelude.{◌≡◌, ◌≤◌};
 ghost use Rattle.tally.specs.Tally.{one_more, with_call, tally_with};
 

@@ -3,6 +3,8 @@
 // Specs (inner): one trip of a line tried; the lines' tables as `built` and the workspace hold them (Resolving).
 // Proves: each function equal to the model's definition of the same name, for all tables and queries that agree with what is read.
 // Assumes nothing.
+#![tactic(auto)]
+
 ghost use Rattle.std.specs.Prelude.{◌≡◌, ℕ, ◌+◌, ◌≤◌, ◌<◌, min, ◌&&◌, List, length, get_or, ltb, leb, eqb};
 ghost use Rattle.tables.specs.Timetable.{timetable};
 ghost use Rattle.tables.specs.Sane.{CountsOk, Sane};

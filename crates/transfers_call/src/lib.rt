@@ -5,6 +5,8 @@
 // Proves: the call's outcome is the defined one on every input. In proofs/Laws: what each transfer is, and that an event's
 // run, read out of the area, is its list of transfers.
 // Assumes nothing.
+#![tactic(auto)]
+
 ghost use Rattle.std.specs.Prelude.{◌≡◌, ◌&&◌, ◌≤◌, ◌<◌, length, get_or};
 ghost use Rattle.loops.specs.Count.{tab};
 ghost use Rattle.door.specs.Settings.{transfer_time_limit};

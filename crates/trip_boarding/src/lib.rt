@@ -4,6 +4,8 @@
 // Specs (inner): what is read, and which tables and queries agree with it (Reads); the boarding of a frequency trip (Frequency).
 // Proves: each function equal to the model's definition of the same name, for all tables and queries that agree.
 // Assumes nothing.
+#![tactic(auto)]
+
 ghost use Rattle.std.specs.Prelude.{◌≡◌, ℕ, ◌+◌, ◌≤◌, ◌<◌, ◌||◌, not, List};
 ghost use Rattle.door.specs.Door.{time_limit};
 ghost use Rattle.stop_delay.specs.Times.{size_of};

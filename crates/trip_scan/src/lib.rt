@@ -5,6 +5,8 @@
 // tables and queries that agree; all else in memory is as it came. Where a segment does not fit in the queue, the model queues more than the queue
 // has rows for. proofs/Turning: both loops turn by turn; Along, Queuing: loops of steps; Keeping: what is read stays as it is.
 // Assumes nothing.
+#![tactic(auto)]
+
 ghost use Rattle.std.specs.Prelude.{◌≡◌, ◌-◌, ◌≤◌, cond, ◌||◌, [], ◌∷◌, length};
 ghost use Rattle.model.specs.Tables.{Tables, Query, stop_count, no_drop_off, stop_at};
 ghost use Rattle.model.specs.Search.{skipped as skips, alightings as alighted, take_transfers, transferring as transferred, scan_trip_forward};

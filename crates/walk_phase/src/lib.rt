@@ -4,6 +4,8 @@
 // Proves: each function is the model's of the same name on a query's state in memory, for all tables and queries that agree with
 // what it reads; all else in memory is as it came; no stop's earliest arrival rises.
 // Assumes nothing.
+#![tactic(auto)]
+
 ghost use Rattle.std.specs.Prelude.{◌≡◌, [], ◌∷◌, ◌+◌, ◌≤◌, ◌<◌, length, leb, not, ◌&&◌};
 ghost use Rattle.loops.specs.Order.{Halved};
 ghost use Rattle.tables.specs.Tables.{edge_of};

@@ -6,6 +6,8 @@
 // Proves: both are those of the definitions, for every input; an effective duration lies between the duration and
 // 104,857,500 seconds, a round count between 4 and 12, and it never falls when an argument grows.
 // Assumes nothing.
+#![tactic(auto)]
+
 ghost use Rattle.std.specs.Prelude.{◌≡◌, ◌≤◌};
 ghost use Rattle.door.specs.Door.{time_limit};
 ghost use Rattle.walk_time.specs.Walk.{stairs_or_escalator, effective_duration, round_count};

@@ -3,6 +3,8 @@
 // Specs (inner): a part of a slice filled, all else as it came (Filled).
 // Proves: each function does so.
 // Assumes nothing.
+#![tactic(auto)]
+
 ghost use Rattle.std.specs.Prelude.{◌≡◌, ◌<◌, min, max, ◌≤◌, length, get_or, replicate};
 ghost use Rattle.words.specs.Filled.{Filled};
 

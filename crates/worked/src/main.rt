@@ -4,6 +4,8 @@
 // prints to the file `stdout`.
 // Place: a program; it has no specs.
 // Proves: that it is safe and ends. Assumes the contracts of the kit's io and libc.
+#![tactic(auto)]
+
 mod asking;
 mod building;
 mod k;
