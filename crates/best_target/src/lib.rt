@@ -16,7 +16,7 @@ ghost use Rattle.arc_flags.specs.Flags.{egress_rows};
 use label::Label;
 
 // A total with its stop; both 4294967295 for none.
-#[derive(Drop)]
+#[derive(Clone, Copy)]
 pub struct Target {
     pub total: u32,
     pub stop: u32,

@@ -16,7 +16,7 @@ ghost use Rattle.cell_bitset.specs.CellWords.{cell_words};
 ghost use Rattle.cell_bitset.specs.CellSet.{cell_limit, empty_set, held, with_cell, meets, holds_none, byte_upto, union, sized};
 
 #[repr(C)]
-#[derive(Drop)]
+#[derive(Clone, Copy)]
 pub struct CellBitSet {
     // cell c is bit c % 8 of byte c / 8
     pub bytes: [u8; 64],

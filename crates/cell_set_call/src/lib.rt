@@ -20,7 +20,7 @@ const CELL_LIMIT: u32 = 512;
 
 // The answer of a call that gives a set: 0 and the set made, or the number of the first no.
 #[repr(C)]
-#[derive(Drop)]
+#[derive(Clone, Copy)]
 pub struct CellSetAnswer {
     pub code: u32,
     pub set: CellBitSet,

@@ -16,7 +16,7 @@ use stop_delay::StopDelay;
 
 // The answer of delay_at: code 0, and known 1 where the trip has a delay row; or the number of the first no, the rest 0.
 #[repr(C)]
-#[derive(Drop)]
+#[derive(Clone, Copy)]
 pub struct DelayAt {
     pub code: u32,
     pub known: u32,

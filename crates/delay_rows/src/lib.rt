@@ -19,14 +19,14 @@ ghost use Rattle.delay_rows.specs.Asked.{asked, delay_asked, stop_asked, rows_as
 const UNKNOWN_TRIP: u32 = 4294967295;
 
 // A delay row.
-#[derive(Drop)]
+#[derive(Clone, Copy)]
 pub struct DelayRow {
     pub trip: u32,
     pub delay: u32,
 }
 
 // A stop row.
-#[derive(Drop)]
+#[derive(Clone, Copy)]
 pub struct StopRow {
     pub row: u32,
     pub sequence: u32,
@@ -36,7 +36,7 @@ pub struct StopRow {
 }
 
 // What a search finds.
-#[derive(Drop)]
+#[derive(Clone, Copy)]
 pub enum Found {
     At(usize),
     Nothing,

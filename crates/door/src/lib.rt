@@ -17,7 +17,7 @@ pub const TIME_LIMIT: u32 = 1048575;
 
 // An outcome: code 0 with a value, or the number of the first no with value 0.
 #[repr(C)]
-#[derive(Drop)]
+#[derive(Clone, Copy)]
 pub struct Answer {
     pub code: u32,
     pub value: u32,
@@ -27,7 +27,7 @@ pub struct Answer {
 // tried for a transfer (1 to 4,096), how much later than the best total a candidate may arrive (at most 21,600), the cap of the delay
 // margin (at most 1,048,575).
 #[repr(C)]
-#[derive(Drop)]
+#[derive(Clone, Copy)]
 pub struct Settings {
     pub transfer_time: u32,
     pub line_scan: u32,

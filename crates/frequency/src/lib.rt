@@ -19,7 +19,7 @@ ghost use Rattle.frequency.specs.Found.{no_run, rounded_up, window_run, earlier_
 // Where a boarded run stands among its trip's windows (document 02, T-02): the window, from 0 within the trip; n, the whole headways from
 // the window's start to the run, which is the run's number, from 0; quotient and remainder of need by the headway. All 0 where a
 // trip has no windows.
-#[derive(Drop)]
+#[derive(Clone, Copy)]
 pub struct Headways {
     pub window: u32,
     pub run: u32,
@@ -29,7 +29,7 @@ pub struct Headways {
 
 // A boarding: its departure at the boarding stop, its shift from the template (an i32's bits), where the run stands, and the wait, from
 // the wanted time to the departure.
-#[derive(Drop)]
+#[derive(Clone, Copy)]
 pub struct BoardedRun {
     pub departure: u32,
     pub time_shift_s: u32,
@@ -38,14 +38,14 @@ pub struct BoardedRun {
 }
 
 // What a search for a boarding finds.
-#[derive(Drop)]
+#[derive(Clone, Copy)]
 pub enum FreqBoard {
     Nothing,
     Board(BoardedRun),
 }
 
 // A run by its start, with its window and its number there. A window that has none gives NO_RUN, which is later than every run.
-#[derive(Drop)]
+#[derive(Clone, Copy)]
 struct Run {
     start: u32,
     window: u32,

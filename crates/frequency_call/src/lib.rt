@@ -20,7 +20,7 @@ const WINDOW_LIMIT: u32 = 65536;
 // What the entry answers: the code; then found 1 with the boarding's numbers, or found 0 and zeros. The window is numbered from 0; the run's
 // number is n, the whole headways from the window's start to it; quotient and remainder are those of need by the headway.
 #[repr(C)]
-#[derive(Drop)]
+#[derive(Clone, Copy)]
 pub struct FreqAnswer {
     pub code: u32,
     pub found: u32,

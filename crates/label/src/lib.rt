@@ -14,7 +14,7 @@ ghost use Rattle.label.specs.Label.{row_of, label_of, no_distance};
 ghost use Rattle.label.specs.Table.{InTable, record_of, label_row_at, loaded, put_words, put_distance};
 
 // How a stop was reached. `time_shift_s` is the bits of a signed number.
-#[derive(Drop)]
+#[derive(Clone, Copy)]
 pub enum Label {
     Empty,
     Access {
@@ -44,7 +44,7 @@ pub enum Label {
 
 // A label as the tables hold it: the kind, its fields in their order, unused ones 0, and the distance.
 #[repr(C)]
-#[derive(Drop)]
+#[derive(Clone, Copy)]
 pub struct LabelRow {
     pub kind: u32,
     pub word1: u32,

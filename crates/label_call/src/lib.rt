@@ -15,7 +15,7 @@ use label::{Label, LabelRow};
 
 // What `load` answers: code 0 with the row, or the number of the first no with an empty row.
 #[repr(C)]
-#[derive(Drop)]
+#[derive(Clone, Copy)]
 pub struct LabelAnswer {
     pub code: u32,
     pub row: LabelRow,

@@ -21,7 +21,7 @@ ghost use Rattle.line_layout.specs.Listed.{line_run_in, line_runs_ok, entries_ok
 use tables::{Counts, StopTimeRow};
 
 // Where a line's trips stand among the entries.
-#[derive(Drop)]
+#[derive(Clone, Copy)]
 pub struct LineRun {
     pub first: usize,
     pub count: usize,

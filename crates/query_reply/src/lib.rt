@@ -16,7 +16,7 @@ use query_types::{Head, QueryCounts};
 
 // What a call gives back: the number of the first question answered no, or 0; the best total and its stop; how many candidates.
 #[repr(C)]
-#[derive(Drop)]
+#[derive(Clone, Copy)]
 pub struct Reply {
     pub code: u32,
     pub total: u32,

@@ -14,7 +14,7 @@ use door::Settings;
 use tables::Counts;
 
 // How many stops, trips and lines, and where the list of reached stops that is being filled and the other one begin.
-#[derive(Drop)]
+#[derive(Clone, Copy)]
 pub struct Lay {
     pub stops: usize,
     pub trips: usize,
@@ -24,7 +24,7 @@ pub struct Lay {
 }
 
 // The best total so far, how many stops the list has, how many segments the queue has, and whether one did not fit.
-#[derive(Drop)]
+#[derive(Clone, Copy)]
 pub struct Head {
     pub best: u32,
     pub count: usize,
@@ -33,7 +33,7 @@ pub struct Head {
 }
 
 // A segment of a trip: where it is boarded, and its time shift as bits.
-#[derive(Drop)]
+#[derive(Clone, Copy)]
 pub struct Seg {
     pub trip: u32,
     pub offset: u32,
@@ -42,7 +42,7 @@ pub struct Seg {
 }
 
 // A ride: stamp, trip, boarding stop and offset, time shift.
-#[derive(Drop)]
+#[derive(Clone, Copy)]
 pub struct Ride {
     pub stamp: u32,
     pub trip: u32,
@@ -53,7 +53,7 @@ pub struct Ride {
 
 // What of a query boarding goes by: wanted modes (seven bits, 0 means all), wheelchair, the delay margin, and how many trips
 // of a line are tried for a transfer.
-#[derive(Drop)]
+#[derive(Clone, Copy)]
 pub struct Terms {
     pub modes: u32,
     pub wheelchair: bool,
@@ -63,7 +63,7 @@ pub struct Terms {
 
 // Where the lines' tables stand: how many lines, each trip's line, the lines' runs and entries in `built`; positions and FIFO
 // flags in `work`.
-#[derive(Drop)]
+#[derive(Clone, Copy)]
 pub struct Lined {
     pub lines: usize,
     pub runs: usize,
@@ -73,7 +73,7 @@ pub struct Lined {
 }
 
 // The settings, and how many there are of each.
-#[derive(Drop)]
+#[derive(Clone, Copy)]
 pub struct QueryCounts {
     pub settings: Settings,
     pub timetable: Counts,
@@ -90,7 +90,7 @@ pub struct QueryCounts {
 }
 
 // How long each slice is that a query writes.
-#[derive(Drop)]
+#[derive(Clone, Copy)]
 pub struct Lengths {
     pub labels: usize,
     pub label_distances: usize,
@@ -102,7 +102,7 @@ pub struct Lengths {
 
 // Where the tables of a query with arc flags stand, and what they are asked: the lines' tables, the query's terms, how many patterns,
 // the words of the target cells; where the transfer runs begin in `built`, and the events before each trip in `work`.
-#[derive(Drop)]
+#[derive(Clone, Copy)]
 pub struct Net {
     pub lined: Lined,
     pub terms: Terms,
@@ -114,7 +114,7 @@ pub struct Net {
 
 // What a query computes once: its counts, where its numbers stand in the workspace, the tables that transfers read and what they are asked, whether
 // arc flags are in use, and the change time.
-#[derive(Drop)]
+#[derive(Clone, Copy)]
 pub struct Context {
     pub counts: QueryCounts,
     pub lay: Lay,
@@ -124,7 +124,7 @@ pub struct Context {
 }
 
 // A trip that is scanned: its delay row, the ride.
-#[derive(Drop)]
+#[derive(Clone, Copy)]
 pub struct Scan {
     pub context: Context,
     pub adj: Found,
@@ -132,7 +132,7 @@ pub struct Scan {
 }
 
 // One round's ride phase: its stamp, the change time before a boarding in it.
-#[derive(Drop)]
+#[derive(Clone, Copy)]
 pub struct Phase {
     pub context: Context,
     pub stamp: u32,
@@ -140,14 +140,14 @@ pub struct Phase {
 }
 
 // A round's number, and whether it is even: whether it reads the first half of the queue and fills the second.
-#[derive(Drop)]
+#[derive(Clone, Copy)]
 pub struct Turn {
     pub round: u32,
     pub even: bool,
 }
 
 // A stop whose departures are scanned: from which time on, and whether a frequency trip is listed there.
-#[derive(Drop)]
+#[derive(Clone, Copy)]
 pub struct StopScan {
     pub stop: u32,
     pub after: u32,

@@ -17,7 +17,7 @@ mod words;
 use libc::{STDIN_FILENO, STDOUT_FILENO};
 
 // How many lines were replayed, and how many differed.
-#[derive(Drop)]
+#[derive(Clone, Copy)]
 struct Replayed {
     replayed: u64,
     differed: u64,

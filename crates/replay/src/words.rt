@@ -2,7 +2,7 @@
 ghost use Rattle.std.specs.Prelude.{◌<◌};
 
 // Nine words, one after the other.
-#[derive(Drop)]
+#[derive(Clone, Copy)]
 pub struct Nine(
     pub u32,
     pub u32,

@@ -26,7 +26,7 @@ pub fn counts(stops: u32, trips: u32, times: u32, windows: u32, edges: u32) -> C
 
 // The counts of a query: entries are line entries, delays the delay rows, egress the egress stops.
 #[repr(C)]
-#[derive(Drop)]
+#[derive(Clone, Copy)]
 pub struct QuerySizes {
     pub trips: u32,
     pub windows: u32,

@@ -13,7 +13,7 @@ ghost use Rattle.stop_delay.specs.Times.{departure_given, arrival_given, skipped
 ghost use Rattle.stop_delay.specs.Door.{size_ok};
 
 // The delays of one stop time. Its trip has no delay row: all 0. It has no stop row: flags, departure_delay and arrival_delay 0.
-#[derive(Drop)]
+#[derive(Clone, Copy)]
 pub struct StopDelay {
     pub trip_delay: u32,
     pub flags: u32,

@@ -16,7 +16,7 @@ ghost use Rattle.tables.specs.Sane.{CountsOk, SlicesOk};
 use door::both;
 
 // How many there are of each.
-#[derive(Drop)]
+#[derive(Clone, Copy)]
 pub struct Counts {
     pub stops: usize,
     pub trips: usize,
@@ -26,7 +26,7 @@ pub struct Counts {
 }
 
 // The rows, as document 01 lists their fields.
-#[derive(Drop)]
+#[derive(Clone, Copy)]
 pub struct StopTimeRow {
     pub stop: usize,
     pub arrival: usize,
@@ -36,7 +36,7 @@ pub struct StopTimeRow {
     pub drop_off: usize,
 }
 
-#[derive(Drop)]
+#[derive(Clone, Copy)]
 pub struct TripRow {
     pub first: usize,
     pub count: usize,
@@ -48,14 +48,14 @@ pub struct TripRow {
     pub excluded: usize,
 }
 
-#[derive(Drop)]
+#[derive(Clone, Copy)]
 pub struct WindowRow {
     pub start: usize,
     pub end: usize,
     pub headway: usize,
 }
 
-#[derive(Drop)]
+#[derive(Clone, Copy)]
 pub struct EdgeRow {
     pub from: usize,
     pub to: usize,
@@ -65,7 +65,7 @@ pub struct EdgeRow {
 }
 
 // What is asked of every row of a table.
-#[derive(Drop)]
+#[derive(Clone, Copy)]
 pub enum Check {
     TripRuns,
     StopTimeNumbers,

@@ -143,10 +143,10 @@ total_put ws s t size valid =
     omega arith
 
 -- a screen's two counts with one call more: one more in all, below the greatest; never more than one
-one_more : (t : ScreenTally) (k : ℕ) → t.answered < greatest → t.refused < greatest
+one_more_lem : (t : ScreenTally) (k : ℕ) → t.answered < greatest → t.refused < greatest
     → (with_call t k).answered + (with_call t k).refused ≡ t.answered + t.refused + 1
-one_more t zero a r = omega arith
-one_more t (suc k) a r = omega arith
+one_more_lem t zero a r = omega arith
+one_more_lem t (suc k) a r = omega arith
 
 at_most_one : (t : ScreenTally) (k : ℕ) → (with_call t k).answered + (with_call t k).refused ≤ t.answered + t.refused + 1
 at_most_one t zero = omega arith
@@ -165,7 +165,7 @@ module _ (ws : List ℕ) (is : IsTally ws) (c : ScreenCall) (cs : List ScreenCal
       let t = total_put ws c.screen (with_call (shown_at ws c.screen) c.code) is.size h in
       let a = at_most ws c.screen in
       let r = at_most ws (c.screen + 64) in
-      let m = one_more (shown_at ws c.screen) c.code (omega arith) (omega arith) in
+      let m = one_more_lem (shown_at ws c.screen) c.code (omega arith) (omega arith) in
       omega arith
   adds (nowhere h e) few = rw (e, lt-leb _ _ h) refl
 

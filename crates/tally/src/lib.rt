@@ -22,7 +22,7 @@ pub struct Tally {
 }
 
 // What one screen's tally shows.
-#[derive(Drop)]
+#[derive(Clone, Copy)]
 pub struct ScreenTally {
     pub answered: u32,
     pub refused: u32,

@@ -19,7 +19,7 @@ use query_types::{Lined, Terms};
 use tables::Counts;
 
 // How a trip of a line was tried.
-#[derive(Drop)]
+#[derive(Clone, Copy)]
 pub enum Tried {
     Next,
     Stop,
@@ -27,7 +27,7 @@ pub enum Tried {
 }
 
 // What a transfer leads to: the trip that is boarded, and how.
-#[derive(Drop)]
+#[derive(Clone, Copy)]
 pub enum Resolved {
     Unresolved,
     Trip(u32, BoardedRun),

@@ -23,7 +23,7 @@ use door::Settings;
 use tables::Counts;
 
 // What the call answers: the number of the question that was answered no, or how many transfers were written.
-#[derive(Drop)]
+#[derive(Clone, Copy)]
 pub enum Built {
     Refused(u32),
     Rows(u32),

@@ -7,7 +7,7 @@ use sizes::QuerySizes;
 
 // What was built: the question that refused it, or 0; the counts, of lines, entries and transfers too; how many words of
 // `built` it takes.
-#[derive(Drop)]
+#[derive(Clone, Copy)]
 pub struct Made {
     pub code: u32,
     pub sizes: QuerySizes,

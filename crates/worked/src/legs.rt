@@ -7,14 +7,14 @@ use label::LabelRow;
 use sizes::QuerySizes;
 
 // A label and the row where it stands.
-#[derive(Drop)]
+#[derive(Clone, Copy)]
 pub struct RowLabel {
     pub row: u32,
     pub label: LabelRow,
 }
 
 // Who asks: the screen, the settings of the house, the counts of what is asked on.
-#[derive(Drop)]
+#[derive(Clone, Copy)]
 pub struct Caller {
     pub screen: u32,
     pub settings: Settings,

@@ -5,7 +5,7 @@ use crate::words::{say, tell, wide};
 use libc::STDOUT_FILENO;
 
 // The answered and the refused calls of all screens.
-#[derive(Drop)]
+#[derive(Clone, Copy)]
 pub struct Sums {
     pub answered: usize,
     pub refused: usize,
