@@ -1,5 +1,4 @@
 -- What a yes to each question gives.
-use Rattle.loops.specs.Count.{one}
 use Prim.Native.Nat.{ℕ, suc, max, ◌+◌, ◌*◌, ◌^◌, ◌<◌}
 use mathlib.Core.Path.{◌≡◌, ◌∙◌, ap, ap₂, sym, refl}
 use mathlib.Core.Bool.{Bool, true, false, ◌&&◌}
