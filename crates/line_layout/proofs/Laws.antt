@@ -28,9 +28,9 @@ record InOrder (p q : StopTimeRow) : Type 0 where
   pickup : p.pickup ≡ q.pickup
   drop_off : p.drop_off ≡ q.drop_off
 
-in_order : (p q : StopTimeRow) → in_order p q ≡ true → InOrder p q
+in_order_lem : (p q : StopTimeRow) → in_order p q ≡ true → InOrder p q
 unfolding in_order
-in_order p q h =
+in_order_lem p q h =
     let x = two (leb p.arrival q.arrival && leb p.departure q.departure) (eqb p.pickup q.pickup && eqb p.drop_off q.drop_off) h in
     let a = two (leb p.arrival q.arrival) (leb p.departure q.departure) x.one in
     let b = two (eqb p.pickup q.pickup) (eqb p.drop_off q.drop_off) x.two in
@@ -56,7 +56,7 @@ module _ (T : Timetable) where
       }
     where
       at : every_in (λ k. in_order (time_at T a k) (time_at T b k)) 0 (T.trip a).count ≡ true → (k : ℕ) → k < (T.trip a).count → InOrder (time_at T a k) (time_at T b k)
-      at e k u = in_order _ _ (every_in_at (λ k. in_order (time_at T a k) (time_at T b k)) (T.trip a).count k e u)
+      at e k u = in_order_lem _ _ (every_in_at (λ k. in_order (time_at T a k) (time_at T b k)) (T.trip a).count k e u)
 
   pub neighbours_if : (a b : ℕ) → NotLater T a b → neighbours T a b ≡ true
   unfolding neighbours in_order

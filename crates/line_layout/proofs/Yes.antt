@@ -1,23 +1,23 @@
 -- What a yes to the questions on the lines' table gives, and that a table with those facts is answered yes.
 use Prim.Native.Nat.{ℕ, ◌+◌, ◌*◌, ◌-◌, ◌≤◌}
 use mathlib.Core.Path.{◌≡◌, ◌∙◌, sym, ap₂}
-use mathlib.Core.Bool.{Bool, true, false, ◌&&◌, not}
+use mathlib.Core.Bool.{Bool, true, false, ◌&&◌}
 use mathlib.Core.List.{List}
 use native.Mathlib.Omega.{arith}
 use lib.ListN.{length, get_or}
 use lib.Dec.{ltb}
-use borrow.Author.Tests.{leb-true, ltb-true, le-leb, lt-ltb, not-true, not-false}
+use borrow.Author.Tests.{leb-true, ltb-true, le-leb, lt-ltb}
 use Rattle.loops.proofs.Iter.{every_in_at, every_all}
 use Rattle.tables.specs.declared.Counts.{Counts}
 use Rattle.line_layout.specs.Layout.{line_run_at}
 use Rattle.line_layout.specs.Listed.{line_run_in, line_runs_ok, entries_ok, LinesListed}
 
 -- a question that joins two tests, as the code finds it
-pub found_yes : {r a b x y : Bool} → r ≡ a && b → a ≡ x → b ≡ y → not r ≡ false → x && y ≡ true
-found_yes {r} e f g h = sym (e ∙ ap₂ ◌&&◌ f g) ∙ not-false r h
+pub found_yes : {r a b x y : Bool} → r ≡ a && b → a ≡ x → b ≡ y → r ≡ true → x && y ≡ true
+found_yes {r} e f g h = sym (e ∙ ap₂ ◌&&◌ f g) ∙ h
 
-pub found_no : {r a b x y : Bool} → r ≡ a && b → a ≡ x → b ≡ y → not r ≡ true → x && y ≡ false
-found_no {r} e f g h = sym (e ∙ ap₂ ◌&&◌ f g) ∙ not-true r h
+pub found_no : {r a b x y : Bool} → r ≡ a && b → a ≡ x → b ≡ y → r ≡ false → x && y ≡ false
+found_no {r} e f g h = sym (e ∙ ap₂ ◌&&◌ f g) ∙ h
 
 -- 3 and 4, of the lines' table
 pub lines_listed : (c : Counts) (lines n : ℕ) (runs entries : List ℕ) → lines ≤ 4096 → n ≤ 4096 → length runs ≡ lines * 2 → length entries ≡ n
