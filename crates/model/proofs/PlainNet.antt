@@ -54,9 +54,9 @@ module _ (T : Tables) where
   pub of_row : (x t o : ℕ) → x < stops T → Memᴰ (record { trip = t; offset = o }) (T.departures x) → Memᴰ (t, o) (map pair_of (departures_at T x))
   of_row x t o h m = Memᴰ.map pair_of (subst (λ (l : List DepartureRow). Memᴰ (record { trip = t; offset = o }) l) (sym (at_deps x h)) m)
 
-  pub count_at : (t o : ℕ) → o < count_at T t → (t < trips T) × (o < stop_count T t)
+  pub count_at_lem : (t o : ℕ) → o < count_at T t → (t < trips T) × (o < stop_count T t)
   unfolding count_at
-  count_at t o h = go (ltb t (trips T)) refl h
+  count_at_lem t o h = go (ltb t (trips T)) refl h
     where
       go : (b : Bool) → ltb t (trips T) ≡ b → o < elim b [ true ↦ stop_count T t | false ↦ 0 ] → (t < trips T) × (o < stop_count T t)
       go true e h = (ltb-true _ _ e, h)
@@ -166,7 +166,7 @@ module _ (T : Tables) (Q : Query) where
   pub alighting_of : (t o p : ℕ) → o < p → p < count_at T t → (net T Q).alight t p ≡ true → Alighting T Q (effective T Q) t o p
   alighting_of t o p l h k =
       let u = or-false (no_drop_off T t p) (skipped T Q (delay_of Q t) t p) (not-true _ k) in
-      record { later = omega (arith, l); inside = (count_at T t p h).1; drop_off = u.0; served = ap not u.1 }
+      record { later = omega (arith, l); inside = (count_at_lem T t p h).1; drop_off = u.0; served = ap not u.1 }
 
 module _ (T : Tables) (Q : Query) (D : Door T Q) (S : SteadyDay T Q) where
   abbrev P : CalmDay T Q
@@ -203,7 +203,7 @@ module _ (T : Tables) (Q : Query) (D : Door T Q) (S : SteadyDay T Q) where
 
   both_in : (t u o : ℕ) → line_at T u ≡ line_at T t → o < count_at T t → (t < trips T) × (u < trips T) × (T.line_of u ≡ T.line_of t) × (o < stop_count T t)
   both_in t u o e h =
-      let c = count_at T t o h in
+      let c = count_at_lem T t o h in
       ⊎_elim (λ b. (b.0, b.1, b.2, c.1)) (λ b. absurd (omega (arith, b.0, c.0))) (both t u e)
 
   -- a trip that prunes has no delay row, and the line of one in the table is FIFO
@@ -245,7 +245,7 @@ module _ (T : Tables) (Q : Query) (D : Door T Q) (S : SteadyDay T Q) where
             sets_down u o (flag u b.1 g).0 ∙ (ap (λ (z : Bool). not (z || false)) (same_drop_off T Q P t u b.0 b.1 b.2 k.1 o b.3) ∙ sym (sets_down t o k.0));
         deps_in = λ x t o m. (row-of T x t o m).0;
         edge_in = λ x y d m. let e = edge_of T Q x y d m in let i = edge_in T x e.edge e.member in subst (λ (z : ℕ). z < stops T) i.1 (D.edge_from e.edge i.0);
-        stop_in = λ t p h. let c = count_at T t p h in D.stop_in t p c.0 c.1;
+        stop_in = λ t p h. let c = count_at_lem T t p h in D.stop_in t p c.0 c.1;
         edge_to = λ x y d m. let e = edge_of T Q x y d m in subst (λ (z : ℕ). z < stops T) e.to (D.edge_to e.edge (edge_in T x e.edge e.member).0);
         orig_in = λ x d m. let a = origin-of Q x d m in subst (λ (z : ℕ). z < stops T) a.at (D.origin_in a.walk a.member);
         eg_list = egress_listed Q.egress;
