@@ -138,10 +138,10 @@ module _ (T : Tables) (Q : Query) (a : Arrivals) where
       go true p q = p
       go false p q = pick (ltb (at a e.0 + e.1) b.0) p q
 
-  row_target : (r : ℕ) (es : List (ℕ × ℕ)) (b : ℕ × ℕ) → row_target T Q a r es b ≡ target (row_by r) es b
+  row_target_lem : (r : ℕ) (es : List (ℕ × ℕ)) (b : ℕ × ℕ) → row_target T Q a r es b ≡ target (row_by r) es b
   unfolding row_target target
-  row_target r [] b = refl
-  row_target r (e ∷ es) b = go (row_by r e.0) (row_target r es b) (λ v. row_target r es (v + e.1, e.0))
+  row_target_lem r [] b = refl
+  row_target_lem r (e ∷ es) b = go (row_by r e.0) (row_target_lem r es b) (λ v. row_target_lem r es (v + e.1, e.0))
     where
       pick : (v : ℕ) (y : Bool) → row_target T Q a r es b ≡ target (row_by r) es b
           → row_target T Q a r es (v + e.1, e.0) ≡ target (row_by r) es (v + e.1, e.0)
@@ -186,7 +186,7 @@ module _ (T : Tables) (Q : Query) (a : Arrivals) where
 
   row_least : (r : ℕ) → Least (row_by r) Q.egress (never, never) (row_best r)
   row_least r =
-      subst (Least (row_by r) Q.egress (never, never)) (sym (row_target r Q.egress (never, never)))
+      subst (Least (row_by r) Q.egress (never, never)) (sym (row_target_lem r Q.egress (never, never)))
       (target_least (row_by r) Q.egress (never, never))
 
   known_by : (s : ℕ) → (at a s ≡ never → ⊥) → earliest_by s ≡ suc (at a s)

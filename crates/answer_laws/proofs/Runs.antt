@@ -314,9 +314,9 @@ module _ (T : Tables) (Q : Query) (D : Door T Q) where
             omega (arith, length-append walked.reached kept, stamped_few (suc (suc r)) walked.stop_stamp mid.reached)
 
   -- THE ORIGINS
-  pub set_out : (o : Origin) → Memᴰ o Q.origins → {a b : Arrivals} → Steps T Q (Why T Q 1) 1 a b → Steps T Q (Why T Q 1) 1 a (set_out T Q o b)
+  pub set_out_lem : (o : Origin) → Memᴰ o Q.origins → {a b : Arrivals} → Steps T Q (Why T Q 1) 1 a b → Steps T Q (Why T Q 1) 1 a (set_out T Q o b)
   unfolding set_out
-  set_out o m {a} {b} S = go (ltb v (at b o.stop)) refl
+  set_out_lem o m {a} {b} S = go (ltb v (at b o.stop)) refl
     where
       v : ℕ
       v = Q.start + o.duration
@@ -371,7 +371,7 @@ module _ (T : Tables) (Q : Query) (D : Door T Q) where
       → Steps T Q (Why T Q 1) 1 a (access T Q os b)
   unfolding access
   set_all_out [] I a b S = S
-  set_all_out (o ∷ os) I a b S = set_all_out os (λ p m. I p (Memᴰ.tail m)) a _ (set_out o (I o (Memᴰ.head refl)) S)
+  set_all_out (o ∷ os) I a b S = set_all_out os (λ p m. I p (Memᴰ.tail m)) a _ (set_out_lem o (I o (Memᴰ.head refl)) S)
 
   pub begin_ran : Ran T Q 0 (begin T Q)
   begin_ran =

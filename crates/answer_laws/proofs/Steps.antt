@@ -148,7 +148,7 @@ module _ (T : Tables) (Q : Query) where
     pub closes : {b : Boardings} (r n : ℕ) → P (suc r) b → P (suc r) (closed n b)
 
   module _ {P : ℕ → Boardings → Type 0} (K : Books-kept P) where
-    pub boards_keep : {b c : Boardings} (r stamp : ℕ) → Boards r stamp b c → P (suc r) b → P (suc r) c
+    pub boards_keep : (r stamp : ℕ) {b c : Boardings} → Boards r stamp b c → P (suc r) b → P (suc r) c
     boards_keep r stamp none p = p
     boards_keep r stamp (listed t o y S w B) p = K.lists r stamp t o y w B (boards_keep r stamp S p)
     boards_keep r stamp (segment g S w G) p = K.segments r g w G (boards_keep r stamp S p)
