@@ -2,7 +2,6 @@ use Rattle.loops.proofs.Iter.{every_again, every_left, every_no}
 use Rattle.departure_order.specs.Order.{departure_order}
 use native.Mathlib.Omega.{arith}
 use mathlib.Core.Path.{◌∙◌, refl, sym}
-use Prim.Native.Nat.{◌-◌}
 use Rattle.departure_order.proofs.departure_order.Goals as goal
 
 pub loop-s-init : goal.loop-s-init

@@ -5,7 +5,7 @@ use Rattle.departures.specs.declared.DepartureRow.{DepartureRow}
 use Rattle.departures.specs.Departures.{row_at, row_departure}
 use native.Mathlib.Omega.{arith}
 use mathlib.Core.Path.{◌∙◌, ◌≡◌, ap, subst, sym}
-use Prim.Native.Nat.{◌+◌, ◌-◌, ℕ}
+use Prim.Native.Nat.{◌+◌, ℕ}
 use Rattle.departure_order.specs.Turn.{Leaving}
 use Rattle.departure_order.proofs.run_right.Goals as goal
 
