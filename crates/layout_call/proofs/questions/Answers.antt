@@ -18,13 +18,13 @@ returns-then-no-ne0 c =
 pub sizes_ok-sized-requires : goal.sizes_ok-sized-requires
 sizes_ok-sized-requires c =
     let q1 = within c.limits-no.ensures (c.both.ensures ∙ ap₂ ◌&&◌ c.counts_ok.ensures c.both-few.ensures) c.if-no-ne0.false in
-    let l = limits_yes _ _ _ q1.counts_yes in
+    let l = limits_yes c.args.c c.args.lines c.args.n q1.counts_yes in
     l.few_lines
 
 pub slices_ok-requires : goal.slices_ok-requires
 slices_ok-requires c =
     let q1 = within c.limits-no.ensures (c.both.ensures ∙ ap₂ ◌&&◌ c.counts_ok.ensures c.both-few.ensures) c.if-no-ne0.false in
-    let l = limits_yes _ _ _ q1.counts_yes in
+    let l = limits_yes c.args.c c.args.lines c.args.n q1.counts_yes in
     l.counts
 
 pub returns-then-not-both : goal.returns-then-not-both
@@ -42,7 +42,7 @@ line_runs_ok-within-requires c =
 pub runs_ok-requires : goal.runs_ok-requires
 runs_ok-requires c =
     let q1 = within c.limits-no.ensures (c.both.ensures ∙ ap₂ ◌&&◌ c.counts_ok.ensures c.both-few.ensures) c.if-no-ne0.false in
-    let l = limits_yes _ _ _ q1.counts_yes in
+    let l = limits_yes c.args.c c.args.lines c.args.n q1.counts_yes in
     let q2 = found_yes c.both-2.ensures c.slices_ok.ensures c.sizes_ok-sized.ensures c.if-not-both.false in
     let z = sizes_yes _ _ _ _ _ _ _ _ q2 in
     record { counts_ok = l.counts; slices_ok = z.slices }
@@ -50,7 +50,7 @@ runs_ok-requires c =
 pub rows_ok-requires : goal.rows_ok-requires
 rows_ok-requires c =
     let q1 = within c.limits-no.ensures (c.both.ensures ∙ ap₂ ◌&&◌ c.counts_ok.ensures c.both-few.ensures) c.if-no-ne0.false in
-    let l = limits_yes _ _ _ q1.counts_yes in
+    let l = limits_yes c.args.c c.args.lines c.args.n q1.counts_yes in
     let q2 = found_yes c.both-2.ensures c.slices_ok.ensures c.sizes_ok-sized.ensures c.if-not-both.false in
     let z = sizes_yes _ _ _ _ _ _ _ _ q2 in
     record { counts_ok = l.counts; slices_ok = z.slices }
@@ -58,7 +58,7 @@ rows_ok-requires c =
 pub order_ok-requires : goal.order_ok-requires
 order_ok-requires c =
     let q1 = within c.limits-no.ensures (c.both.ensures ∙ ap₂ ◌&&◌ c.counts_ok.ensures c.both-few.ensures) c.if-no-ne0.false in
-    let l = limits_yes _ _ _ q1.counts_yes in
+    let l = limits_yes c.args.c c.args.lines c.args.n q1.counts_yes in
     let q2 = found_yes c.both-2.ensures c.slices_ok.ensures c.sizes_ok-sized.ensures c.if-not-both.false in
     let z = sizes_yes _ _ _ _ _ _ _ _ q2 in
     record { counts_ok = l.counts; slices_ok = z.slices }
@@ -66,7 +66,7 @@ order_ok-requires c =
 pub numbers_ok-requires : goal.numbers_ok-requires
 numbers_ok-requires c =
     let q1 = within c.limits-no.ensures (c.both.ensures ∙ ap₂ ◌&&◌ c.counts_ok.ensures c.both-few.ensures) c.if-no-ne0.false in
-    let l = limits_yes _ _ _ q1.counts_yes in
+    let l = limits_yes c.args.c c.args.lines c.args.n q1.counts_yes in
     let q2 = found_yes c.both-2.ensures c.slices_ok.ensures c.sizes_ok-sized.ensures c.if-not-both.false in
     let z = sizes_yes _ _ _ _ _ _ _ _ q2 in
     record { counts_ok = l.counts; slices_ok = z.slices }
