@@ -1,5 +1,4 @@
 -- The walk over the events: one event, the events of a trip, all trips.
-use Rattle.tables.proofs.Yes.{sane}
 use Prim.Native.Nat.{ℕ, zero, suc, ◌+◌, ◌*◌, ◌-◌, ◌<◌, ◌≤◌, min}
 use mathlib.Core.Path.{◌≡◌, refl, sym, ◌∙◌, ap, ap₂}
 use mathlib.Core.Bool.{Bool, true, false, cond}

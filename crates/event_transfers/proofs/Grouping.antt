@@ -12,7 +12,7 @@ use lib.Dec.{leb, eqb}
 use borrow.Author.Tests.{leb-true, leb-false, le-leb, lt-leb, eq-eqb, ne_eqb}
 use Rattle.loops.specs.Count.{one, tab}
 use Rattle.loops.specs.Order.{Halved}
-use Rattle.sorts.specs.Sort.{hi, pick}
+use Rattle.sorts.specs.Sort.{hi}
 use Rattle.sorts.specs.Orders.{keep}
 use Rattle.departures.specs.Packed.{un_trip}
 use Rattle.event_transfers.specs.Packed.{Group, Keys, AreaSoFar, LineEnd, LineEnds, Stretch, dep_x, lay, lay_row, line_x, targets, to_group}

@@ -1,6 +1,4 @@
 -- Laws of writing row by row.
-use Rattle.departures.proofs.Yes.{joined}
-use Rattle.loops.specs.Count.{count}
 use Prim.Native.Nat.{ℕ, suc, ◌+◌, ◌*◌, ◌-◌, ◌<◌, ◌≤◌, min}
 use mathlib.Core.Path.{◌≡◌, refl, sym, ◌∙◌, ap, ap₂}
 use mathlib.Core.Bool.{Bool, true, false, cond}

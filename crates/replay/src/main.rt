@@ -3,8 +3,10 @@
 // the port alone, and beside/list.rs says what each line holds. The program prints only how many lines it replayed and
 // how many differed. All calls count in one tally, zero at first, which lines of the list compare with the list's own count.
 // Place: a program; it has no specs.
-// Proves: that it is safe and ends. Assumes the contracts of the kit's io and libc.
+// Proves: that it is safe and ends. Assumes the contracts of std.
 #![tactic(auto)]
+
+ghost use Rattle.std.specs.Io.{ReadsAtMost};
 
 mod building;
 mod cases;
@@ -14,7 +16,8 @@ mod queries;
 mod tallies;
 mod words;
 
-use libc::{STDIN_FILENO, STDOUT_FILENO};
+use std::io;
+use std::io::Read;
 
 // How many lines were replayed, and how many differed.
 #[derive(Clone, Copy)]
@@ -63,28 +66,48 @@ fn all_lines(tally: &mut [u32; 128], text: &[u8], words: &mut [u32], before: Rep
     t
 }
 
+// Reads until the space is full or the input ends, and says how many bytes it put at the start of the space.
+fn read_full(input: &mut impl Read, space: &mut [u8]) -> io::Result<usize>
+    ensures { ReadsAtMost result space.new }
+{
+    let mut done: usize = 0;
+    while done < space.len() {
+        let n = input.read(&mut space[done..])?;
+        if n == 0 {
+            return Ok(done);
+        }
+        done += n;
+    }
+    Ok(done)
+}
+
 // The list is at most eight blocks as long as this space, and no line of it goes from one block into the next.
-fn all_blocks(tally: &mut [u32; 128], space: &mut [u8], words: &mut [u32]) -> Replayed {
+fn all_blocks(
+    input: &mut impl Read,
+    tally: &mut [u32; 128],
+    space: &mut [u8],
+    words: &mut [u32],
+) -> io::Result<Replayed> {
     let mut t = Replayed {
         replayed: 0,
         differed: 0,
     };
     let mut block: u32 = 0;
     while block < 8 {
-        let n = io::read_full(STDIN_FILENO, space);
+        let n = read_full(input, space)?;
         t = all_lines(tally, &space[..n], words, t);
         block += 1;
     }
-    t
+    Ok(t)
 }
 
-fn main() {
+fn main(rt: HostRuntime) -> io::Result<()> {
     let mut space = [0u8; 262144];
     let mut words = [0u32; 1024];
     let mut tally = [0u32; 128];
-    let t = all_blocks(&mut tally, &mut space, &mut words);
-    io::print_decimal(STDOUT_FILENO, t.replayed);
-    io::write_all(STDOUT_FILENO, b" replayed, ");
-    io::print_decimal(STDOUT_FILENO, t.differed);
-    io::write_all(STDOUT_FILENO, b" differed\n");
+    let mut input = rt.reader();
+    let t = all_blocks(&mut input, &mut tally, &mut space, &mut words)?;
+    let replayed = t.replayed;
+    let differed = t.differed;
+    println!(rt; "{replayed} replayed, {differed} differed")
 }

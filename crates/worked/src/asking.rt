@@ -4,20 +4,22 @@ use crate::words::{at, part, refused, say, tell, wide};
 use door::Settings;
 use query_reply::Reply;
 use sizes::QuerySizes;
+use std::io;
 
 // The total of "no way".
 const NEVER: u32 = 4294967295;
 
 // The last leg: from the candidate's stop, reached at its label's arrival, on foot.
-fn egress(total: u32, stop: u32, reached: u32) {
+fn egress(rt: &impl Print, total: u32, stop: u32, reached: u32) -> io::Result<()> {
     if total < reached {
-        return;
+        return Ok(());
     }
-    tell(b"walk # s from stop #\n", &[total - reached, stop]);
+    tell(rt, b"walk # s from stop #\n", &[total - reached, stop])
 }
 
 // The total, and the legs where they join.
 fn candidate(
+    rt: &impl Print,
     tally: &mut [u32; 128],
     by: Caller,
     k: u32,
@@ -26,26 +28,29 @@ fn candidate(
     candidates: &[u32],
     labels: &[u32],
     distances: &[f64],
-) {
+) -> io::Result<()> {
     let i = wide(k) * 3;
     let total = at(candidates, i);
     let stop = at(candidates, i + 1);
     let row = at(candidates, i + 2);
     tell(
+        rt,
         b"  candidate of row #, at stop #, @:\n    ",
         &[row, stop, total],
-    );
+    )?;
     if joined(tally, by, tables, query, labels, distances, stop, row) {
-        legs(tally, by, 27, tables, query, labels, distances, stop, row);
+        legs(
+            rt, tally, by, 27, tables, query, labels, distances, stop, row,
+        )?;
         let found = label_at(tally, by, stop, row, labels, distances);
         let l = found.label;
-        egress(total, stop, arrival(l));
-        return;
+        return egress(rt, total, stop, arrival(l));
     }
-    say(b"no card\n");
+    say(rt, b"no card\n")
 }
 
 fn show(
+    rt: &impl Print,
     tally: &mut [u32; 128],
     by: Caller,
     reply: Reply,
@@ -54,21 +59,22 @@ fn show(
     candidates: &[u32],
     labels: &[u32],
     distances: &[f64],
-) {
+) -> io::Result<()> {
     if reply.code != 0 {
-        refused(reply.code);
-        return;
+        return refused(rt, reply.code);
     }
     if reply.total == NEVER {
-        say(b"  no way\n");
-        return;
+        return say(rt, b"  no way\n");
     }
-    tell(b"  best @ at stop #\n", &[reply.total, reply.stop]);
+    tell(rt, b"  best @ at stop #\n", &[reply.total, reply.stop])?;
     let mut k: u32 = 0;
     while k < reply.candidates {
-        candidate(tally, by, k, tables, query, candidates, labels, distances);
+        candidate(
+            rt, tally, by, k, tables, query, candidates, labels, distances,
+        )?;
         k += 1;
     }
+    Ok(())
 }
 
 // The call, with room for 64 segments in each half of the queue; no patterns.
@@ -109,6 +115,7 @@ fn replied(
 
 // Asks with these labels and this workspace, and prints.
 fn ask_in(
+    rt: &impl Print,
     tally: &mut [u32; 128],
     by: Caller,
     tables: &[u32],
@@ -119,7 +126,7 @@ fn ask_in(
     labels: &mut [u32],
     label_distances: &mut [f64],
     work: &mut [u32],
-) {
+) -> io::Result<()> {
     let mut candidates = [0u32; 39];
     let reply = replied(
         tally,
@@ -135,6 +142,7 @@ fn ask_in(
         &mut candidates,
     );
     show(
+        rt,
         tally,
         by,
         reply,
@@ -143,11 +151,12 @@ fn ask_in(
         &candidates,
         labels,
         label_distances,
-    );
+    )
 }
 
 // Asks and prints. Room for 12 stops and 384 numbers of workspace.
 pub fn ask(
+    rt: &impl Print,
     tally: &mut [u32; 128],
     screen: u32,
     settings: Settings,
@@ -157,7 +166,7 @@ pub fn ask(
     area: &[u32],
     distances: &[f64],
     query: &[u32],
-) {
+) -> io::Result<()> {
     let mut labels = [0u32; 1248];
     let mut label_distances = [0.0f64; 156];
     let mut work = [0u32; 384];
@@ -171,6 +180,7 @@ pub fn ask(
     let size = exports::savoiky_work_size(tally, screen, settings, s);
     let n = part(wide(size.value), 384);
     ask_in(
+        rt,
         tally,
         by,
         tables,
@@ -181,5 +191,5 @@ pub fn ask(
         &mut labels[..words],
         &mut label_distances[..records],
         &mut work[..n],
-    );
+    )
 }

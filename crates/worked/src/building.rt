@@ -4,6 +4,7 @@ ghost use Rattle.std.specs.Prelude.{◌<◌};
 use crate::words::{at, part, put, refused, say, say_number, tell, wide};
 use door::{Answer, Settings};
 use sizes::QuerySizes;
+use std::io;
 
 // What was built: the question that refused it, or 0; the counts, of lines, entries and transfers too; how many words of
 // `built` it takes.
@@ -296,34 +297,42 @@ pub fn build(
     )
 }
 
-fn line_trips(first: u32, count: u32, entries: &[u32]) {
+fn line_trips(rt: &impl Print, first: u32, count: u32, entries: &[u32]) -> io::Result<()> {
     let mut k: u32 = 0;
     while k < count {
-        say_number(b" ", at(entries, wide(first) + wide(k)));
+        say_number(rt, b" ", at(entries, wide(first) + wide(k)))?;
         k += 1;
     }
+    Ok(())
 }
 
-fn line(l: u32, runs: &[u32], entries: &[u32], fifo: &[u32]) {
+fn line(rt: &impl Print, l: u32, runs: &[u32], entries: &[u32], fifo: &[u32]) -> io::Result<()> {
     let i = wide(l);
-    tell(b"  line #: trips", &[l]);
-    line_trips(at(runs, i * 2), at(runs, i * 2 + 1), entries);
+    tell(rt, b"  line #: trips", &[l])?;
+    line_trips(rt, at(runs, i * 2), at(runs, i * 2 + 1), entries)?;
     if at(fifo, i) == 1 {
-        say(b", FIFO\n");
-        return;
+        return say(rt, b", FIFO\n");
     }
-    say(b", not FIFO\n");
+    say(rt, b", not FIFO\n")
 }
 
-fn all_lines(count: u32, runs: &[u32], entries: &[u32], fifo: &[u32]) {
+fn all_lines(
+    rt: &impl Print,
+    count: u32,
+    runs: &[u32],
+    entries: &[u32],
+    fifo: &[u32],
+) -> io::Result<()> {
     let mut l: u32 = 0;
     while l < count {
-        line(l, runs, entries, fifo);
+        line(rt, l, runs, entries, fifo)?;
         l += 1;
     }
+    Ok(())
 }
 
 fn lay_out(
+    rt: &impl Print,
     tally: &mut [u32; 128],
     screen: u32,
     settings: Settings,
@@ -333,27 +342,27 @@ fn lay_out(
     entries: &[u32],
     positions: &mut [u32],
     fifo: &mut [u32],
-) {
+) -> io::Result<()> {
     let code = exports::savoiky_line_layout(
         tally, screen, settings, s.stops, s.trips, s.times, s.windows, s.edges, s.lines, s.entries,
         tables, runs, entries, positions, fifo,
     );
     if code != 0 {
-        refused(code);
-        return;
+        return refused(rt, code);
     }
-    all_lines(s.lines, runs, entries, fifo);
+    all_lines(rt, s.lines, runs, entries, fifo)
 }
 
 // The lines, their trips in order, their FIFO flags.
 pub fn show_lines(
+    rt: &impl Print,
     tally: &mut [u32; 128],
     screen: u32,
     settings: Settings,
     s: QuerySizes,
     tables: &[u32],
     built: &[u32],
-) {
+) -> io::Result<()> {
     let mut positions = [0u32; 12];
     let mut fifo = [0u32; 12];
     let trips = part(wide(s.trips), 12);
@@ -361,9 +370,10 @@ pub fn show_lines(
     let a = trips + lines * 2;
     let e = a + trips;
     if built.len() < e {
-        return;
+        return Ok(());
     }
     lay_out(
+        rt,
         tally,
         screen,
         settings,
@@ -373,7 +383,7 @@ pub fn show_lines(
         &built[a..e],
         &mut positions[..trips],
         &mut fifo[..lines],
-    );
+    )
 }
 
 // Where the transfer runs begin in `built`.
@@ -384,28 +394,35 @@ fn transfer_runs_at(s: QuerySizes) -> usize
     lines + wide(s.stops) * 3 + wide(s.departures) * 2
 }
 
-fn transfer(area: &[u32], row: usize)
+fn transfer(rt: &impl Print, area: &[u32], row: usize) -> io::Result<()>
     requires { row < 8589934592 }
 {
     let i = row * 4;
     tell(
+        rt,
         b"    to trip # at its offset #\n",
         &[at(area, i), at(area, i + 1)],
-    );
+    )
 }
 
 // The transfers of a stop event.
-pub fn show_transfers(s: QuerySizes, event: u32, area: &[u32], built: &[u32]) {
+pub fn show_transfers(
+    rt: &impl Print,
+    s: QuerySizes,
+    event: u32,
+    area: &[u32],
+    built: &[u32],
+) -> io::Result<()> {
     let i = transfer_runs_at(s) + wide(event) * 2;
     let first = at(built, i);
     let count = at(built, i + 1);
     if count == 0 {
-        say(b"    none\n");
-        return;
+        return say(rt, b"    none\n");
     }
     let mut k: u32 = 0;
     while k < count {
-        transfer(area, wide(first) + wide(k));
+        transfer(rt, area, wide(first) + wide(k))?;
         k += 1;
     }
+    Ok(())
 }

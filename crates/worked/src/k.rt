@@ -4,6 +4,7 @@ use crate::building::{Made, build, show_lines, show_transfers};
 use crate::words::{part, refused, say, tell};
 use door::Settings;
 use sizes::QuerySizes;
+use std::io;
 
 // Three stops, three trips, five listed departures, an origin and an egress stop.
 fn sizes() -> QuerySizes {
@@ -67,6 +68,7 @@ fn build_k(
 
 // A query from stop 0 (10 seconds) to stop 2 (5 seconds).
 fn asked(
+    rt: &impl Print,
     tally: &mut [u32; 128],
     screen: u32,
     settings: Settings,
@@ -76,16 +78,17 @@ fn asked(
     tables: &[u32],
     built: &[u32],
     area: &[u32],
-) {
+) -> io::Result<()> {
     let distances = [12.5f64];
     let query = [start, change, 0, 0, 0, 0, 0, 0, 10, 2, 5];
-    tell(b"Start @, change time # s\n", &[start, change]);
+    tell(rt, b"Start @, change time # s\n", &[start, change])?;
     ask(
-        tally, screen, settings, s, tables, built, area, &distances, &query,
-    );
+        rt, tally, screen, settings, s, tables, built, area, &distances, &query,
+    )
 }
 
 fn queries(
+    rt: &impl Print,
     tally: &mut [u32; 128],
     screen: u32,
     settings: Settings,
@@ -93,15 +96,20 @@ fn queries(
     tables: &[u32],
     built: &[u32],
     area: &[u32],
-) {
-    asked(tally, screen, settings, 90, 120, s, tables, built, area);
-    asked(tally, screen, settings, 90, 121, s, tables, built, area);
-    asked(tally, screen, settings, 91, 120, s, tables, built, area);
-    asked(tally, screen, settings, 150, 120, s, tables, built, area);
-    asked(tally, screen, settings, 151, 120, s, tables, built, area);
+) -> io::Result<()> {
+    asked(rt, tally, screen, settings, 90, 120, s, tables, built, area)?;
+    asked(rt, tally, screen, settings, 90, 121, s, tables, built, area)?;
+    asked(rt, tally, screen, settings, 91, 120, s, tables, built, area)?;
+    asked(
+        rt, tally, screen, settings, 150, 120, s, tables, built, area,
+    )?;
+    asked(
+        rt, tally, screen, settings, 151, 120, s, tables, built, area,
+    )
 }
 
 fn shown(
+    rt: &impl Print,
     tally: &mut [u32; 128],
     screen: u32,
     settings: Settings,
@@ -110,17 +118,17 @@ fn shown(
     built: &[u32],
     area: &[u32],
     asking: bool,
-) {
+) -> io::Result<()> {
     if made.code != 0 {
-        refused(made.code);
-        return;
+        return refused(rt, made.code);
     }
     let n = part(made.length, built.len());
-    show_lines(tally, screen, settings, made.sizes, tables, &built[..n]);
-    say(b"  transfers of trip 0 at stop 1:\n");
-    show_transfers(made.sizes, 1, area, &built[..n]);
+    show_lines(rt, tally, screen, settings, made.sizes, tables, &built[..n])?;
+    say(rt, b"  transfers of trip 0 at stop 1:\n")?;
+    show_transfers(rt, made.sizes, 1, area, &built[..n])?;
     if asking {
         queries(
+            rt,
             tally,
             screen,
             settings,
@@ -128,11 +136,13 @@ fn shown(
             tables,
             &built[..n],
             area,
-        );
+        )?;
     }
+    Ok(())
 }
 
 fn day_in(
+    rt: &impl Print,
     tally: &mut [u32; 128],
     screen: u32,
     settings: Settings,
@@ -140,49 +150,68 @@ fn day_in(
     area: &mut [u32],
     built: &mut [u32],
     asking: bool,
-) {
+) -> io::Result<()> {
     let made = build_k(tally, screen, settings, tables, area, built);
-    shown(tally, screen, settings, made, tables, built, area, asking);
+    shown(
+        rt, tally, screen, settings, made, tables, built, area, asking,
+    )
 }
 
 // The lines, the transfers of T0 at stop 1 (stop event 1), and the queries where they are wanted.
 fn day(
+    rt: &impl Print,
     tally: &mut [u32; 128],
     screen: u32,
     settings: Settings,
     end: u32,
     begin: u32,
     asking: bool,
-) {
+) -> io::Result<()> {
     let tables = timetable(end, begin);
     let mut area = [0u32; 256];
     let mut built = [0u32; 288];
     day_in(
-        tally, screen, settings, &tables, &mut area, &mut built, asking,
-    );
+        rt, tally, screen, settings, &tables, &mut area, &mut built, asking,
+    )
 }
 
-pub fn run(tally: &mut [u32; 128], screen: u32, settings: Settings) {
-    say(b"\nTimetable K, with trip 1 ending at 399\n");
-    day(tally, screen, settings, 399, 320, false);
-    say(b"Timetable K, with trip 2 leaving stop 1 at 319\n");
-    day(tally, screen, settings, 460, 319, false);
-    say(b"Timetable K\n");
-    day(tally, screen, settings, 460, 320, true);
+pub fn run(
+    rt: &impl Print,
+    tally: &mut [u32; 128],
+    screen: u32,
+    settings: Settings,
+) -> io::Result<()> {
+    say(rt, b"\nTimetable K, with trip 1 ending at 399\n")?;
+    day(rt, tally, screen, settings, 399, 320, false)?;
+    say(rt, b"Timetable K, with trip 2 leaving stop 1 at 319\n")?;
+    day(rt, tally, screen, settings, 460, 319, false)?;
+    say(rt, b"Timetable K\n")?;
+    day(rt, tally, screen, settings, 460, 320, true)
 }
 
 // T2 leaves stop 1 just 120 seconds after T0 arrives there.
-fn house(tally: &mut [u32; 128], screen: u32, settings: Settings, transfer_time: u32) {
+fn house(
+    rt: &impl Print,
+    tally: &mut [u32; 128],
+    screen: u32,
+    settings: Settings,
+    transfer_time: u32,
+) -> io::Result<()> {
     let mut other = settings;
     other.transfer_time = transfer_time;
-    tell(b"Transfer time # s\n", &[transfer_time]);
-    day(tally, screen, other, 460, 320, false);
+    tell(rt, b"Transfer time # s\n", &[transfer_time])?;
+    day(rt, tally, screen, other, 460, 320, false)
 }
 
 // The same timetable where changes by built transfers take longer, and where a setting is out of its range.
-pub fn houses(tally: &mut [u32; 128], screen: u32, settings: Settings) {
-    say(b"\nTimetable K under other settings\n");
-    house(tally, screen, settings, 120);
-    house(tally, screen, settings, 121);
-    house(tally, screen, settings, 3601);
+pub fn houses(
+    rt: &impl Print,
+    tally: &mut [u32; 128],
+    screen: u32,
+    settings: Settings,
+) -> io::Result<()> {
+    say(rt, b"\nTimetable K under other settings\n")?;
+    house(rt, tally, screen, settings, 120)?;
+    house(rt, tally, screen, settings, 121)?;
+    house(rt, tally, screen, settings, 3601)
 }

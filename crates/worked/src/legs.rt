@@ -5,6 +5,7 @@ use crate::words::{at, part, tell, wide};
 use door::Settings;
 use label::LabelRow;
 use sizes::QuerySizes;
+use std::io;
 
 // A label and the row where it stands.
 #[derive(Clone, Copy)]
@@ -197,33 +198,49 @@ pub fn joined(
     first.kind == 1
 }
 
-fn access(l: LabelRow) {
-    tell(b"walk # s to stop #; ", &[l.word3, l.word1]);
+fn access(rt: &impl Print, l: LabelRow) -> io::Result<()> {
+    tell(rt, b"walk # s to stop #; ", &[l.word3, l.word1])
 }
 
-fn ride(tally: &mut [u32; 128], by: Caller, tables: &[u32], query: &[u32], l: LabelRow, stop: u32) {
+fn ride(
+    rt: &impl Print,
+    tally: &mut [u32; 128],
+    by: Caller,
+    tables: &[u32],
+    query: &[u32],
+    l: LabelRow,
+    stop: u32,
+) -> io::Result<()> {
     let leaving = departure(tally, by, tables, query, l);
     let n = [l.word2, l.word3, leaving, stop, l.word1];
-    tell(b"trip # from stop # at @ to stop #, arriving @; ", &n);
+    tell(rt, b"trip # from stop # at @ to stop #, arriving @; ", &n)
 }
 
-fn walk(l: LabelRow) {
+fn walk(rt: &impl Print, l: LabelRow) -> io::Result<()> {
     let n = [l.word4, l.word2, l.word3];
-    tell(b"walk # s from stop # to stop #; ", &n);
+    tell(rt, b"walk # s from stop # to stop #; ", &n)
 }
 
 // One leg: a ride or a walk.
-fn leg(tally: &mut [u32; 128], by: Caller, tables: &[u32], query: &[u32], l: LabelRow, stop: u32) {
+fn leg(
+    rt: &impl Print,
+    tally: &mut [u32; 128],
+    by: Caller,
+    tables: &[u32],
+    query: &[u32],
+    l: LabelRow,
+    stop: u32,
+) -> io::Result<()> {
     if l.kind == 2 {
-        ride(tally, by, tables, query, l, stop);
-        return;
+        return ride(rt, tally, by, tables, query, l, stop);
     }
-    walk(l);
+    walk(rt, l)
 }
 
 // The legs to a stop in a row, at most so many: those to the stop that the label there came from, then this one. A label leads
 // back to the highest row not above its own, since a round sees its own gains.
 pub fn legs(
+    rt: &impl Print,
     tally: &mut [u32; 128],
     by: Caller,
     most: u32,
@@ -233,17 +250,17 @@ pub fn legs(
     distances: &[f64],
     stop: u32,
     row: u32,
-) {
+) -> io::Result<()> {
     if most == 0 {
-        return;
+        return Ok(());
     }
     let found = label_at(tally, by, stop, row, labels, distances);
     let l = found.label;
     if l.kind < 2 {
-        access(l);
-        return;
+        return access(rt, l);
     }
     legs(
+        rt,
         tally,
         by,
         most - 1,
@@ -253,6 +270,6 @@ pub fn legs(
         distances,
         stop_before(l),
         found.row,
-    );
-    leg(tally, by, tables, query, l, stop);
+    )?;
+    leg(rt, tally, by, tables, query, l, stop)
 }

@@ -2,7 +2,7 @@
 ghost use Rattle.std.specs.Prelude.{◌<◌};
 
 use crate::words::{say, tell, wide};
-use libc::STDOUT_FILENO;
+use std::io;
 
 // The answered and the refused calls of all screens.
 #[derive(Clone, Copy)]
@@ -31,50 +31,49 @@ fn together(tally: &[u32; 128]) -> Sums {
     }
 }
 
-fn show_sums(s: Sums) {
-    say(b"  all screens: ");
-    io::print_decimal(STDOUT_FILENO, s.answered as u64);
-    say(b" answered, ");
-    io::print_decimal(STDOUT_FILENO, s.refused as u64);
-    say(b" refused\n");
+fn show_sums(rt: &impl Print, s: Sums) -> io::Result<()> {
+    let answered = s.answered;
+    let refused = s.refused;
+    println!(rt; "  all screens: {answered} answered, {refused} refused")
 }
 
 // A screen that a call was made for.
-fn show_screen(tally: &[u32; 128], screen: u32)
+fn show_screen(rt: &impl Print, tally: &[u32; 128], screen: u32) -> io::Result<()>
     requires { screen < 64 }
 {
     let at = screen as usize;
     let answered = tally[at];
     let refused = tally[at + 64];
     if answered == 0 && refused == 0 {
-        return;
+        return Ok(());
     }
     tell(
+        rt,
         b"  screen #: # answered, # refused\n",
         &[screen, answered, refused],
-    );
+    )
 }
 
 // Each screen that a call was made for, and all together.
-pub fn show_tally(tally: &[u32; 128]) -> Sums {
-    say(b"\nThe box's tally: the calls of each screen\n");
+pub fn show_tally(rt: &impl Print, tally: &[u32; 128]) -> io::Result<Sums> {
+    say(rt, b"\nThe box's tally: the calls of each screen\n")?;
     let mut s: u32 = 0;
     while s < 64 {
-        show_screen(tally, s);
+        show_screen(rt, tally, s)?;
         s += 1;
     }
     let all = together(tally);
-    show_sums(all);
-    all
+    show_sums(rt, all)?;
+    Ok(all)
 }
 
 // Was a call counted since the sums were these?
-pub fn show_since(tally: &[u32; 128], before: Sums) {
+pub fn show_since(rt: &impl Print, tally: &[u32; 128], before: Sums) -> io::Result<()> {
     let now = together(tally);
     if now.answered == before.answered && now.refused == before.refused {
-        say(b"  counted nowhere\n");
+        say(rt, b"  counted nowhere\n")?;
     } else {
-        say(b"  counted\n");
+        say(rt, b"  counted\n")?;
     }
-    show_sums(now);
+    show_sums(rt, now)
 }

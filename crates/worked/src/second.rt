@@ -5,6 +5,7 @@ use crate::building::{Made, build};
 use crate::words::{part, refused, say};
 use door::Settings;
 use sizes::QuerySizes;
+use std::io;
 
 fn sizes() -> QuerySizes {
     QuerySizes {
@@ -46,6 +47,7 @@ fn timetable(arrives: u32) -> [u32; 84] {
 
 // From stop 0 (10 seconds) to stop 3 (5 seconds), at 90, change time 120.
 fn shown(
+    rt: &impl Print,
     tally: &mut [u32; 128],
     screen: u32,
     settings: Settings,
@@ -53,15 +55,15 @@ fn shown(
     tables: &[u32],
     built: &[u32],
     area: &[u32],
-) {
+) -> io::Result<()> {
     if made.code != 0 {
-        refused(made.code);
-        return;
+        return refused(rt, made.code);
     }
     let distances = [12.5f64];
     let query = [90u32, 120, 0, 0, 0, 0, 0, 0, 10, 3, 5];
     let n = part(made.length, built.len());
     ask(
+        rt,
         tally,
         screen,
         settings,
@@ -71,17 +73,18 @@ fn shown(
         area,
         &distances,
         &query,
-    );
+    )
 }
 
 fn day_in(
+    rt: &impl Print,
     tally: &mut [u32; 128],
     screen: u32,
     settings: Settings,
     tables: &[u32],
     area: &mut [u32],
     built: &mut [u32],
-) {
+) -> io::Result<()> {
     let runs = [0u32, 2, 2, 1, 3, 1, 4, 0]; // stop 0 lists two departures, stops 1 and 2 one each, stop 3 none
     let mut rows = [0u32, 0, 1, 0, 2, 0, 3, 0]; // trip and offset: T0, T1; T2; T3
     let made = build(
@@ -95,19 +98,36 @@ fn day_in(
         area,
         built,
     );
-    shown(tally, screen, settings, made, tables, built, area);
+    shown(rt, tally, screen, settings, made, tables, built, area)
 }
 
-fn day(tally: &mut [u32; 128], screen: u32, settings: Settings, arrives: u32) {
+fn day(
+    rt: &impl Print,
+    tally: &mut [u32; 128],
+    screen: u32,
+    settings: Settings,
+    arrives: u32,
+) -> io::Result<()> {
     let tables = timetable(arrives);
     let mut area = [0u32; 256];
     let mut built = [0u32; 288];
-    day_in(tally, screen, settings, &tables, &mut area, &mut built);
+    day_in(rt, tally, screen, settings, &tables, &mut area, &mut built)
 }
 
-pub fn run(tally: &mut [u32; 128], screen: u32, settings: Settings) {
-    say(b"\nA round that boards where it arrived: start 90, change time 120 s\n");
-    day(tally, screen, settings, 200);
-    say(b"The same, with trip 0 arriving at 90, before it leaves\n");
-    day(tally, screen, settings, 90);
+pub fn run(
+    rt: &impl Print,
+    tally: &mut [u32; 128],
+    screen: u32,
+    settings: Settings,
+) -> io::Result<()> {
+    say(
+        rt,
+        b"\nA round that boards where it arrived: start 90, change time 120 s\n",
+    )?;
+    day(rt, tally, screen, settings, 200)?;
+    say(
+        rt,
+        b"The same, with trip 0 arriving at 90, before it leaves\n",
+    )?;
+    day(rt, tally, screen, settings, 90)
 }

@@ -4,6 +4,7 @@ use crate::building::{Made, build, show_lines};
 use crate::words::{part, refused, say};
 use door::Settings;
 use sizes::QuerySizes;
+use std::io;
 
 fn sizes() -> QuerySizes {
     QuerySizes {
@@ -108,6 +109,7 @@ fn query_delayed(start: u32) -> [u32; 20] {
 }
 
 fn plain(
+    rt: &impl Print,
     tally: &mut [u32; 128],
     screen: u32,
     settings: Settings,
@@ -117,13 +119,14 @@ fn plain(
     tables: &[u32],
     built: &[u32],
     area: &[u32],
-) {
+) -> io::Result<()> {
     let d = distances();
     let q = query(start, wheelchair);
-    ask(tally, screen, settings, s, tables, built, area, &d, &q);
+    ask(rt, tally, screen, settings, s, tables, built, area, &d, &q)
 }
 
 fn delayed(
+    rt: &impl Print,
     tally: &mut [u32; 128],
     screen: u32,
     settings: Settings,
@@ -132,13 +135,13 @@ fn delayed(
     tables: &[u32],
     built: &[u32],
     area: &[u32],
-) {
+) -> io::Result<()> {
     let mut n = s;
     n.delays = 1;
     n.stop_rows = 1;
     let d = distances();
     let q = query_delayed(start);
-    ask(tally, screen, settings, n, tables, built, area, &d, &q);
+    ask(rt, tally, screen, settings, n, tables, built, area, &d, &q)
 }
 
 // Metres: the six walk edges, then the origin.
@@ -147,6 +150,7 @@ fn distances() -> [f64; 7] {
 }
 
 fn queries(
+    rt: &impl Print,
     tally: &mut [u32; 128],
     screen: u32,
     settings: Settings,
@@ -154,18 +158,28 @@ fn queries(
     tables: &[u32],
     built: &[u32],
     area: &[u32],
-) {
-    say(b"Start 28600 s (7:56:40)\n");
-    plain(tally, screen, settings, 28600, 0, s, tables, built, area);
-    say(b"Start 28600 s (7:56:40), trip 3 late by 300 s, at stop 7 by 240 s\n");
-    delayed(tally, screen, settings, 28600, s, tables, built, area);
-    say(b"Start 28600 s (7:56:40), in a wheelchair\n");
-    plain(tally, screen, settings, 28600, 1, s, tables, built, area);
-    say(b"Start 32400 s (9:00:00)\n");
-    plain(tally, screen, settings, 32400, 0, s, tables, built, area);
+) -> io::Result<()> {
+    say(rt, b"Start 28600 s (7:56:40)\n")?;
+    plain(
+        rt, tally, screen, settings, 28600, 0, s, tables, built, area,
+    )?;
+    say(
+        rt,
+        b"Start 28600 s (7:56:40), trip 3 late by 300 s, at stop 7 by 240 s\n",
+    )?;
+    delayed(rt, tally, screen, settings, 28600, s, tables, built, area)?;
+    say(rt, b"Start 28600 s (7:56:40), in a wheelchair\n")?;
+    plain(
+        rt, tally, screen, settings, 28600, 1, s, tables, built, area,
+    )?;
+    say(rt, b"Start 32400 s (9:00:00)\n")?;
+    plain(
+        rt, tally, screen, settings, 32400, 0, s, tables, built, area,
+    )
 }
 
 fn shown(
+    rt: &impl Print,
     tally: &mut [u32; 128],
     screen: u32,
     settings: Settings,
@@ -173,14 +187,14 @@ fn shown(
     tables: &[u32],
     built: &[u32],
     area: &[u32],
-) {
+) -> io::Result<()> {
     if made.code != 0 {
-        refused(made.code);
-        return;
+        return refused(rt, made.code);
     }
     let n = part(made.length, built.len());
-    show_lines(tally, screen, settings, made.sizes, tables, &built[..n]);
+    show_lines(rt, tally, screen, settings, made.sizes, tables, &built[..n])?;
     queries(
+        rt,
         tally,
         screen,
         settings,
@@ -188,10 +202,11 @@ fn shown(
         tables,
         &built[..n],
         area,
-    );
+    )
 }
 
 fn day_in(
+    rt: &impl Print,
     tally: &mut [u32; 128],
     screen: u32,
     settings: Settings,
@@ -199,7 +214,7 @@ fn day_in(
     rows: &mut [u32],
     area: &mut [u32],
     built: &mut [u32],
-) {
+) -> io::Result<()> {
     let runs = runs();
     let made = build(
         tally,
@@ -212,16 +227,24 @@ fn day_in(
         area,
         built,
     );
-    shown(tally, screen, settings, made, tables, built, area);
+    shown(rt, tally, screen, settings, made, tables, built, area)
 }
 
-pub fn run(tally: &mut [u32; 128], screen: u32, settings: Settings) {
+pub fn run(
+    rt: &impl Print,
+    tally: &mut [u32; 128],
+    screen: u32,
+    settings: Settings,
+) -> io::Result<()> {
     let tables = timetable();
     let mut rows = listed();
     let mut area = [0u32; 256];
     let mut built = [0u32; 288];
-    say(b"\nA larger timetable: ten stops, ten trips, stairs, lifts, a frequency trip\n");
+    say(
+        rt,
+        b"\nA larger timetable: ten stops, ten trips, stairs, lifts, a frequency trip\n",
+    )?;
     day_in(
-        tally, screen, settings, &tables, &mut rows, &mut area, &mut built,
-    );
+        rt, tally, screen, settings, &tables, &mut rows, &mut area, &mut built,
+    )
 }

@@ -1,81 +1,80 @@
 // Text, numbers and times on standard output; words of a slice; how long a part of a slice may be.
-ghost use Rattle.std.specs.Prelude.{◌+◌, ◌<◌, ◌≤◌, length};
+ghost use Rattle.std.specs.Prelude.{◌+◌, ◌<◌, ◌≤◌, IfOk, length};
 
-use libc::STDOUT_FILENO;
+use std::io;
 
-pub fn say(text: &[u8]) {
-    io::write_all(STDOUT_FILENO, text);
+pub fn say(rt: &impl Print, text: &[u8]) -> io::Result<()> {
+    rt.write_all(text)
 }
 
-pub fn number(n: u32) {
-    io::print_decimal(STDOUT_FILENO, n as u64);
+pub fn number(rt: &impl Print, n: u32) -> io::Result<()> {
+    print!(rt; "{n}")
 }
 
 // A text and a number after it.
-pub fn say_number(text: &[u8], n: u32) {
-    say(text);
-    number(n);
+pub fn say_number(rt: &impl Print, text: &[u8], n: u32) -> io::Result<()> {
+    say(rt, text)?;
+    number(rt, n)
 }
 
 // A number that may be below zero: an i32's bits.
-pub fn signed_number(bits: u32) {
+pub fn signed_number(rt: &impl Print, bits: u32) -> io::Result<()> {
     if bits < 2147483648 {
-        number(bits);
-        return;
+        return number(rt, bits);
     }
-    say_number(b"-", 4294967295 - bits + 1);
+    say_number(rt, b"-", 4294967295 - bits + 1)
 }
 
-fn two_digits(n: u32) {
+fn two_digits(rt: &impl Print, n: u32) -> io::Result<()> {
     if n < 10 {
-        say_number(b":0", n);
-        return;
+        return say_number(rt, b":0", n);
     }
-    say_number(b":", n);
+    say_number(rt, b":", n)
 }
 
 // A service second with its clock reading.
-fn time(n: u32) {
-    number(n);
-    say_number(b" s (", n / 3600);
-    two_digits(n / 60 % 60);
-    two_digits(n % 60);
-    say(b")");
+fn time(rt: &impl Print, n: u32) -> io::Result<()> {
+    number(rt, n)?;
+    say_number(rt, b" s (", n / 3600)?;
+    two_digits(rt, n / 60 % 60)?;
+    two_digits(rt, n % 60)?;
+    say(rt, b")")
 }
 
 // Byte i of a text, or word k for it: '#' is a number, '@' a time. Which word is next.
-fn tell_byte(text: &[u8], i: usize, n: &[u32], k: usize) -> usize
+fn tell_byte(rt: &impl Print, text: &[u8], i: usize, n: &[u32], k: usize) -> io::Result<usize>
     requires i_bound { i < length text.now }
     requires k_bound { k ≤ i }
-    ensures { result ≤ i + 1 }
+    ensures { IfOk result (λ next. next ≤ i + 1) }
 {
     let b = text[i];
     if b == 35 {
-        number(at(n, k));
-        return k + 1;
+        number(rt, at(n, k))?;
+        return Ok(k + 1);
     }
     if b == 64 {
-        time(at(n, k));
-        return k + 1;
+        time(rt, at(n, k))?;
+        return Ok(k + 1);
     }
     let e = i + 1;
-    say(&text[i..e]);
-    k
+    say(rt, &text[i..e])?;
+    Ok(k)
 }
 
 // A text with a word of n for each '#' and '@' in it, in turn.
-pub fn tell(text: &[u8], n: &[u32]) {
+pub fn tell(rt: &impl Print, text: &[u8], n: &[u32]) -> io::Result<()> {
     let mut k: usize = 0;
     let mut i: usize = 0;
     while i < text.len() {
-        k = tell_byte(text, i, n, k);
+        k = tell_byte(rt, text, i, n, k)?;
         i += 1;
     }
+    Ok(())
 }
 
-pub fn refused(code: u32) {
-    say_number(b"  refused by question ", code);
-    say(b"\n");
+pub fn refused(rt: &impl Print, code: u32) -> io::Result<()> {
+    say_number(rt, b"  refused by question ", code)?;
+    say(rt, b"\n")
 }
 
 // A number as a length.

@@ -3,7 +3,6 @@ use borrow.Author.Rules.{rules}
 use native.Mathlib.Omega.{arith}
 use Rattle.event_transfers.specs.Packed.{prepared, trip_keys, area_walk}
 use mathlib.Core.Path.{refl}
-use Prim.Native.Nat.{◌-◌}
 use Rattle.event_transfers.proofs.all_events.Goals as goal
 
 pub loop-ti-init : goal.loop-ti-init

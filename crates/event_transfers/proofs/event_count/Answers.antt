@@ -4,7 +4,6 @@ use Rattle.tables.specs.Timetable.{timetable}
 use native.Mathlib.Omega.{arith}
 use Rattle.event_transfers.proofs.Counting.{all_of_them, events_step}
 use mathlib.Core.Path.{◌∙◌, ap, refl}
-use Prim.Native.Nat.{◌-◌}
 use Rattle.event_transfers.proofs.event_count.Goals as goal
 
 pub loop-i-init : goal.loop-i-init

@@ -1,7 +1,6 @@
 use Rattle.event_transfers.proofs.Grouping.{after_again, after_left, line_inside}
 use borrow.Author.Rules.{rules}
 use native.Mathlib.Omega.{arith}
-use Prim.Native.Nat.{◌-◌}
 use Rattle.event_transfers.proofs.lines_after.Goals as goal
 
 pub loop-k-init : goal.loop-k-init

@@ -3,7 +3,6 @@ use Rattle.event_transfers.specs.Packed.{prepared, trip_keys}
 use mathlib.Core.List.{flatten}
 use native.Mathlib.Omega.{arith}
 use mathlib.Core.Path.{refl}
-use Prim.Native.Nat.{◌-◌}
 use Rattle.event_transfers.proofs.most_all.Goals as goal
 
 pub loop-ti-init : goal.loop-ti-init

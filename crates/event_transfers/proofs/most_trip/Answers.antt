@@ -1,7 +1,6 @@
 use Rattle.event_transfers.proofs.Events.{event_time, most_again, most_event, most_left, most_start}
 use Rattle.event_transfers.specs.Packed.{event_keys, prepared}
 use native.Mathlib.Omega.{arith}
-use Prim.Native.Nat.{◌-◌}
 use Rattle.event_transfers.proofs.most_trip.Goals as goal
 
 pub loop-off-init : goal.loop-off-init

@@ -9,7 +9,7 @@ use Prim.Native.Nat.{ℕ, ◌+◌, ◌*◌, ◌/◌}
 use Rattle.event_transfers.proofs.narrowed.Goals as goal
 
 pub below-requires : goal.below-requires
-below-requires c = record { x_bound = omega (arith, c.shared_slice_known-2-1.given (c.args.lo + c.args.size / 2)); key_bound = c.requires.key_bound }
+below-requires c = record { x_bound = omega (arith, c.type_inv.part (c.args.lo + c.args.size / 2)); key_bound = c.requires.key_bound }
 
 pub overflow_mul-result : goal.overflow_mul-result
 overflow_mul-result c = omega (arith, at_most_once (c.args.size / 2) c.below.result c.below.ensures.bound)

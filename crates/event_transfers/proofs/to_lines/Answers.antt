@@ -3,10 +3,7 @@ use Rattle.event_transfers.specs.Packed.{laid}
 use borrow.Author.Rules.{rules}
 use native.Mathlib.Omega.{arith}
 use mathlib.Core.Path.{refl}
-use Prim.Native.Nat.{◌-◌}
 use Rattle.event_transfers.proofs.to_lines.Goals as goal
-
--- GONE slice-bounds-to-line-end: let c₁ = c.before.before.before.before.before.before in     omega (arith, line_inside c₁.args.run.now c.before.before.loop.k c.line-end.result c₁.requires.0 c.line-end.ensures (omega arith))
 
 pub loop-k-init : goal.loop-k-init
 loop-k-init c = (omega arith, refl, refl)
@@ -16,6 +13,10 @@ line_end-requires c = record { keys = search rules; line_ends = search rules; k_
 
 pub overflow_add-q : goal.overflow_add-q
 overflow_add-q c = omega (arith, line_inside c.args.run.now c.loop-k.k c.line_end.result c.requires.keys c.line_end.ensures (omega arith))
+
+pub to_line-m-requires : goal.to_line-m-requires
+to_line-m-requires c =
+    record { group = line_group c.args.run.now c.loop-k.k c.line_end.result c.requires.keys c.line_end.ensures; time_bound = c.requires.time_bound; w_bound = c.requires.w_bound }
 
 pub loop-k-smaller : goal.loop-k-smaller
 loop-k-smaller c =

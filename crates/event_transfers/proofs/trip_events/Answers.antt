@@ -2,7 +2,6 @@ use Rattle.event_transfers.proofs.Events.{events_again, events_left, event-at, e
 use Rattle.event_transfers.specs.Packed.{event_keys, prepared, area_walk}
 use native.Mathlib.Omega.{arith}
 use mathlib.Core.Path.{refl}
-use Prim.Native.Nat.{◌-◌}
 use Rattle.event_transfers.proofs.trip_events.Goals as goal
 
 pub loop-off-init : goal.loop-off-init

@@ -3,7 +3,7 @@ use Rattle.event_transfers.specs.Packed.{event_keys, lay_events, prepared, trip_
 use Rattle.tables.specs.Tables.{count_of}
 use mathlib.Core.Path.{◌≡◌}
 use Prim.Native.Nat.{◌+◌, ◌-◌, ◌≤◌}
-use Rattle.loops.specs.Count.{count, tab_from}
+use Rattle.loops.specs.Count.{tab_from}
 use Rattle.event_transfers.proofs.trip_events.Given as goal
 
 abbrev pub invariant-loop-off : goal.invariant-loop-off

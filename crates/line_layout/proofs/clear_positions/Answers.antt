@@ -3,7 +3,6 @@ use lib.ListN.{length-set}
 use Rattle.loops.proofs.Count.{fill_again, tab_is}
 use native.Mathlib.Omega.{arith}
 use mathlib.Core.Path.{refl}
-use Prim.Native.Nat.{◌-◌}
 use Rattle.line_layout.proofs.clear_positions.Goals as goal
 
 pub loop-i-init : goal.loop-i-init

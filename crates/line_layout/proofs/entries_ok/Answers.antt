@@ -4,7 +4,6 @@ use Rattle.loops.proofs.Iter.{every_again, every_left, every_no}
 use Rattle.line_layout.specs.Listed.{entries_ok}
 use native.Mathlib.Omega.{arith}
 use mathlib.Core.Path.{refl}
-use Prim.Native.Nat.{◌-◌}
 use Rattle.line_layout.proofs.entries_ok.Goals as goal
 
 pub loop-p-init : goal.loop-p-init

@@ -5,7 +5,6 @@ use Rattle.loops.proofs.Count.{fill_again, tab_is}
 use Rattle.line_layout.specs.Layout.{fifo_of}
 use native.Mathlib.Omega.{arith}
 use mathlib.Core.Path.{ap, refl}
-use Prim.Native.Nat.{◌-◌}
 use Rattle.line_layout.proofs.line_fifo.Goals as goal
 
 pub loop-l-init : goal.loop-l-init

@@ -2,7 +2,6 @@ use Rattle.line_layout.specs.Listed.{line_runs_ok, line_run_in}
 use Rattle.loops.proofs.Iter.{every_again, every_left, every_no}
 use native.Mathlib.Omega.{arith}
 use mathlib.Core.Path.{◌∙◌, ap, refl, sym}
-use Prim.Native.Nat.{◌-◌}
 use Rattle.line_layout.proofs.line_runs_ok.Goals as goal
 
 pub loop-l-init : goal.loop-l-init

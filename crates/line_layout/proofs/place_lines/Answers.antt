@@ -5,7 +5,7 @@ use lib.ListN.{length}
 use Rattle.loops.specs.Count.{tab}
 use native.Mathlib.Omega.{arith}
 use mathlib.Core.Path.{◌∙◌, ◌≡◌, ap}
-use Prim.Native.Nat.{◌+◌, ◌-◌, ℕ}
+use Prim.Native.Nat.{◌+◌, ℕ}
 use Rattle.line_layout.proofs.place_lines.Goals as goal
 
 pub loop-l-init : goal.loop-l-init

@@ -4,7 +4,7 @@ use lib.ListN.{length}
 use Rattle.loops.specs.Count.{tab}
 use native.Mathlib.Omega.{arith}
 use mathlib.Core.Path.{◌∙◌, ◌≡◌, ap, refl, ap₂}
-use Prim.Native.Nat.{◌+◌, ◌-◌, ℕ}
+use Prim.Native.Nat.{◌+◌, ℕ}
 use Rattle.line_layout.proofs.place_run.Goals as goal
 
 pub loop-p-init : goal.loop-p-init

@@ -2,7 +2,6 @@ use Rattle.line_layout.specs.Layout.{in_order}
 use Rattle.loops.proofs.Iter.{every_again, every_left, every_no}
 use native.Mathlib.Omega.{arith}
 use mathlib.Core.Path.{◌∙◌, ap₂, refl, sym}
-use Prim.Native.Nat.{◌-◌}
 use Rattle.line_layout.proofs.times_in_order.Goals as goal
 
 pub loop-k-init : goal.loop-k-init

@@ -1,5 +1,4 @@
 use Rattle.tables.specs.Timetable.{timetable}
-use Prim.Native.Nat.{◌-◌}
 use Rattle.line_numbers.specs.Grouping.{LeadsWalked}
 use Rattle.line_numbers.proofs.find_line.Given as goal
 

@@ -2,7 +2,7 @@ use Rattle.loops.proofs.Iter.{range_again, range_left}
 use borrow.Author.Rules.{rules}
 use native.Mathlib.Omega.{arith}
 use mathlib.Core.Path.{ap, refl}
-use Prim.Native.Nat.{◌%◌, ◌*◌, ◌+◌, ◌-◌, ℕ}
+use Prim.Native.Nat.{◌%◌, ◌*◌, ◌+◌, ℕ}
 use Rattle.line_numbers.proofs.key_run.Goals as goal
 
 pub loop-k-init : goal.loop-k-init

@@ -6,7 +6,6 @@ use Rattle.line_numbers.proofs.Group.{group_start}
 use Rattle.loops.specs.Count.{count}
 use native.Mathlib.Omega.{arith}
 use mathlib.Core.Path.{◌∙◌, ap, refl}
-use Prim.Native.Nat.{◌-◌}
 use Rattle.line_numbers.proofs.number_lines.Goals as goal
 
 pub loop-i-init : goal.loop-i-init

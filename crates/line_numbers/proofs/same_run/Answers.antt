@@ -3,7 +3,6 @@ use Rattle.loops.proofs.Iter.{every_again, every_left, every_no}
 use borrow.Author.Tests.{eq-eqb, ne_eqb}
 use native.Mathlib.Omega.{arith}
 use mathlib.Core.Path.{refl}
-use Prim.Native.Nat.{◌-◌}
 use Rattle.line_numbers.proofs.same_run.Goals as goal
 
 pub loop-k-init : goal.loop-k-init
