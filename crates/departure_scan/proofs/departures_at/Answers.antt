@@ -1,0 +1,18 @@
+use Rattle.departure_scan.proofs.Runs.{run_fits, run_names}
+use Rattle.query_input.proofs.Parts.{rows_size}
+use lib.ListN.{length}
+use Rattle.query_input.specs.Lent.{departure_rows, stop_runs}
+use native.Mathlib.Omega.{arith}
+use mathlib.Core.Path.{ap}
+use Rattle.departure_scan.proofs.departures_at.Goals as goal
+
+pub stop_run-r-requires : goal.stop_run-r-requires
+stop_run-r-requires c = omega (arith, c.requires.runs_listed.size, c.requires.x_bound, ap length c.stop_runs.ensures)
+
+pub departures_of-requires : goal.departures_of-requires
+departures_of-requires c =
+    run_fits (stop_runs c.args.built.now c.args.counts) (departure_rows c.args.built.now c.args.counts) _ _ c.args.x _ c.stop_runs.ensures c.stop_run-r.ensures.value c.departure_rows.ensures _ (c.requires.runs_listed.run c.args.x c.requires.x_bound) (rows_size c.args.built.now c.args.counts c.requires.marks_at)
+
+pub returns : goal.returns
+returns c =
+    run_names (stop_runs c.args.built.now c.args.counts) (departure_rows c.args.built.now c.args.counts) _ _ c.args.x _ c.stop_runs.ensures c.stop_run-r.ensures.value c.departure_rows.ensures _ c.departures_of.ensures
