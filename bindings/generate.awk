@@ -125,6 +125,8 @@ exported == 2 { line = $0; sub(/^ +/, "", line); signature = signature " " line;
 
 /^#\[repr\(C\)\]$/ { shared = 1; next }
 
+shared && /^#\[derive\(/ { next }
+
 shared && /^pub struct / {
     name = $3
     if (!last && (name in fields)) fail("two structs " name)
@@ -134,7 +136,7 @@ shared && /^pub struct / {
     next
 }
 
-last && /^#\[no_mangle\]$/ { exported = 1; next }
+last && /^#\[unsafe\(no_mangle\)\]$/ { exported = 1; next }
 
 last && exported && /^pub extern "C" fn / { exported = 2; signature = $0; whole(); next }
 
