@@ -7,7 +7,7 @@ use mathlib.Core.List.{List, [], ◌∷◌}
 use lib.Dec.{eqb}
 use Rattle.loops.specs.Iter.{iter, every, first}
 use Rattle.door.specs.Settings.{default_settings, settings_ok}
-use Rattle.door.proofs.House.{four, no_trip_tried}
+use Rattle.door.proofs.House.{no_trip_tried}
 use Rattle.frequency_call.specs.declared.FreqAnswer.{FreqAnswer}
 use Rattle.frequency.specs.declared.FreqBoard.{FreqBoard}
 use Rattle.frequency.specs.declared.FreqBoard.TheVariants.{Nothing, Board}

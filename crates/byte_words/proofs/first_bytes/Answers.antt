@@ -3,7 +3,5 @@ use mathlib.Core.Path.{ap}
 use Rattle.byte_words.proofs.Words.{one_shl_bytes}
 use Rattle.byte_words.proofs.first_bytes.Goals as goal
 
--- GONE nonzero-rem-result: omega (arith, one_shl_bytes c.args.n c.requires, pow_pos (c.args.n * 8))
-
 pub returns : goal.returns
 returns c = ap (λ (x : ℕ). c.args.word % x) (one_shl_bytes c.args.n c.requires)

@@ -1,6 +1,6 @@
-use Rattle.delay_call.specs.DelayCall.{delay_counts, delays_door}
+use Rattle.delay_call.specs.DelayCall.{delays_door}
 use Rattle.door.specs.Settings.{settings_ok}
-use Rattle.door.proofs.Laws.{Within, within, not_within, ask_no, ask_on, ask_past}
+use Rattle.door.proofs.Laws.{within, not_within, ask_no, ask_on, ask_past}
 use mathlib.Core.Path.{◌∙◌, sym, refl}
 use Rattle.delay_call.proofs.delays_door.Goals as goal
 

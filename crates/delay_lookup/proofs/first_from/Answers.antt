@@ -1,5 +1,4 @@
 use borrow.Author.Tests.{le-leb, lt-leb}
-use Rattle.delay_lookup.specs.Halving.{key_at}
 use Rattle.loops.proofs.Search.{halved_end, halved_down, halved_start, halved_up}
 use Rattle.delay_lookup.proofs.Search.{mul_below}
 use native.Mathlib.Omega.{arith}

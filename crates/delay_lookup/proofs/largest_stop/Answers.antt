@@ -1,9 +1,6 @@
-use Rattle.delay_rows.specs.Flat.{stop_row_at}
 use Rattle.loops.proofs.Iter.{range_again, range_left}
-use Rattle.delay_rows.specs.Delays.{given_size}
 use native.Mathlib.Omega.{arith}
 use mathlib.Core.Path.{refl}
-use Prim.Native.Nat.{◌-◌}
 use Rattle.delay_lookup.proofs.largest_stop.Goals as goal
 
 pub loop-j-init : goal.loop-j-init

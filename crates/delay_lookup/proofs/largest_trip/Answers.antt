@@ -1,8 +1,6 @@
 use Rattle.loops.proofs.Iter.{range_again, range_left}
-use Rattle.delay_rows.specs.Flat.{delay_row_at}
 use native.Mathlib.Omega.{arith}
 use mathlib.Core.Path.{refl}
-use Prim.Native.Nat.{◌-◌}
 use Rattle.delay_lookup.proofs.largest_trip.Goals as goal
 
 pub loop-i-init : goal.loop-i-init

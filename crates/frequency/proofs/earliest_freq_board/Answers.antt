@@ -2,7 +2,6 @@ use Rattle.loops.proofs.Iter.{range_left}
 use Rattle.frequency.proofs.Best.{again, none_yet}
 use native.Mathlib.Omega.{arith}
 use mathlib.Core.Path.{◌∙◌}
-use Prim.Native.Nat.{◌-◌}
 use Rattle.frequency.proofs.earliest_freq_board.Goals as goal
 
 pub loop-i-init : goal.loop-i-init

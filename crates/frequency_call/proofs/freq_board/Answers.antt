@@ -1,9 +1,7 @@
 use Rattle.frequency_call.proofs.FrequencyCall.{answered, nominal, refused}
 use borrow.Author.Tests.{eq-eqb, leb-true, ne_eqb}
 use mathlib.Core.Path.{◌∙◌, refl, sym}
-use lib.Dec.{leb}
-use Rattle.door.specs.Settings.{settings_ok}
-use Rattle.door.proofs.Laws.{Within, within}
+use Rattle.door.proofs.Laws.{within}
 use Rattle.frequency.specs.declared.FreqBoard.TheVariants.{Nothing, Board}
 use Rattle.frequency_call.proofs.freq_board.Goals as goal
 

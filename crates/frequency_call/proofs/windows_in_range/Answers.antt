@@ -1,8 +1,6 @@
-use Rattle.frequency_call.specs.FrequencyCall.{window_in_range}
 use Rattle.loops.proofs.Iter.{every_again, every_left, every_no}
 use native.Mathlib.Omega.{arith}
 use mathlib.Core.Path.{◌∙◌, refl, sym}
-use Prim.Native.Nat.{◌-◌}
 use Rattle.frequency_call.proofs.windows_in_range.Goals as goal
 
 pub loop-i-init : goal.loop-i-init

@@ -1,9 +1,9 @@
-use borrow.Author.Tests.{le-leb, lt-leb, not-false, not-true}
+use borrow.Author.Tests.{le-leb, lt-leb}
 use mathlib.Core.Path.{◌∙◌, refl, sym}
 use native.Mathlib.Omega.{arith}
 use lib.Dec.{leb}
 use Rattle.door.specs.Settings.{settings_ok}
-use Rattle.door.proofs.Laws.{Within, within, not_within, ask_no, ask_on, ask_past}
+use Rattle.door.proofs.Laws.{within, not_within, ask_no, ask_on, ask_past}
 use Rattle.label_call.specs.Calls.{place_code}
 use Rattle.label_call.proofs.place.Goals as goal
 

@@ -1,4 +1,4 @@
-use mathlib.Core.Path.{◌∙◌, ◌≡◌, sym}
+use mathlib.Core.Path.{◌∙◌, sym}
 use Rattle.door.proofs.Laws.{given_is, ranged, ranged_yes, refused_is}
 use Rattle.door.specs.Settings.{settings_ok}
 use Rattle.leaf_calls.specs.ClockCall.{clock_in_range, reading}

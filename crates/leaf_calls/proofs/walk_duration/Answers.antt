@@ -1,4 +1,4 @@
-use mathlib.Core.Path.{◌∙◌, ◌≡◌, sym}
+use mathlib.Core.Path.{◌∙◌, sym}
 use Rattle.door.proofs.Laws.{given_is, ranged, ranged_yes, refused_is}
 use lib.Dec.{eqb}
 use Rattle.walk_time.specs.Walk.{effective_duration}

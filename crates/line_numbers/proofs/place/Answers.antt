@@ -27,4 +27,3 @@ bounds-work-b-2 c =
 pub returns : goal.returns
 returns c =
     group_new (timetable c.args.tables.now c.args.c) c.args.lines.now c.args.leads.now c.args.work.now c.args.other.now c.args.n c.args.i c.requires.grouping c.requires.i_bound c.find_line-l.result c.bucket-b.result c.find_line-l.ensures c.if-l-n.false c.bucket-b.ensures
-

@@ -3,7 +3,6 @@ use borrow.Author.Tests.{le-ltb, lt-ltb}
 use Rattle.loops.proofs.Iter.{every_again, every_left, every_no}
 use native.Mathlib.Omega.{arith}
 use mathlib.Core.Path.{refl}
-use Prim.Native.Nat.{◌-◌}
 use Rattle.transfers_call.proofs.lines_ok.Goals as goal
 
 pub loop-i-init : goal.loop-i-init

@@ -4,7 +4,6 @@ use lib.ListN.{length-set, set}
 use Rattle.loops.proofs.Count.{fill_again, tab_is}
 use native.Mathlib.Omega.{arith}
 use mathlib.Core.Path.{◌∙◌, ap, refl}
-use Prim.Native.Nat.{◌-◌}
 use Rattle.transfers_call.proofs.pack_lines.Goals as goal
 
 pub loop-k-init : goal.loop-k-init

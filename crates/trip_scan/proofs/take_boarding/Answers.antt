@@ -4,8 +4,6 @@ use Prim.Native.Nat.{◌+◌}
 use mathlib.Core.Path.{◌∙◌, sym}
 use Rattle.trip_scan.proofs.take_boarding.Goals as goal
 
--- GONE overflow-cast-t20: let a = c.before.before.before.before.before.before.before.before in let x = a.args in let g = a.requires.0.sane in let k = g.runs.run x.trip a.requires.1.0.trip_in in omega (arith, k, a.requires.1.0.offset_in, g.counts.times)
-
 pub trip-first-requires : goal.trip-first-requires
 trip-first-requires c =
     record { counts_ok = c.requires.counts_agree.sane.counts; slices_ok = c.requires.counts_agree.sane.slices; i_bound = c.requires.boarded_at.trip_in; k_bound = omega arith }

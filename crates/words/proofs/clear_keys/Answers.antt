@@ -3,7 +3,6 @@ use lib.ListN.{length, length-set}
 use Rattle.loops.proofs.Count.{fill_again}
 use native.Mathlib.Omega.{arith}
 use mathlib.Core.Path.{refl}
-use Prim.Native.Nat.{◌-◌}
 use Rattle.words.proofs.clear_keys.Goals as goal
 
 pub loop-i-init : goal.loop-i-init

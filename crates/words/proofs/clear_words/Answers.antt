@@ -3,7 +3,6 @@ use Rattle.loops.proofs.Count.{fill_again}
 use Rattle.words.proofs.Filling.{cleared}
 use native.Mathlib.Omega.{arith}
 use mathlib.Core.Path.{refl}
-use Prim.Native.Nat.{◌-◌}
 use Rattle.words.proofs.clear_words.Goals as goal
 
 pub loop-i-init : goal.loop-i-init
