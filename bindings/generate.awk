@@ -1,4 +1,4 @@
-# The awk program of bindings/generate: to is c or rust; the files are those with the structs, and last the one with the calls (again).
+# The awk program of bindings/generate: to is c, rust or crate; the files are those with the structs, and last the one with the calls (again).
 
 BEGIN { THEIRS = "The Rust's own four numbers, for a house that wants no others." }
 
@@ -113,8 +113,16 @@ defaulting {
 
 /^pub fn default_settings\(\) -> Settings$/ { defaulting = 1; forget(); next }
 
-# a signature that goes on
-exported == 2 { line = $0; sub(/^ +/, "", line); signature = signature " " line; whole(); next }
+# a signature that goes on, and the clauses below it
+exported == 2 { line = $0; sub(/^ +/, "", line); signature = signature " " line; lines = lines "\n" $0; whole(); next }
+
+stating && /^\{$/ { stated[calls] = lines; stating = 0; next }
+
+stating { lines = lines "\n" $0; next }
+
+last && /^ghost use / { ghosts = ghosts "\n" $0 }
+
+last && /^use / { uses = uses "\n" $0 }
 
 /^\/\// {
     line = $0
@@ -125,6 +133,8 @@ exported == 2 { line = $0; sub(/^ +/, "", line); signature = signature " " line;
 
 /^#\[repr\(C\)\]$/ { shared = 1; next }
 
+shared && /^#\[derive\(/ { next }
+
 shared && /^pub struct / {
     name = $3
     if (!last && (name in fields)) fail("two structs " name)
@@ -134,15 +144,15 @@ shared && /^pub struct / {
     next
 }
 
-last && /^#\[no_mangle\]$/ { exported = 1; next }
+last && /^#\[unsafe\(no_mangle\)\]$/ { exported = 1; next }
 
-last && exported && /^pub extern "C" fn / { exported = 2; signature = $0; whole(); next }
+last && exported && /^pub extern "C" fn / { exported = 2; signature = lines = $0; whole(); next }
 
 /^$/ { if (last && comment != "") text[calls + 1] = text[calls + 1] comment "\n"; forget(); next }
 
 { if (exported) fail("not an exported call: " $0); forget() }
 
-# Where the signature is whole, keeps the call.
+# Where the signature is whole, keeps the call; its clauses follow.
 function whole(    sig, p) {
     if (signature !~ /\)( -> [A-Za-z0-9_]+)?$/) return
     sig = signature
@@ -160,6 +170,7 @@ function whole(    sig, p) {
     takes[calls] = sig
     about[named[calls]] = comment
     forget()
+    stating = 1
 }
 
 # WRITING
@@ -345,6 +356,45 @@ function write_rust(    i) {
     print "}"
 }
 
+# The call of a call's like-named one, in rt fmt's layout: on a line where its arguments have at most 60 characters; else, where each has at most 10, in
+# lines of at most 100, and else each in a line.
+function call_of(name, takes,    n, p, k, list, width, long, line, out) {
+    n = split(takes, p, /, /)
+    for (k = 1; k <= n; k++) {
+        sub(/: .*/, "", p[k])
+        list = list (k > 1 ? ", " : "") p[k]
+        if (length(p[k]) > 10) long = 1
+    }
+    name = "    exports::" name "("
+    if (length(list) <= 60 && length(name list) < 100) return name list ")"
+    if (long) {
+        gsub(/, /, ",\n        ", list)
+        return name "\n        " list ",\n    )"
+    }
+    line = "       "
+    for (k = 1; k <= n; k++) {
+        if (length(line) + length(p[k]) + 2 > 100) { out = out line "\n"; line = "       " }
+        line = line " " p[k] ","
+    }
+    return name "\n" out line "\n    )"
+}
+
+function write_crate(    i) {
+    print "// exports_c: the calls of the library as a static library, for C and for Rust. A crate is a library or a static library and not both, so `exports` is the"
+    print "// library, on which the programs stand, and this crate has a function of the same C name for each of its calls, which makes that call."
+    print "// Written by bindings/generate: change crates/exports/src/lib.rt, which also says what each call is, and not this file."
+    print "// Place: above exports; no crate stands on it."
+    print "// Proves: each call keeps the clauses of its like in `exports`, which stand here word for word."
+    print "// Assumes nothing."
+    print "#![tactic(auto)]"
+    print ghosts
+    print uses
+    for (i = 1; i <= calls; i++) {
+        if (!(i in stated)) fail("no body of " named[i])
+        print "\n#[unsafe(no_mangle)]\n" stated[i] "\n{\n" call_of(named[i], takes[i]) "\n}"
+    }
+}
+
 END {
     if (failed) exit 1
     if (calls == 0) fail("no exported call")
@@ -354,5 +404,6 @@ END {
         if (gives[reading] != "" && !number(gives[reading])) need(gives[reading])
     }
     if (to == "c") write_c()
-    else write_rust()
+    else if (to == "rust") write_rust()
+    else write_crate()
 }

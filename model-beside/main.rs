@@ -28,7 +28,7 @@ fn main() {
         none += g.best.is_none() as u64;
         queued += queue.iter().any(|n| *n > 0) as u64;
         print_tables(number, &c);
-        print_answer(number, "runTbr", "r", &c, &g, &scans, &queue);
+        print_answer(number, "run_tbr", "r", &c, &g, &scans, &queue);
         if skip_nothing(&c) {
             idle_flags += 1;
             let (g, scans, queue) = run(&c, true);

@@ -11,7 +11,7 @@ fn main() {
     if !archive.is_file() {
         eprintln!("savoiky: there is no {}", archive.display());
         eprintln!(
-            "savoiky: run `rt staticlib exports` in the repository, or set SAVOIKY_LIB to the folder that has libexports.a"
+            "savoiky: run `bindings/staticlib` in the repository, or set SAVOIKY_LIB to the folder that has libexports.a"
         );
         std::process::exit(1);
     }
