@@ -1,8 +1,7 @@
 // tally: answered and refused calls of each screen, 0 to 63 (request T-08).
 // The box owns one record of 128 numbers, answered calls of screen s at s and its refused calls at 64 + s, and lends it to every exported call.
 // `count` is the one thin function with `&mut` to a tally record, a screen's own (`ScreenTally`), over `counted`, which is on the numbers;
-// `tallied` lends it a record that is held by value; `count_call`, with plain parameters, serves every exported call. `count` and `tallied` are
-// proved by a walk of their MIR, by hand; all else is covered.
+// `tallied` lends it a record that is held by value; `count_call`, with plain parameters, serves every exported call.
 // Place: the foundation.
 // Specs (claims): the tally, one call more (Tally); a call for a screen and the tally after it (Screen); sequences of calls and their laws (Laws).
 // Proves: every function equal to its definition; in proofs/Laws what a screen shows after any calls, that the other screens' calls do not change
