@@ -285,7 +285,7 @@ function announced(s,    k) {
 }
 
 function write_c(    i, t, n, k) {
-    print "/* savoiky.h: the calls of Savoiky, for C11 and C++11 on x86-64 Linux. Link with libexports.a, which `rt staticlib exports` writes."
+    print "/* savoiky.h: the calls of Savoiky, for C11 and C++11 on x86-64 Linux. Link with libexports.a, which bindings/staticlib writes."
     print " * Written by bindings/generate: change crates/exports/src/lib.rt, not this file. */"
     print "#ifndef SAVOIKY_H\n#define SAVOIKY_H\n"
     print "#include <stdbool.h>\n#include <stddef.h>\n#include <stdint.h>\n"

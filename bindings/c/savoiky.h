@@ -1,4 +1,4 @@
-/* savoiky.h: the calls of Savoiky, for C11 and C++11 on x86-64 Linux. Link with libexports.a, which `rt staticlib exports` writes.
+/* savoiky.h: the calls of Savoiky, for C11 and C++11 on x86-64 Linux. Link with libexports.a, which bindings/staticlib writes.
  * Written by bindings/generate: change crates/exports/src/lib.rt, not this file. */
 #ifndef SAVOIKY_H
 #define SAVOIKY_H

@@ -1,5 +1,5 @@
 // Lines of the building calls: a timetable of fixed shape, and what each call must answer and leave.
-use crate::words::{at, both, first_nine, part, rest, same_words};
+use crate::line_words::{at, both, first_nine, part, rest, same_words};
 use door::Settings;
 
 // The timetable, and the runs of its stops.

@@ -1,8 +1,8 @@
 // The cases: is each answer the one on the line?
 ghost use Rattle.std.specs.Prelude.{◌<◌};
 
+use crate::line_words::{Nine, at, both, first_nine, length_at, part, rest, same_words};
 use crate::tallies::{set_tally, tally_is};
-use crate::words::{Nine, at, both, first_nine, length_at, part, rest, same_words};
 use crate::{building, chains, queries};
 use cell_bitset::CellBitSet;
 use delay_call::DelayAt;

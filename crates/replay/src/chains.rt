@@ -3,8 +3,8 @@
 ghost use Rattle.std.specs.Prelude.{◌<◌};
 
 use crate::building::copy_words;
+use crate::line_words::{both, part, rest, same_words};
 use crate::queries::{all_are, left, put_distances};
-use crate::words::{both, part, rest, same_words};
 use door::{Answer, Settings};
 use sizes::QuerySizes;
 

@@ -11,10 +11,10 @@ ghost use Rattle.std.specs.Io.{ReadsAtMost};
 mod building;
 mod cases;
 mod chains;
+mod line_words;
 mod lines;
 mod queries;
 mod tallies;
-mod words;
 
 use std::io;
 use std::io::Read;

@@ -1,7 +1,7 @@
 // Lines of `run_tbr` and `query`: a search as it is lent, and what each of the two calls must answer and leave.
 ghost use Rattle.std.specs.Prelude.{◌≤◌, ◌<◌};
 
-use crate::words::{at, both, first_nine, length_at, part, rest, same_words};
+use crate::line_words::{at, both, first_nine, length_at, part, rest, same_words};
 use door::Settings;
 use query_reply::Reply;
 use sizes::QuerySizes;

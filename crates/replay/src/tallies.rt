@@ -1,5 +1,5 @@
 // Lines of the tally: the answered calls of screens 0 to 63, then the refused ones.
-use crate::words::{at, same_words};
+use crate::line_words::{at, same_words};
 
 // Sets the tally to these words.
 pub fn set_tally(tally: &mut [u32; 128], w: &[u32]) {

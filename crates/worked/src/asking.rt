@@ -1,6 +1,6 @@
 // A query put to the compiled call, and its answer printed.
 use crate::legs::{Caller, arrival, joined, label_at, legs};
-use crate::words::{at, part, refused, say, tell, wide};
+use crate::telling::{at, part, refused, say, tell, wide};
 use door::Settings;
 use query_reply::Reply;
 use sizes::QuerySizes;

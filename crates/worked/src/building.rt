@@ -1,7 +1,7 @@
 // A timetable built by the exported calls, and what they made of it.
 ghost use Rattle.std.specs.Prelude.{◌<◌};
 
-use crate::words::{at, part, put, refused, say, say_number, tell, wide};
+use crate::telling::{at, part, put, refused, say, say_number, tell, wide};
 use door::{Answer, Settings};
 use sizes::QuerySizes;
 use std::io;

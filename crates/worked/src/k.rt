@@ -1,7 +1,7 @@
 // Timetable K of document 01, built and asked; and built under other settings.
 use crate::asking::ask;
 use crate::building::{Made, build, show_lines, show_transfers};
-use crate::words::{part, refused, say, tell};
+use crate::telling::{part, refused, say, tell};
 use door::Settings;
 use sizes::QuerySizes;
 use std::io;

@@ -1,7 +1,7 @@
 // The legs of an answer: the labels followed back from a stop and a row to an access label, and whether they join.
 ghost use Rattle.std.specs.Prelude.{◌<◌};
 
-use crate::words::{at, part, tell, wide};
+use crate::telling::{at, part, tell, wide};
 use door::Settings;
 use label::LabelRow;
 use sizes::QuerySizes;

@@ -12,10 +12,10 @@ mod k;
 mod legs;
 mod screens;
 mod second;
+mod telling;
 mod town;
-mod words;
 
-use crate::words::{at, number, refused, say, say_number, signed_number, tell, wide};
+use crate::telling::{at, number, refused, say, say_number, signed_number, tell, wide};
 use door::Settings;
 use frequency_call::FreqAnswer;
 use std::io;

@@ -1,7 +1,7 @@
 // What the box's tally shows: the calls of each screen, and of all screens together.
 ghost use Rattle.std.specs.Prelude.{◌<◌};
 
-use crate::words::{say, tell, wide};
+use crate::telling::{say, tell, wide};
 use std::io;
 
 // The answered and the refused calls of all screens.

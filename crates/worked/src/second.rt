@@ -2,7 +2,7 @@
 // there in the same round. So the label before trip 3 is that of its own row.
 use crate::asking::ask;
 use crate::building::{Made, build};
-use crate::words::{part, refused, say};
+use crate::telling::{part, refused, say};
 use door::Settings;
 use sizes::QuerySizes;
 use std::io;

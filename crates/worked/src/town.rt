@@ -1,7 +1,7 @@
 // A larger timetable: ten stops, ten trips in five lines, stairs and lifts, a frequency trip, a trip that does not run.
 use crate::asking::ask;
 use crate::building::{Made, build, show_lines};
-use crate::words::{part, refused, say};
+use crate::telling::{part, refused, say};
 use door::Settings;
 use sizes::QuerySizes;
 use std::io;

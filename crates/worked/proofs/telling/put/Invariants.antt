@@ -1,5 +1,5 @@
 use Rattle.std.proofs.Common.{◌+◌, ◌-◌, ◌≤◌, length}
-use Rattle.worked.proofs.words.put.Given as goal
+use Rattle.worked.proofs.telling.put.Given as goal
 
 abbrev pub invariant-loop-i : goal.invariant-loop-i
 invariant-loop-i l = (l.i ≤ l.left) × (l.from + l.left ≤ length l.to)
