@@ -380,8 +380,9 @@ function call_of(name, takes,    n, p, k, list, width, long, line, out) {
 }
 
 function write_crate(    i) {
-    print "// exports_c: the calls of the library as a static library, for C and for Rust. A crate is a library or a static library and not both, so `exports` is the"
-    print "// library, on which the programs stand, and this crate has a function of the same C name for each of its calls, which makes that call."
+    print "// exports_c: the calls of the library as a static library, for C and for Rust. A crate is a library or a static library and not both, so"
+    print "// `exports` is the library, on which the programs stand, and this crate has a function of the same C name for each of its calls, which makes"
+    print "// that call."
     print "// Written by bindings/generate: change crates/exports/src/lib.rt, which also says what each call is, and not this file."
     print "// Place: above exports; no crate stands on it."
     print "// Proves: each call keeps the clauses of its like in `exports`, which stand here word for word."

@@ -1,5 +1,6 @@
-// exports_c: the calls of the library as a static library, for C and for Rust. A crate is a library or a static library and not both, so `exports` is the
-// library, on which the programs stand, and this crate has a function of the same C name for each of its calls, which makes that call.
+// exports_c: the calls of the library as a static library, for C and for Rust. A crate is a library or a static library and not both, so
+// `exports` is the library, on which the programs stand, and this crate has a function of the same C name for each of its calls, which makes
+// that call.
 // Written by bindings/generate: change crates/exports/src/lib.rt, which also says what each call is, and not this file.
 // Place: above exports; no crate stands on it.
 // Proves: each call keeps the clauses of its like in `exports`, which stand here word for word.
