@@ -103,7 +103,7 @@ inside != "" {
     next
 }
 
-# the body of default_settings: the fields' numbers
+# the settings' Default: the fields' numbers
 defaulting {
     if ($0 ~ /^}/) { defaulting = 0; next }
     line = $0
@@ -111,7 +111,7 @@ defaulting {
     next
 }
 
-/^pub fn default_settings\(\) -> Settings$/ { defaulting = 1; forget(); next }
+/^impl Default for Settings \{$/ { defaulting = 1; forget(); next }
 
 # a signature that goes on, and the clauses below it
 exported == 2 { line = $0; sub(/^ +/, "", line); signature = signature " " line; lines = lines "\n" $0; whole(); next }
@@ -265,13 +265,13 @@ function c_tally() {
     print "    return total;\n}"
 }
 
-# The numbers of default_settings, in the order of the fields: named for Rust.
+# The numbers of the settings' Default, in the order of the fields: named for Rust.
 function defaults(    i, n, f, field, out) {
     n = split(fields["Settings"], f, ";")
     for (i = 1; i < n; i++) {
         field = f[i]
         sub(/: .*/, "", field)
-        if (!(field in default_of)) fail("default_settings gives no " field)
+        if (!(field in default_of)) fail("the settings' Default gives no " field)
         out = out (i > 1 ? ", " : "") (to == "c" ? "" : field ": ") default_of[field]
     }
     return out

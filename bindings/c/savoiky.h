@@ -101,7 +101,7 @@ typedef struct SavoikyCellBitSet {
 } SavoikyCellBitSet;
 SAVOIKY_SIZE(SavoikyCellBitSet, 68);
 
-/* The answer of a call that gives a set: 0 and the set made, or the number of the first no. */
+/* What a caller in C reads of a call that gives a set: 0 and the set made, or the number of the first no and the set as it came. */
 typedef struct SavoikyCellSetAnswer {
     uint32_t code;
     SavoikyCellBitSet set;
@@ -205,7 +205,7 @@ SavoikyAnswer savoiky_margin(SavoikyTally *tally, uint32_t screen, SavoikySettin
     uint32_t delay_row_count, uint32_t stop_row_count, const uint32_t *delay_rows, size_t delay_rows_len,
     const uint32_t *stop_rows, size_t stop_rows_len);
 
-/* The answer of delay_at: code 0, and known 1 where the trip has a delay row; or the number of the first no, the rest 0. */
+/* What a caller in C reads of `delay_at`: code 0, and known 1 where the trip has a delay row; or the number of the first no, the rest 0. */
 typedef struct SavoikyDelayAt {
     uint32_t code;
     uint32_t known;
@@ -276,7 +276,7 @@ typedef struct SavoikyLabelRow {
 } SavoikyLabelRow;
 SAVOIKY_SIZE(SavoikyLabelRow, 40);
 
-/* What `load` answers: code 0 with the row, or the number of the first no with an empty row. */
+/* What a caller in C reads of `load`: code 0 with the row, or the number of the first no with an empty row. */
 typedef struct SavoikyLabelAnswer {
     uint32_t code;
     SavoikyLabelRow row;

@@ -5,7 +5,7 @@ use mathlib.Core.Logic.{⊎_elim}
 use mathlib.Core.Bool.{Bool, true, false, cond, ◌&&◌, ◌||◌, not}
 use mathlib.Core.List.Memᴰ
 use mathlib.Core.List.{List, [], ◌∷◌, ◌++◌, Memᴰ}
-use mathlib.Core.Option.{Option, none, some}
+use Rattle.std.specs.Prelude.{Option, None, Some}
 use native.Mathlib.Omega.{arith}
 use lib.ListN.{get_or, set}
 use lib.Dec.{ltb, leb, eqb}
@@ -15,8 +15,6 @@ use Rattle.loops.specs.Count.{tab_from, upto}
 use Rattle.loops.proofs.Iter.{and_left, and_right}
 use Rattle.sorts.specs.Orders.{keep}
 use Rattle.frequency.specs.declared.BoardedRun.{BoardedRun}
-use Rattle.frequency.specs.declared.FreqBoard.{FreqBoard}
-use Rattle.frequency.specs.declared.FreqBoard.TheVariants.{Nothing, Board}
 use Rattle.label.specs.declared.Label.{Label}
 use Rattle.label.specs.declared.Label.TheVariants.{Access, Transit, Walk}
 use Rattle.label.specs.Table.{record_of}
@@ -117,8 +115,8 @@ module _ (T : Tables) (Q : Query) where
 
   -- a resolved target is a trip of the table, boarded at an offset of its
   pub data Found (o : ℕ) : Option (ℕ × BoardedRun) → Type 0 where
-    nowhere : Found o none
-    there : {b : ℕ × BoardedRun} → b.0 < trips T → o < stop_count T b.0 → Found o (some b)
+    nowhere : Found o None
+    there : {b : ℕ × BoardedRun} → b.0 < trips T → o < stop_count T b.0 → Found o (Some b)
 
   resolve_in_found : (is_fifo : Bool) (o after best : ℕ) (trip : ℕ → ℕ) (k p : ℕ) → Found o (resolve_in T Q is_fifo o after best trip k p)
   unfolding resolve_in
@@ -130,19 +128,19 @@ module _ (T : Tables) (Q : Query) where
       (board_at T Q (delay_of Q (trip p)) (trip p) o after) is_fifo
       (λ f. resolve_in_found f o after best trip k (suc p))
     where
-      go : (a : Bool) → (ltb (trip p) (trips T) && ltb o (stop_count T (trip p))) ≡ a → (b c : Bool) (f : FreqBoard) (i : Bool)
+      go : (a : Bool) → (ltb (trip p) (trips T) && ltb o (stop_count T (trip p))) ≡ a → (b c : Bool) (f : Option BoardedRun) (i : Bool)
           → ((i : Bool) → Found o (resolve_in T Q i o after best trip k (suc p)))
           → Found o (elim a [
             | false ↦ resolve_in T Q i o after best trip k (suc p)
             | true ↦ elim b [
-              | true ↦ none
+              | true ↦ None
               | false ↦ elim c [
                 | true ↦ resolve_in T Q i o after best trip k (suc p)
                 | false ↦ elim f [
-                  | Nothing ↦ resolve_in T Q i o after best trip k (suc p)
-                  | Board g ↦ elim (ltb g.departure best) [
-                    | true ↦ some (trip p, g)
-                    | false ↦ elim i [ true ↦ none | false ↦ resolve_in T Q false o after best trip k (suc p) ]
+                  | None ↦ resolve_in T Q i o after best trip k (suc p)
+                  | Some g ↦ elim (ltb g.departure best) [
+                    | true ↦ Some (trip p, g)
+                    | false ↦ elim i [ true ↦ None | false ↦ resolve_in T Q false o after best trip k (suc p) ]
                   ]
                 ]
               ]
@@ -151,13 +149,13 @@ module _ (T : Tables) (Q : Query) where
       go false e b c f i r = r i
       go true e true c f i r = nowhere
       go true e false true f i r = r i
-      go true e false false Nothing i r = r i
-      go true e false false (Board g) i r = last (ltb g.departure best) i
+      go true e false false None i r = r i
+      go true e false false (Some g) i r = last (ltb g.departure best) i
         where
           last : (l i : Bool)
               → Found o (elim l [
-                | true ↦ some (trip p, g)
-                | false ↦ elim i [ true ↦ none | false ↦ resolve_in T Q false o after best trip k (suc p) ]
+                | true ↦ Some (trip p, g)
+                | false ↦ elim i [ true ↦ None | false ↦ resolve_in T Q false o after best trip k (suc p) ]
               ])
           last true i = let u : ltb (trip p) (trips T) ≡ true = and_left (ltb (trip p) (trips T)) (ltb o (stop_count T (trip p))) e in
               let w : ltb o (stop_count T (trip p)) ≡ true = and_right (ltb (trip p) (trips T)) (ltb o (stop_count T (trip p))) e in
@@ -254,11 +252,11 @@ module _ (T : Tables) (Q : Query) {R J : ℕ → Type 0} where
             → ((c : Arrivals) → Moves T Q R J true stamp c (take_transfers T Q stamp v x es c))
             → Moves T Q R J true stamp a (elim b [
               | false ↦ take_transfers T Q stamp v x es a
-              | true ↦ elim o [ none ↦ take_transfers T Q stamp v x es a | some b ↦ take_transfers T Q stamp v x es (after b) ]
+              | true ↦ elim o [ None ↦ take_transfers T Q stamp v x es a | Some b ↦ take_transfers T Q stamp v x es (after b) ]
             ])
         go false o f r = r a
-        go true none f r = r a
-        go true (some b) (there l m) r =
+        go true None f r = r a
+        go true (Some b) (there l m) r =
             moves_trans
             (relax_moves true stamp (stop_at T b.0 e.offset) b.1.departure _ a (F.stop_in b.0 e.offset (F.trip_in b.0 l) m))
             (queue b.0 e.offset (stop_at T b.0 e.offset) b.1.time_shift_s refl (F.trip_in b.0 l) m (r (after b)))
@@ -378,17 +376,17 @@ module _ (T : Tables) (Q : Query) {R J : ℕ → Type 0} where
               boardings = board T Q round stamp (delay_of Q d.trip) d.trip d.offset b.departure s.boardings;
             }
 
-        go : (b : Bool) (f : FreqBoard) → ((u : State) → Goes T Q R J flagged stamp u (scan_departures T Q flagged has_freq round stamp x after ds u))
+        go : (b : Bool) (f : Option BoardedRun) → ((u : State) → Goes T Q R J flagged stamp u (scan_departures T Q flagged has_freq round stamp x after ds u))
             → Goes T Q R J flagged stamp s (elim b [
               | true ↦ s
               | false ↦ elim f [
-                | Nothing ↦ scan_departures T Q flagged has_freq round stamp x after ds s
-                | Board b ↦ scan_departures T Q flagged has_freq round stamp x after ds (n b)
+                | None ↦ scan_departures T Q flagged has_freq round stamp x after ds s
+                | Some b ↦ scan_departures T Q flagged has_freq round stamp x after ds (n b)
               ]
             ])
         go true f r = goes_stay flagged stamp s
-        go false Nothing r = r s
-        go false (Board b) r =
+        go false None r = r s
+        go false (Some b) r =
             goes_trans (record {
               moves = scan_moves flagged stamp (delay_of Q d.trip) b.time_shift_s d.trip x d.offset s.arrivals
                   (I d (Memᴰ.head refl));

@@ -4,7 +4,7 @@ use mathlib.Core.Path.{◌≡◌, refl}
 use mathlib.Core.Logic.{inl}
 use mathlib.Core.Bool.{Bool, true, false, cond, ◌&&◌, ◌||◌, not}
 use mathlib.Core.List.{List, [], ◌∷◌, ◌++◌, Memᴰ}
-use mathlib.Core.Option.{Option, none, some}
+use Rattle.std.specs.Prelude.{Option, None, Some}
 use native.Mathlib.Omega.{arith}
 use lib.ListN.{get_or, set, length-set}
 use lib.Dec.{ltb, leb, eqb}
@@ -13,8 +13,6 @@ use Rattle.door.specs.Door.{time_limit}
 use Rattle.loops.specs.Iter.{Hit}
 use Rattle.loops.proofs.Iter.{and_left, and_right}
 use Rattle.frequency.specs.declared.BoardedRun.{BoardedRun}
-use Rattle.frequency.specs.declared.FreqBoard.{FreqBoard}
-use Rattle.frequency.specs.declared.FreqBoard.TheVariants.{Nothing, Board}
 use Rattle.label.specs.declared.Label.{Label}
 use Rattle.label.specs.declared.Label.TheVariants.{Transit, Walk}
 use Rattle.label.specs.Label.{no_distance}
@@ -89,8 +87,8 @@ module _ (T : Tables) (Q : Query) where
 
   -- what resolving finds is a boarding from that second on
   pub data Found (o after : ℕ) : Option (ℕ × BoardedRun) → Type 0 where
-    nowhere : Found o after none
-    found : {t : ℕ} {b : BoardedRun} (B : Boarded T Q t o b) → B.after ≡ after → Found o after (some (t, b))
+    nowhere : Found o after None
+    found : {t : ℕ} {b : BoardedRun} (B : Boarded T Q t o b) → B.after ≡ after → Found o after (Some (t, b))
 
   pub resolve-in : (is_fifo : Bool) (o after best : ℕ) (trip : ℕ → ℕ) (k p : ℕ) → Found o after (resolve_in T Q is_fifo o after best trip k p)
   unfolding resolve_in
@@ -107,23 +105,23 @@ module _ (T : Tables) (Q : Query) where
       Rest = (f : Bool) → Found o after (resolve_in T Q f o after best trip k (suc p))
 
       go₃ : Rest → (x f : Bool) (b : BoardedRun) (B : Boarded T Q t o b) → B.after ≡ after
-          → Found o after (elim x [ true ↦ some (t, b) | false ↦ elim f [ true ↦ none | false ↦ resolve_in T Q false o after best trip k (suc p) ] ])
+          → Found o after (elim x [ true ↦ Some (t, b) | false ↦ elim f [ true ↦ None | false ↦ resolve_in T Q false o after best trip k (suc p) ] ])
       go₃ rest true f b B z = found B z
       go₃ rest false true b B z = nowhere
       go₃ rest false false b B z = rest false
 
       go₂ : Rest → (ltb t (trips T) && ltb o (stop_count T t)) ≡ true
           → ((not (usable T Q t) || no_pickup T t o) || skipped T Q (delay_of Q t) t o) ≡ false
-          → (y : FreqBoard) → board_at T Q (delay_of Q t) t o after ≡ y
+          → (y : Option BoardedRun) → board_at T Q (delay_of Q t) t o after ≡ y
           → Found o after (elim y [
-            | Nothing ↦ resolve_in T Q is_fifo o after best trip k (suc p)
-            | Board b ↦ elim (ltb b.departure best) [
-              | true ↦ some (t, b)
-              | false ↦ elim is_fifo [ true ↦ none | false ↦ resolve_in T Q false o after best trip k (suc p) ]
+            | None ↦ resolve_in T Q is_fifo o after best trip k (suc p)
+            | Some b ↦ elim (ltb b.departure best) [
+              | true ↦ Some (t, b)
+              | false ↦ elim is_fifo [ true ↦ None | false ↦ resolve_in T Q false o after best trip k (suc p) ]
             ]
           ])
-      go₂ rest h n Nothing e = rest is_fifo
-      go₂ rest h n (Board b) e =
+      go₂ rest h n None e = rest is_fifo
+      go₂ rest h n (Some b) e =
           let m = or-false (not (usable T Q t) || no_pickup T t o) (skipped T Q (delay_of Q t) t o) n in
           go₃ rest (ltb b.departure best) is_fifo b
           (record {
@@ -138,18 +136,18 @@ module _ (T : Tables) (Q : Query) where
 
       go₁ : Rest → (x : Bool) → (ltb t (trips T) && ltb o (stop_count T t)) ≡ x → (y z : Bool)
           → ((not (usable T Q t) || no_pickup T t o) || skipped T Q (delay_of Q t) t o) ≡ z
-          → (w : FreqBoard) → board_at T Q (delay_of Q t) t o after ≡ w
+          → (w : Option BoardedRun) → board_at T Q (delay_of Q t) t o after ≡ w
           → Found o after (elim x [
             | false ↦ resolve_in T Q is_fifo o after best trip k (suc p)
             | true ↦ elim y [
-              | true ↦ none
+              | true ↦ None
               | false ↦ elim z [
                 | true ↦ resolve_in T Q is_fifo o after best trip k (suc p)
                 | false ↦ elim w [
-                  | Nothing ↦ resolve_in T Q is_fifo o after best trip k (suc p)
-                  | Board b ↦ elim (ltb b.departure best) [
-                    | true ↦ some (t, b)
-                    | false ↦ elim is_fifo [ true ↦ none | false ↦ resolve_in T Q false o after best trip k (suc p) ]
+                  | None ↦ resolve_in T Q is_fifo o after best trip k (suc p)
+                  | Some b ↦ elim (ltb b.departure best) [
+                    | true ↦ Some (t, b)
+                    | false ↦ elim is_fifo [ true ↦ None | false ↦ resolve_in T Q false o after best trip k (suc p) ]
                   ]
                 ]
               ]
@@ -209,11 +207,11 @@ module _ (T : Tables) (Q : Query) where
         go : ((c : Arrivals) → On c → On (take_transfers T Q stamp v x es c)) → (h : Bool) (z : Option (ℕ × BoardedRun)) → Found e.offset (v + e.time) z
             → On (elim h [
               | false ↦ take_transfers T Q stamp v x es b
-              | true ↦ elim z [ none ↦ take_transfers T Q stamp v x es b | some y ↦ take_transfers T Q stamp v x es (taken y.0 y.1) ]
+              | true ↦ elim z [ None ↦ take_transfers T Q stamp v x es b | Some y ↦ take_transfers T Q stamp v x es (taken y.0 y.1) ]
             ])
         go on false z F = on b S
-        go on true none F = on b S
-        go on true (some y) (found {t = t} {b = c} B f) =
+        go on true None F = on b S
+        go on true (Some y) (found {t = t} {b = c} B f) =
             on (taken t c)
             (enqueue_steps t e.offset (stop_at T t e.offset) c.time_shift_s (record { boarding = c; boarded = B; stop = refl; shift = refl })
             (relax_steps (stop_at T t e.offset) c.departure (Walk c.departure x (stop_at T t e.offset) e.time no_distance (stamp - 1))

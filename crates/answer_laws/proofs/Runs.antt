@@ -11,8 +11,7 @@ use lib.ListN.{length, get_or, set, length-append}
 use lib.Dec.{ltb, leb, eqb}
 use borrow.Author.Tests.{ltb-true, ltb-false}
 use Rattle.frequency.specs.declared.BoardedRun.{BoardedRun}
-use Rattle.frequency.specs.declared.FreqBoard.{FreqBoard}
-use Rattle.frequency.specs.declared.FreqBoard.TheVariants.{Nothing, Board}
+use Rattle.std.specs.Prelude.{Option, None, Some}
 use Rattle.label.specs.declared.Label.{Label}
 use Rattle.label.specs.declared.Label.TheVariants.{Access, Walk}
 use Rattle.label.specs.Table.{record_of}
@@ -34,9 +33,9 @@ module _ (T : Tables) (Q : Query) where
     pub stop : stop_at T d.trip d.offset ≡ x
 
   -- how a listed departure is boarded, if it is
-  pub data Taken (t o : ℕ) : FreqBoard → Type 0 where
-    passed : Taken t o Nothing
-    taken : {y : BoardedRun} → permitted T Q t ≡ true → Boarded T Q t o y → Taken t o (Board y)
+  pub data Taken (t o : ℕ) : Option BoardedRun → Type 0 where
+    passed : Taken t o None
+    taken : {y : BoardedRun} → permitted T Q t ≡ true → Boarded T Q t o y → Taken t o (Some y)
 
   -- THE RUN, after r rounds
   pub record Ran (r : ℕ) (s : State) : Type 0 where
@@ -77,26 +76,26 @@ module _ (T : Tables) (Q : Query) (D : Door T Q) where
       go (((not (permitted T Q t) || pruned T Q (delay_of Q t) t o s.boardings) || no_pickup T t o) || skipped T Q (delay_of Q t) t o) refl
       (board_at T Q (delay_of Q t) t o after) refl
     where
-      last : (x : Bool) (y : BoardedRun) → Taken T Q t o (Board y) → Taken T Q t o (elim x [ true ↦ Nothing | false ↦ Board y ])
+      last : (x : Bool) (y : BoardedRun) → Taken T Q t o (Some y) → Taken T Q t o (elim x [ true ↦ None | false ↦ Some y ])
       last true y k = passed
       last false y k = k
 
       go : (x : Bool)
           → (((not (permitted T Q t) || pruned T Q (delay_of Q t) t o s.boardings) || no_pickup T t o) || skipped T Q (delay_of Q t) t o) ≡ x
-          → (y : FreqBoard) → board_at T Q (delay_of Q t) t o after ≡ y
+          → (y : Option BoardedRun) → board_at T Q (delay_of Q t) t o after ≡ y
           → Taken T Q t o (elim x [
-            | true ↦ Nothing
+            | true ↦ None
             | false ↦ elim y [
-              | Nothing ↦ Nothing
-              | Board b ↦ elim (leb s.arrivals.best b.departure || passed_over T Q stamp t o b.departure s.boardings) [
-                | true ↦ Nothing
-                | false ↦ Board b
+              | None ↦ None
+              | Some b ↦ elim (leb s.arrivals.best b.departure || passed_over T Q stamp t o b.departure s.boardings) [
+                | true ↦ None
+                | false ↦ Some b
               ]
             ]
           ])
       go true h y e = passed
-      go false h Nothing e = passed
-      go false h (Board b) e =
+      go false h None e = passed
+      go false h (Some b) e =
           let i = or-false ((not (permitted T Q t) || pruned T Q (delay_of Q t) t o s.boardings) || no_pickup T t o) (skipped T Q (delay_of Q t) t o) h in
           let j = or-false (not (permitted T Q t) || pruned T Q (delay_of Q t) t o s.boardings) (no_pickup T t o) i.0 in
           let k = or-false (not (permitted T Q t)) (pruned T Q (delay_of Q t) t o s.boardings) j.0 in
@@ -148,18 +147,18 @@ module _ (T : Tables) (Q : Query) (D : Door T Q) where
               boardings = board T Q r stamp (delay_of Q d.trip) d.trip d.offset b.departure s.boardings;
             }
 
-        go : (y : Bool) (z : FreqBoard) → Taken T Q d.trip d.offset z
+        go : (y : Bool) (z : Option BoardedRun) → Taken T Q d.trip d.offset z
             → ((z : State) → Rode T Q r s₀ z → Rode T Q r s₀ (scan_departures T Q flagged has_freq r stamp x after ds z))
             → Rode T Q r s₀ (elim y [
               | true ↦ s
               | false ↦ elim z [
-                | Nothing ↦ scan_departures T Q flagged has_freq r stamp x after ds s
-                | Board b ↦ scan_departures T Q flagged has_freq r stamp x after ds (next b)
+                | None ↦ scan_departures T Q flagged has_freq r stamp x after ds s
+                | Some b ↦ scan_departures T Q flagged has_freq r stamp x after ds (next b)
               ]
             ])
         go true z k on = R
-        go false Nothing k on = on s R
-        go false (Board b) (taken p B) on =
+        go false None k on = on s R
+        go false (Some b) (taken p B) on =
             let g : Segment = record { trip = d.trip; offset = d.offset; stop = x; shift = b.time_shift_s } in
             on (next b)
             (record {

@@ -1,11 +1,10 @@
 -- LAWS OF EVERY ADMITTED ANSWER, of `run_tbr` and of the query, with arc flags in use or not, whatever the day: what each label says of a guest's
 -- way, where pickup and drop-off bar, and how total, candidates and scans go with the labels. These are laws, not a definition of the answer:
 -- that is `run_tbr` and `query` (Search). They say nothing of optimality (Promise). Definitions only.
-use Rattle.std.specs.Prelude.{ℕ, suc, ◌+◌, ◌*◌, ◌≤◌, ◌<◌, ◌≡◌, ◌⊎◌, true, false, length, get_or, Float}
+use Rattle.std.specs.Prelude.{ℕ, suc, ◌+◌, ◌*◌, ◌≤◌, ◌<◌, ◌≡◌, ◌⊎◌, true, false, length, get_or, Float, Some}
 use mathlib.Core.List.{List, [], ◌∷◌, Memᴰ}
 use Rattle.door.specs.Door.{time_limit}
 use Rattle.frequency.specs.declared.BoardedRun.{BoardedRun}
-use Rattle.frequency.specs.declared.FreqBoard.TheVariants.{Board}
 use Rattle.stop_delay.specs.Times.{size_of}
 use Rattle.label.specs.declared.Label.{Label}
 use Rattle.label.specs.declared.Label.TheVariants.{Empty, Access, Transit, Walk}
@@ -36,7 +35,7 @@ module _ (T : Tables) (Q : Query) where
     pub pickup : no_pickup T t o ≡ false
     pub served : skipped T Q (delay_of Q t) t o ≡ false
     pub after : ℕ
-    pub boards : board_at T Q (delay_of Q t) t o after ≡ Board b
+    pub boards : board_at T Q (delay_of Q t) t o after ≡ Some b
 
   -- A RIDE that begins: trip, offset, stop and time shift are those of a boarding
   pub record Begins (g : Segment) : Type 0 where
@@ -85,7 +84,7 @@ module _ (T : Tables) (Q : Query) where
     pub round : row ≡ suc r
     pub after : ℕ
     pub boarding : BoardedRun
-    pub leaves : board_at T Q (delay_of Q t) t o after ≡ Board boarding
+    pub leaves : board_at T Q (delay_of Q t) t o after ≡ Some boarding
     pub shift_is : shift ≡ boarding.time_shift_s
     pub arrival : v ≡ arrival_now T Q (delay_of Q t) shift t p
     pub arrives : v ≤ 2097150

@@ -1,5 +1,7 @@
 -- The model's arc flags by what the slices hold.
-use Prim.Native.Nat.{ℕ, zero, suc, ◌+◌, ◌*◌, ◌-◌, ◌/◌, ◌<◌, ◌≤◌}
+use Prim.Native.Nat.{ℕ, zero, suc, ◌+◌, ◌*◌, ◌-◌, ◌/◌, ◌<◌, ◌≤◌, min}
+use Rattle.std.specs.Prelude.{Option, None, Some, is_some}
+use Rattle.std.specs.Option.{unwrap_or}
 use mathlib.Core.Path.{◌≡◌, refl, ap, ap₂, sym, ◌∙◌}
 use mathlib.Core.Bool.{Bool, true, false, not, ◌&&◌, ◌||◌}
 use mathlib.Core.List.{List, [], ◌∷◌}
@@ -7,11 +9,11 @@ use native.Mathlib.Omega.{arith}
 use native.Mathlib.Numerals.{add-one}
 use lib.ListN.{length, get_or}
 use lib.Dec.{ltb, leb, eqb}
-use borrow.Author.Tests.{lt-ltb, le-ltb, le-leb, lt-leb, leb-true, ltb-true, ltb-false}
-use Rattle.loops.specs.Iter.{some, some_in, first_in, found_or, Hit, hit, miss}
+use borrow.Author.Tests.{lt-ltb, le-ltb, le-leb, lt-leb, leb-true, leb-false, ltb-true, ltb-false}
+use Rattle.loops.specs.Iter.{some, some_in, first_in, found, Hit, hit, miss}
 use Rattle.loops.specs.Count.{tab_from, count, one}
 use Rattle.loops.proofs.Iter.{and_left, and_right, first_found, first_none, some_at, some_none, some_found, some_ext}
-use Rattle.loops.proofs.Search.{clash, hit_below}
+use Rattle.loops.proofs.Search.{clash}
 use Rattle.loops.proofs.Count.{count_mono, count_lt}
 use Rattle.cell_bitset.specs.declared.CellBitSet.{CellBitSet}
 use Rattle.cell_bitset.specs.CellSet.{empty_set, with_cell, byte_of, meets, holds_none}
@@ -25,8 +27,7 @@ use Rattle.model.specs.Search.{some_transfer, targets_from, target_cells, holds_
 use Rattle.arc_flags.specs.Flags.{egress_row_at, egress_rows}
 use Rattle.arc_flags.specs.Skipping.{target_words, Patterned, event_run_first, event_run_length, RunsIn, run_has, row_skipped, run_some, some_run, within_run, CountedFrom, Transferring}
 use Rattle.event_transfers.specs.Transfers.{Transfer, transfer_at, events_before}
-use native.Mathlib.Nat.{eq-or-lt_of_le, add-zero, add-suc, suc-add, zero-add}
-use mathlib.Core.Logic.{⊎_elim}
+use native.Mathlib.Nat.{min-eq_left, min-eq_right, add-zero, add-suc, suc-add, zero-add}
 
 pub cell_is : (T : Tables) (t : List ℕ) (c : Counts) → T.timetable ≡ timetable t c → (s : ℕ) → T.timetable.cell s ≡ get_or t (stops_at c + s) 0
 unfolding cell_of
@@ -82,12 +83,12 @@ module _ (T : Tables) (Q : Query) (patterns : List ℕ) (count : ℕ) (g : Patte
       ∙ meets_row (λ i. byte_in patterns (p * 64 + i)) (T.pattern p) t (target_bytes T Q) (g.pattern p h)
       ∙ holds_as true (ap (ltb p) g.size ∙ lt-ltb p count h)
 
-pub flags_is : (T : Tables) (Q : Query) (count : ℕ) (target : List ℕ) (off a b r : Bool) → T.patterns ≡ count → Q.flags_off ≡ off → target ≡ target_words T Q
-    → ((g : ℕ → ℕ) → target ≡ words_of g → a ≡ not (some_in (has_bit g) 0 64)) → b ≡ (not a && not (eqb count 0)) → r ≡ (b && not off) → r ≡ use_arc_flags T Q
+pub flags_is : (T : Tables) (Q : Query) (count : ℕ) (target : List ℕ) (off a r : Bool) → T.patterns ≡ count → Q.flags_off ≡ off → target ≡ target_words T Q
+    → ((g : ℕ → ℕ) → target ≡ words_of g → a ≡ not (some_in (has_bit g) 0 64)) → r ≡ ((not a && not (eqb count 0)) && not off) → r ≡ use_arc_flags T Q
 unfolding use_arc_flags
-flags_is T Q count target off a b r ec eo et ea eb er =
+flags_is T Q count target off a r ec eo et ea er =
     let none : a ≡ holds_none (target_cells T Q) = ea (byte_of (target_cells T Q)) et ∙ none_words (target_cells T Q) (target_bytes T Q) in
-    rw (er, eb, none, ec, eo) refl
+    rw (er, none, ec, eo) refl
 
 or_no : (b : Bool) → b || false ≡ b
 or_no true = refl
@@ -97,33 +98,11 @@ or_again : (a b c : Bool) → a || (b || c) ≡ (a || b) || c
 or_again true b c = refl
 or_again false b c = refl
 
--- a search for some number that passes, as a loop
-pub some_again : (f : ℕ → Bool) (i b : ℕ) {whole : Bool} → whole ≡ some_in f i b → f i ≡ false → i < b → whole ≡ some_in f (i + 1) b
-unfolding some
-some_again f i b inv e h =
-    let m : b - i ≡ suc (b - (i + 1)) = omega arith in
-    inv ∙ ap (some f i) m ∙ ap (λ (x : Bool). x || some f (suc i) (b - (i + 1))) e ∙ ap (λ (j : ℕ). some f j (b - (i + 1))) (sym (add-one i))
-
-pub some_yes : (f : ℕ → Bool) (i b : ℕ) {whole : Bool} → whole ≡ some_in f i b → f i ≡ true → i < b → true ≡ whole
-unfolding some
-some_yes f i b inv e h =
-    let m : b - i ≡ suc (b - (i + 1)) = omega arith in
-    sym (inv ∙ ap (some f i) m ∙ ap (λ (x : Bool). x || some f (suc i) (b - (i + 1))) e)
-
-pub some_left : (f : ℕ → Bool) (i b : ℕ) {whole : Bool} → whole ≡ some_in f i b → b ≤ i → false ≡ whole
-unfolding some
-some_left f i b inv h = let m : b - i ≡ 0 = omega arith in sym (inv ∙ ap (some f i) m)
-
 -- the walk edges
-abbrev pub skips_at : Tables → Query → ℕ → Bool
-skips_at T Q k = not (holds_target T Q (T.timetable.edge k).pattern)
-
-pub skips_first : (T : Tables) (Q : Query) (t : List ℕ) (c : Counts) (n : ℕ) → n ≡ c.edges → T.timetable ≡ timetable t c → skips_edge T Q ≡ some_in (skips_at T Q) 0 n
+pub skips_first : (T : Tables) (Q : Query) (t : List ℕ) (c : Counts) → T.timetable ≡ timetable t c
+    → some_in (λ k. not (holds_target T Q (edge_of t c k 4))) 0 c.edges ≡ skips_edge T Q
 unfolding skips_edge
-skips_first T Q t c n en e = ap (some_in (skips_at T Q) 0) (ap (λ (X : Timetable). X.edges) e ∙ sym en)
-
-pub skips-at : (T : Tables) (Q : Query) (t : List ℕ) (c : Counts) (k p : ℕ) (r b : Bool) → T.timetable ≡ timetable t c → p ≡ edge_of t c k 4 → r ≡ holds_target T Q p → r ≡ b → skips_at T Q k ≡ not b
-skips-at T Q t c k p r b e ep er eb = ap (λ (X : Timetable). not (holds_target T Q (X.edge k).pattern)) e ∙ ap (λ (x : ℕ). not (holds_target T Q x)) (sym ep) ∙ ap not (sym er ∙ eb)
+skips_first T Q t c e = sym (ap (λ (X : Timetable). some_in (λ k. not (holds_target T Q (X.edge k).pattern)) 0 X.edges) e)
 
 -- the transfers of an event, as a list and by their numbers
 pub transfer_list : (p : Transfer → Bool) (f : ℕ → Transfer) (i n : ℕ) → some_transfer p (tab_from f i n) ≡ some (λ k. p (f k)) i n
@@ -158,10 +137,6 @@ some_none_at f n k e h = go (f k) refl
     go true q = absurd (clash (some_at f 0 (n - 0) k q (omega arith) (omega arith)) e)
     go false q = refl
 
--- none below k passes, and k does not
-pub none_more : (f : ℕ → Bool) (k : ℕ) → ((j : ℕ) → j < k → f j ≡ false) → f k ≡ false → (j : ℕ) → j < k + 1 → f j ≡ false
-none_more f k h e j l = let u : j ≤ k = omega arith in ⊎_elim (λ (q : j ≡ k). ap f q ∙ e) (λ (q : j < k). h j q) (eq-or-lt_of_le u)
-
 -- the count grows over a range exactly where some number in it passes
 pub count_zero : (f : ℕ → Bool) → 0 ≡ count f 0
 unfolding count
@@ -186,19 +161,19 @@ count_grows f a m = go (some_in (λ k. f (a + k)) 0 m) refl
     go false e = le-ltb (count f a) (count f (a + m)) (omega (arith, count_none f a m (λ k l. some_none_at (λ j. f (a + j)) m k e l)))
 
 -- the search for the first row that is skipped
-pub first_all : (f : ℕ → Bool) (n r k : ℕ) → r ≡ found_or (first_in f 0 n) n → n ≤ r → k < n → f k ≡ false
-first_all f n r k e h u = go (first_in f 0 n) refl
+pub first_all : (f : ℕ → Bool) (n k : ℕ) → None ≡ found (first_in f 0 n) → k < n → f k ≡ false
+first_all f n k e u = go (first_in f 0 n) refl
   where
     go : (x : Hit) → first_in f 0 n ≡ x → f k ≡ false
-    go (hit j) q = let z : r ≡ j = e ∙ ap (λ (y : Hit). found_or y n) q in absurd (omega (arith, hit_below f n j q))
+    go (hit j) q = absurd (clash refl (sym (ap is_some (e ∙ ap found q))))
     go miss q = first_none f 0 (n - 0) k q (omega arith) (omega arith)
 
-pub first_here : (f : ℕ → Bool) (n r : ℕ) → r ≡ found_or (first_in f 0 n) n → r < n → f r ≡ true
-first_here f n r e h = go (first_in f 0 n) refl
+pub first_here : (f : ℕ → Bool) (n k : ℕ) → Some k ≡ found (first_in f 0 n) → f k ≡ true
+first_here f n k e = go (first_in f 0 n) refl
   where
-    go : (x : Hit) → first_in f 0 n ≡ x → f r ≡ true
-    go (hit j) q = let z : r ≡ j = e ∙ ap (λ (y : Hit). found_or y n) q in ap f z ∙ first_found f 0 (n - 0) j q
-    go miss q = let z : r ≡ n = e ∙ ap (λ (y : Hit). found_or y n) q in absurd (omega arith)
+    go : (x : Hit) → first_in f 0 n ≡ x → f k ≡ true
+    go (hit j) q = ap f (ap (λ (o : Option ℕ). unwrap_or o 0) (e ∙ ap found q)) ∙ first_found f 0 (n - 0) j q
+    go miss q = absurd (clash refl (ap is_some (e ∙ ap found q)))
 
 -- the transfers of a trip, and of all trips by their events
 abbrev pub trip_skips : Tables → Query → ℕ → Bool
@@ -249,10 +224,6 @@ module _ (T : Tables) (Q : Query) (runs area : List ℕ) (h : Transferring T run
       some_at (λ j. row_skipped T Q area (event_run_first runs e + j)) 0 (event_run_length runs e - 0) (k - event_run_first runs e) (ap (row_skipped T Q area) (sym z) ∙ f) (omega arith) (omega (arith, l, u)) in
       sym (skips_events ∙ some_at (run_some (row_skipped T Q area) runs) 0 (length runs / 2 - 0) e y p.low p.high)
 
--- a run by its two numbers
-pub run-has : (runs : List ℕ) (k e first m : ℕ) (r b : Bool) → first ≡ event_run_first runs e → m ≡ event_run_length runs e → r ≡ leb first k && ltb k (first + m) → r ≡ b → run_has runs k e ≡ b
-run-has runs k e first m r b ef em er eb = ap₂ (λ (x y : ℕ). leb x k && ltb k (x + y)) (sym ef) (sym em) ∙ sym er ∙ eb
-
 -- a window: its rows pass as they are, no other row does
 and_no : (a b : Bool) → (a && false) && b ≡ false
 and_no true b = refl
@@ -282,19 +253,30 @@ module _ (f : ℕ → Bool) (from n : ℕ) where
     counted_at : (k : ℕ) → k ≤ n → get_or counts k 0 ≡ count (within_run f from n) (from + k)
     counted_at k l = h.before k l ∙ sym (count_window k l)
 
-    pub counted_first : (k : ℕ) → k ≤ from → get_or counts 0 0 ≡ count (within_run f from n) k
+    counted_first : (k : ℕ) → k ≤ from → get_or counts 0 0 ≡ count (within_run f from n) k
     counted_first k l =
         let z : from + 0 ≡ k + (from - k) = omega arith in
         counted_at 0 (omega arith) ∙ ap (count (within_run f from n)) z ∙ count_none (within_run f from n) k (from - k) (λ j u. within_before (k + j) (omega arith))
 
-    pub counted_end : (k : ℕ) → from < k → n ≤ k - from → get_or counts n 0 ≡ count (within_run f from n) k
+    counted_end : (k : ℕ) → from < k → n ≤ k - from → get_or counts n 0 ≡ count (within_run f from n) k
     counted_end k u l =
         let z : k ≡ from + n + (k - (from + n)) = omega arith in
         counted_at n (omega arith)
         ∙ sym (ap (count (within_run f from n)) z ∙ count_none (within_run f from n) (from + n) (k - (from + n)) (λ j v. within_after (from + n + j) (omega arith)))
 
-    pub counted_inside : (k : ℕ) → from < k → k - from < n → get_or counts (k - from) 0 ≡ count (within_run f from n) k
+    counted_inside : (k : ℕ) → from < k → k - from < n → get_or counts (k - from) 0 ≡ count (within_run f from n) k
     counted_inside k u l = let z : from + (k - from) ≡ k = omega arith in counted_at (k - from) (omega arith) ∙ ap (count (within_run f from n)) z
+
+    -- a row before the window counts as its first, a row after it as its end
+    pub counted_by : (k : ℕ) → get_or counts (min (k - from) n) 0 ≡ count (within_run f from n) k
+    counted_by k = go (leb k from) refl (leb n (k - from)) refl
+      where
+        go : (x : Bool) → leb k from ≡ x → (y : Bool) → leb n (k - from) ≡ y → get_or counts (min (k - from) n) 0 ≡ count (within_run f from n) k
+        go true p y q = let z : k - from ≡ 0 = omega (arith, leb-true k from p) in let w : 0 ≤ n = omega arith in ap (λ (i : ℕ). get_or counts i 0) (ap (λ (i : ℕ). min i n) z ∙ min-eq_left w) ∙ counted_first k (leb-true k from p)
+        go false p true q = ap (λ (i : ℕ). get_or counts i 0) (min-eq_right (leb-true n (k - from) q)) ∙ counted_end k (omega (arith, leb-false k from p)) (leb-true n (k - from) q)
+        go false p false q =
+            let w : k - from ≤ n = omega (arith, leb-false n (k - from) q) in
+            ap (λ (i : ℕ). get_or counts i 0) (min-eq_left w) ∙ counted_inside k (omega (arith, leb-false k from p)) (omega (arith, leb-false n (k - from) q))
 
   -- a window in which none passes: no run has a row of it that does
   pub window_none : (counts runs : List ℕ) → CountedFrom f from n counts → get_or counts n 0 ≡ 0 → false ≡ some_run (within_run f from n) runs
@@ -319,13 +301,12 @@ module _ (f : ℕ → Bool) (from n : ℕ) where
           go false p true q = in_window k (ltb-false k from p) (ltb-true k (from + n) q)
           go false p false q = within_after k (ltb-false k (from + n) q)
 
--- a run by the counts before its first row and before its end
-pub run_counted : (f : ℕ → Bool) (runs : List ℕ) (e first m x y : ℕ) (b : Bool) → first ≡ event_run_first runs e → m ≡ event_run_length runs e
-    → x ≡ count f first → y ≡ count f (first + m) → ltb x y ≡ b → run_some f runs e ≡ b
-run_counted f runs e first m x y b ef em ex ey eb =
-    sym (count_grows f (event_run_first runs e) (event_run_length runs e))
-    ∙ sym (ap₂ ltb (ex ∙ ap (count f) ef) (ey ∙ ap₂ (λ (j k : ℕ). count f (j + k)) ef em))
-    ∙ eb
+-- the runs by the counts before their first row and before their end
+pub runs_counted : (f : ℕ → Bool) (runs : List ℕ)
+    → some_in (λ e. ltb (count f (event_run_first runs e)) (count f (event_run_first runs e + event_run_length runs e))) 0 (length runs / 2) ≡ some_run f runs
+runs_counted f runs =
+    some_ext (λ e. ltb (count f (event_run_first runs e)) (count f (event_run_first runs e + event_run_length runs e))) (run_some f runs) 0 (length runs / 2 - 0)
+    (λ e a u. count_grows f (event_run_first runs e) (event_run_length runs e))
 
 -- no row below `below` that an event's run has passes
 abbrev pub NoneBelow : (ℕ → Bool) → List ℕ → ℕ → Type 0
@@ -358,15 +339,6 @@ module _ (f : ℕ → Bool) (runs : List ℕ) where
       (λ e a u. some_none (λ k. f (event_run_first runs e + k)) 0 (event_run_length runs e - 0) (λ k b v. h e k (omega arith) (omega arith) (omega (arith, g.inside e (omega arith))))))
 
 -- the flags are in use, by the tests one after the other
-module _ (T : Tables) (Q : Query) where
-  pub put-off : {u : Bool} → u ≡ use_arc_flags T Q → u ≡ false → false ≡ flags_in_use T Q
-  unfolding flags_in_use
-  put-off eu e = ap (λ (b : Bool). b && (skips_edge T Q || skips_transfer T Q)) (sym e ∙ eu)
-
-  pub by_edge : {u e : Bool} → u ≡ use_arc_flags T Q → u ≡ true → e ≡ skips_edge T Q → e ≡ true → true ≡ flags_in_use T Q
-  unfolding flags_in_use
-  by_edge eu u ee e = ap₂ (λ (b x : Bool). b && (x || skips_transfer T Q)) (sym u ∙ eu) (sym e ∙ ee)
-
-  pub by_transfer : {u e x : Bool} → u ≡ use_arc_flags T Q → u ≡ true → e ≡ skips_edge T Q → e ≡ false → x ≡ skips_transfer T Q → x ≡ flags_in_use T Q
-  unfolding flags_in_use
-  by_transfer eu u ee e ex = ex ∙ ap₂ (λ (b y : Bool). b && (y || skips_transfer T Q)) (sym u ∙ eu) (sym e ∙ ee)
+pub flags_by : (T : Tables) (Q : Query) {u e x r : Bool} → u ≡ use_arc_flags T Q → e ≡ skips_edge T Q → x ≡ skips_transfer T Q → r ≡ (u && (e || x)) → r ≡ flags_in_use T Q
+unfolding flags_in_use
+flags_by T Q eu ee ex er = er ∙ ap₂ ◌&&◌ eu (ap₂ ◌||◌ ee ex)

@@ -1,8 +1,8 @@
 -- Which tables and queries agree with patterns, egress rows and transfers as the slices hold them; whether flags skip a row, and counts of such rows.
 -- Definitions only.
 -- Inner: nobody has to believe this.
-use Rattle.std.specs.Prelude.{ℕ, ◌+◌, ◌*◌, ◌/◌, ◌<◌, ◌≤◌, ◌≡◌, Bool, not, ◌&&◌, List, length, get_or, ltb, leb}
-use Rattle.loops.specs.Iter.{some_in, first_in, found_or}
+use Rattle.std.specs.Prelude.{ℕ, ◌+◌, ◌*◌, ◌/◌, ◌<◌, ◌≤◌, ◌≡◌, Bool, not, ◌&&◌, Option, List, length, get_or, ltb, leb}
+use Rattle.loops.specs.Iter.{some_in, first_in, found}
 use Rattle.loops.specs.Count.{count, tab}
 use Rattle.cell_bitset.specs.CellWords.{cell_words}
 use Rattle.tables.specs.declared.Counts.{Counts}
@@ -66,9 +66,9 @@ run_has runs k e = leb (event_run_first runs e) k && ltb k (event_run_first runs
 abbrev pub row_skipped : Tables → Query → List ℕ → ℕ → Bool
 row_skipped T Q area k = not (holds_target T Q (transfer_at area k).pattern)
 
--- the first of so many rows that they skip, or the number of rows
-abbrev pub first_skipped : Tables → Query → List ℕ → ℕ → ℕ
-first_skipped T Q area rows = found_or (first_in (row_skipped T Q area) 0 rows) rows
+-- the first of so many rows that they skip
+abbrev pub first_skipped : Tables → Query → List ℕ → ℕ → Option ℕ
+first_skipped T Q area rows = found (first_in (row_skipped T Q area) 0 rows)
 
 -- does a row of event e's run pass? A row of some event's run?
 abbrev pub run_some : (ℕ → Bool) → List ℕ → ℕ → Bool

@@ -31,13 +31,10 @@ pub fn target_cells(tables: &[u32], c: Counts, cells: u32, egress: &[u32]) -> [u
         ≡ egress_rows egress.now → result ≡ target_words T Q }
 {
     let from = c.times * 6 + c.trips * 8 + c.windows * 3 + c.edges * 5;
-    let n = egress.len() / 2;
     let mut set = CellBitSet::new(cells);
-    let mut i: usize = 0;
-    while i < n {
-        let cell = words::field(tables, from + words::field(egress, i * 2));
-        set = set.set_bit(cell as u32);
-        i += 1;
+    for i in 0..egress.len() / 2 {
+        let stop = egress[i * 2] as usize;
+        set = set.set_bit(tables[from + stop]);
     }
     set.words()
 }
@@ -48,10 +45,7 @@ pub fn holds_target(patterns: &[u8], count: usize, target: [u64; 8], p: usize) -
     ensures { (T : Tables) (Q : Query) → Patterned T patterns.now count → target ≡ target_words T Q
         → result ≡ holds_target T Q p }
 {
-    if count <= p {
-        return true;
-    }
-    byte_words::row_shares(patterns, p * 64, target)
+    count <= p || byte_words::row_shares(patterns, p * 64, target)
 }
 
 // Are there target cells and patterns, and are the flags not put off?
@@ -59,8 +53,7 @@ pub fn use_arc_flags(count: usize, target: [u64; 8], flags_off: bool) -> bool
     ensures { (T : Tables) (Q : Query) → T.patterns ≡ count → Q.flags_off ≡ flags_off → target ≡ target_words T Q
         → result ≡ use_arc_flags T Q }
 {
-    let some = door::both(!byte_words::no_bit(target), !(count == 0));
-    door::both(some, !flags_off)
+    !byte_words::no_bit(target) && count != 0 && !flags_off
 }
 
 // Do the flags skip some walk edge?
@@ -70,16 +63,10 @@ fn skips_edge(tables: &[u32], c: Counts, patterns: &[u8], count: usize, target: 
     ensures { (T : Tables) (Q : Query) → T.timetable ≡ timetable tables.now c → Patterned T patterns.now count
         → target ≡ target_words T Q → result ≡ skips_edge T Q }
 {
-    let n = c.edges;
-    let mut k: usize = 0;
-    while k < n {
+    (0..c.edges).any(|k| {
         let p = tables::edge(tables, c, k, 4);
-        if !holds_target(patterns, count, target, p) {
-            return true;
-        }
-        k += 1;
-    }
-    false
+        !holds_target(patterns, count, target, p)
+    })
 }
 
 // Do the flags skip row k of the transfer area?
@@ -89,55 +76,35 @@ fn row_skipped(transfers: &[u32], patterns: &[u8], count: usize, target: [u64; 8
     ensures { (T : Tables) (Q : Query) → Aimed T Q patterns.now count target
         → result ≡ row_skipped T Q transfers.now k }
 {
-    let p = words::field(transfers, k * 4 + 3);
+    let p = transfers[k * 4 + 3] as usize;
     !holds_target(patterns, count, target, p)
 }
 
-// The first of so many rows that the flags skip; their number where they skip none.
+// The first of so many rows that the flags skip.
 fn first_skipped(
     transfers: &[u32],
     patterns: &[u8],
     count: usize,
     target: [u64; 8],
     transfer_rows: usize,
-) -> usize
+) -> Option<usize>
     requires patterns_ok { PatternsOk patterns.now count }
     requires rows_in { RowsIn transfers.now transfer_rows }
     ensures { (T : Tables) (Q : Query) → Aimed T Q patterns.now count target → result
         ≡ first_skipped T Q transfers.now transfer_rows }
 {
-    let mut k: usize = 0;
-    while k < transfer_rows {
-        if row_skipped(transfers, patterns, count, target, k) {
-            return k;
-        }
-        k += 1;
-    }
-    transfer_rows
+    (0..transfer_rows).find(|k| row_skipped(transfers, patterns, count, target, *k))
 }
 
 // Has the run of some event row k?
 fn some_run_has(transfer_runs: &[u32], k: usize) -> bool
     ensures { result ≡ some_in (run_has transfer_runs.now k) 0 (length transfer_runs.now / 2) }
 {
-    let n = transfer_runs.len() / 2;
-    let mut e: usize = 0;
-    while e < n {
-        let first = words::field(transfer_runs, e * 2);
-        let end = first + words::field(transfer_runs, e * 2 + 1);
-        if door::both(first <= k, k < end) {
-            return true;
-        }
-        e += 1;
-    }
-    false
-}
-
-// One for a yes.
-fn one(b: bool) -> u32
-    ensures { result ≡ one b }
-{
-    if b { 1 } else { 0 }
+    (0..transfer_runs.len() / 2).any(|e| {
+        let first = transfer_runs[e * 2] as usize;
+        let end = first + transfer_runs[e * 2 + 1] as usize;
+        first <= k && k < end
+    })
 }
 
 // Of the n rows from `from` on, how many before each of them the flags skip, and how many in all.
@@ -156,11 +123,9 @@ fn count_skipped(
     ensures { SkippedCounted transfers.now patterns.now count target from n counts.new }
 {
     let mut skipped: u32 = 0;
-    let mut k: usize = 0;
-    while k < n {
+    for k in 0..n {
         counts[k] = skipped;
-        skipped += one(row_skipped(transfers, patterns, count, target, from + k));
-        k += 1;
+        skipped += u32::from(row_skipped(transfers, patterns, count, target, from + k));
     }
     counts[n] = skipped;
 }
@@ -170,13 +135,7 @@ fn counted_before(counts: &[u32], from: usize, n: usize, k: usize) -> u32
     requires { n < length counts.now }
     ensures { (f : ℕ → Bool) → CountedFrom f from n counts.now → result ≡ count (within_run f from n) k }
 {
-    if k <= from {
-        return words::word(counts, 0);
-    }
-    if n <= k - from {
-        return words::word(counts, n);
-    }
-    words::word(counts, k - from)
+    counts[k.saturating_sub(from).min(n)]
 }
 
 // Has some event's run a row of the window that passes? By the counts: more pass before the run's end than before its first row.
@@ -185,17 +144,11 @@ fn some_run_passes(transfer_runs: &[u32], from: usize, n: usize, counts: &[u32])
     ensures { (f : ℕ → Bool) → CountedFrom f from n counts.now
         → result ≡ some_run (within_run f from n) transfer_runs.now }
 {
-    let events = transfer_runs.len() / 2;
-    let mut e: usize = 0;
-    while e < events {
-        let first = words::field(transfer_runs, e * 2);
-        let end = first + words::field(transfer_runs, e * 2 + 1);
-        if counted_before(counts, from, n, first) < counted_before(counts, from, n, end) {
-            return true;
-        }
-        e += 1;
-    }
-    false
+    (0..transfer_runs.len() / 2).any(|e| {
+        let first = transfer_runs[e * 2] as usize;
+        let end = first + transfer_runs[e * 2 + 1] as usize;
+        counted_before(counts, from, n, first) < counted_before(counts, from, n, end)
+    })
 }
 
 // Has some event's run a row of one window that the flags skip? The window has at most 4,096 rows, so that its counts need little stack. Where they
@@ -216,10 +169,7 @@ fn window_skips(
 {
     let mut counts = [0u32; 4097];
     count_skipped(transfers, patterns, count, target, from, n, &mut counts);
-    if words::word(&counts, n) == 0 {
-        return false;
-    }
-    some_run_passes(transfer_runs, from, n, &counts)
+    counts[n] != 0 && some_run_passes(transfer_runs, from, n, &counts)
 }
 
 // Has some event's run a row that the flags skip? Window by window.
@@ -236,13 +186,11 @@ fn some_window_skips(
     requires runs_in { RunsIn transfer_runs.now transfer_rows }
     ensures { RunsSkip transfer_runs.now transfers.now patterns.now count target result }
 {
-    let mut from: usize = 0;
-    while from < transfer_rows {
-        let n = words::smaller(transfer_rows - from, 4096);
+    for from in (0..transfer_rows).step_by(4096) {
+        let n = (transfer_rows - from).min(4096);
         if window_skips(transfer_runs, transfers, patterns, count, target, from, n) {
             return true;
         }
-        from += n;
     }
     false
 }
@@ -264,21 +212,20 @@ fn skips_transfer(
     ensures { (T : Tables) (Q : Query) → Patterned T patterns.now count
         → Transferring T transfer_runs.now transfers.now → target ≡ target_words T Q → result ≡ skips_transfer T Q }
 {
-    let k = first_skipped(transfers, patterns, count, target, transfer_rows);
-    if transfer_rows <= k {
-        return false;
+    match first_skipped(transfers, patterns, count, target, transfer_rows) {
+        None => false,
+        Some(k) => {
+            some_run_has(transfer_runs, k)
+                || some_window_skips(
+                    transfer_runs,
+                    transfers,
+                    transfer_rows,
+                    patterns,
+                    count,
+                    target,
+                )
+        }
     }
-    if some_run_has(transfer_runs, k) {
-        return true;
-    }
-    some_window_skips(
-        transfer_runs,
-        transfers,
-        transfer_rows,
-        patterns,
-        count,
-        target,
-    )
 }
 
 // Are the flags in use: not put off, and do they skip some walk edge or transfer?
@@ -301,18 +248,14 @@ pub fn flags_in_use(
         → Transferring T transfer_runs.now transfers.now → target ≡ target_words T Q → Q.flags_off ≡ flags_off
         → result ≡ flags_in_use T Q }
 {
-    if !use_arc_flags(count, target, flags_off) {
-        return false;
-    }
-    if skips_edge(tables, c, patterns, count, target) {
-        return true;
-    }
-    skips_transfer(
-        transfer_runs,
-        transfers,
-        transfer_rows,
-        patterns,
-        count,
-        target,
-    )
+    use_arc_flags(count, target, flags_off)
+        && (skips_edge(tables, c, patterns, count, target)
+            || skips_transfer(
+                transfer_runs,
+                transfers,
+                transfer_rows,
+                patterns,
+                count,
+                target,
+            ))
 }

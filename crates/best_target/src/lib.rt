@@ -22,17 +22,21 @@ pub struct Target {
     pub stop: u32,
 }
 
+// No stop.
+const NONE: Target = Target {
+    total: 4294967295,
+    stop: 4294967295,
+};
+
 // The better of the best so far and a total over a stop; equal ones keep the first.
 fn better(best: Target, total: u32, stop: u32) -> Target
     ensures { target_of result ≡ better (target_of best) total stop }
 {
     if total < best.total {
-        return Target {
-            total: total,
-            stop: stop,
-        };
+        Target { total, stop }
+    } else {
+        best
     }
-    best
 }
 
 // An egress stop reached at v: never, or at a time.
@@ -42,9 +46,10 @@ fn with_stop(best: Target, v: u32, stop: u32, walk: u32) -> Target
     ensures { target_of result ≡ with_stop (target_of best) v stop walk }
 {
     if v == 4294967295 {
-        return best;
+        best
+    } else {
+        better(best, v + walk, stop)
     }
-    better(best, v + walk, stop)
 }
 
 // The least total over the egress stops with its stop.
@@ -54,31 +59,12 @@ pub fn best_target(work: &[u32], stops: usize, egress: &[u32]) -> Target
     ensures { (T : Tables) (Q : Query) (a : Arrivals) → EarliestAre a stops work.now → target_of result
         ≡ best_target T Q a (egress_rows egress.now) (never, never) }
 {
-    let n = egress.len() / 2;
-    let mut total: u32 = 4294967295;
-    let mut stop: u32 = 4294967295;
-    let mut i: usize = 0;
-    while i < n {
-        let s = words::word(egress, i * 2);
-        let walk = words::word(egress, i * 2 + 1);
-        let v = words::word(work, s as usize);
-        let b = with_stop(
-            Target {
-                total: total,
-                stop: stop,
-            },
-            v,
-            s,
-            walk,
-        );
-        total = b.total;
-        stop = b.stop;
-        i += 1;
+    let mut best = NONE;
+    for i in 0..egress.len() / 2 {
+        let stop = egress[i * 2];
+        best = with_stop(best, work[stop as usize], stop, egress[i * 2 + 1]);
     }
-    Target {
-        total: total,
-        stop: stop,
-    }
+    best
 }
 
 // A label's arrival plus one; 0 for no label.
@@ -121,9 +107,10 @@ fn with_reach(best: Target, x: u32, stop: u32, walk: u32) -> Target
     ensures { target_of result ≡ with_reach (target_of best) x stop walk }
 {
     if x == 0 {
-        return best;
+        best
+    } else {
+        better(best, x - 1 + walk, stop)
     }
-    better(best, x - 1 + walk, stop)
 }
 
 // The arrival plus one of a stop's label of a row; 0 for no label.
@@ -150,31 +137,13 @@ fn row_target(
     ensures { (T : Tables) (Q : Query) (a : Arrivals) → Labelled a stops labels.now label_distances.now
         → target_of result ≡ row_target T Q a row (egress_rows egress.now) (never, never) }
 {
-    let n = egress.len() / 2;
-    let mut total: u32 = 4294967295;
-    let mut stop: u32 = 4294967295;
-    let mut i: usize = 0;
-    while i < n {
-        let s = words::word(egress, i * 2);
-        let walk = words::word(egress, i * 2 + 1);
-        let x = reached_in(labels, label_distances, stops, s, row);
-        let b = with_reach(
-            Target {
-                total: total,
-                stop: stop,
-            },
-            x,
-            s,
-            walk,
-        );
-        total = b.total;
-        stop = b.stop;
-        i += 1;
+    let mut best = NONE;
+    for i in 0..egress.len() / 2 {
+        let stop = egress[i * 2];
+        let x = reached_in(labels, label_distances, stops, stop, row);
+        best = with_reach(best, x, stop, egress[i * 2 + 1]);
     }
-    Target {
-        total: total,
-        stop: stop,
-    }
+    best
 }
 
 // Candidate m.
@@ -192,7 +161,7 @@ fn put_candidate(candidates: &mut [u32], m: usize, b: Target, row: u32)
 fn taken(total: u32, last: u32, top: u32, slack: u32) -> bool
     ensures { result ≡ (ltb total last && leb total (top + slack)) }
 {
-    door::both(total < last, (total as u64) <= top as u64 + slack as u64)
+    total < last && (total as u64) <= top as u64 + slack as u64
 }
 
 // The candidates of the rows from 0 to `rounds`, and how many; the words past them 0.
@@ -216,20 +185,17 @@ pub fn candidates(
         ≡ candidates_from T Q a top (suc rounds) 0 never) }
     ensures bound { result ≤ 13 }
 {
-    words::clear_words(candidates);
+    candidates.fill(0);
     let mut last: u32 = 4294967295;
     let mut m: usize = 0;
-    let mut row: u32 = 0;
-    while row <= rounds {
+    for row in 0..rounds + 1 {
         let b = row_target(labels, label_distances, stops, egress, row);
         if !taken(b.total, last, top, slack) {
-            row += 1;
             continue;
         }
         put_candidate(candidates, m, b, row);
         last = b.total;
         m += 1;
-        row += 1;
     }
     m
 }

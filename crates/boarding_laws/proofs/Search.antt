@@ -5,12 +5,10 @@ use Prim.Native.Nat.{ℕ, zero, suc, ◌+◌, ◌-◌, min}
 use mathlib.Core.Path.{◌≡◌, refl, ◌∙◌}
 use mathlib.Core.Bool.{Bool, true, false, ◌&&◌, ◌||◌, not}
 use mathlib.Core.List.{List, [], ◌∷◌}
-use mathlib.Core.Option.{Option, none, some}
+use Rattle.std.specs.Prelude.{Option, None, Some}
 use lib.Dec.{ltb, leb, eqb}
 use Rattle.loops.specs.Iter.{Hit}
 use Rattle.frequency.specs.declared.BoardedRun.{BoardedRun}
-use Rattle.frequency.specs.declared.FreqBoard.{FreqBoard}
-use Rattle.frequency.specs.declared.FreqBoard.TheVariants.{Nothing, Board}
 use Rattle.label.specs.declared.Label.TheVariants.{Walk}
 use Rattle.label.specs.Label.{no_distance}
 use Rattle.departures.specs.declared.DepartureRow.{DepartureRow}
@@ -24,21 +22,21 @@ use Rattle.boarding_laws.specs.Search.{resolve_in_with, resolve_with, take_trans
 
 -- a trip and how it is boarded, as it was
 abbrev pub found_before : Option (ℕ × BoardedRun) → Option (ℕ × BoardedBefore)
-found_before none = none
-found_before (some f) = some (f.0, run_before f.1)
+found_before None = None
+found_before (Some f) = Some (f.0, run_before f.1)
 
 -- RESOLVING, one place: a, the trip has the stop; b, the search ends before it; c, it is passed over; m, how it is boarded
-abbrev found : (t best : ℕ) (next later : Option (ℕ × BoardedRun)) (a b c : Bool) (m : FreqBoard) (is_fifo : Bool) → Option (ℕ × BoardedRun)
+abbrev found : (t best : ℕ) (next later : Option (ℕ × BoardedRun)) (a b c : Bool) (m : Option BoardedRun) (is_fifo : Bool) → Option (ℕ × BoardedRun)
 found t best next later a b c m is_fifo =
     elim a [
       | false ↦ next
       | true ↦ elim b [
-        | true ↦ none
+        | true ↦ None
         | false ↦ elim c [
           | true ↦ next
           | false ↦ elim m [
-            | Nothing ↦ next
-            | Board r ↦ elim (ltb r.departure best) [ true ↦ some (t, r) | false ↦ elim is_fifo [ true ↦ none | false ↦ later ] ]
+            | None ↦ next
+            | Some r ↦ elim (ltb r.departure best) [ true ↦ Some (t, r) | false ↦ elim is_fifo [ true ↦ None | false ↦ later ] ]
           ]
         ]
       ]
@@ -49,45 +47,45 @@ found_with t best next later a b c m is_fifo =
     elim a [
       | false ↦ next
       | true ↦ elim b [
-        | true ↦ none
+        | true ↦ None
         | false ↦ elim c [
           | true ↦ next
           | false ↦ elim m [
-            | none ↦ next
-            | some r ↦ elim (ltb r.departure best) [ true ↦ some (t, r) | false ↦ elim is_fifo [ true ↦ none | false ↦ later ] ]
+            | None ↦ next
+            | Some r ↦ elim (ltb r.departure best) [ true ↦ Some (t, r) | false ↦ elim is_fifo [ true ↦ None | false ↦ later ] ]
           ]
         ]
       ]
     ]
 
-same_found : (t best : ℕ) (next later : Option (ℕ × BoardedRun)) (a b c : Bool) (m : FreqBoard) (is_fifo : Bool)
+same_found : (t best : ℕ) (next later : Option (ℕ × BoardedRun)) (a b c : Bool) (m : Option BoardedRun) (is_fifo : Bool)
     → found_before (found t best next later a b c m is_fifo) ≡ found_with t best (found_before next) (found_before later) a b c (as_before m) is_fifo
 same_found t best next later false b c m is_fifo = refl
 same_found t best next later true true c m is_fifo = refl
 same_found t best next later true false true m is_fifo = refl
-same_found t best next later true false false Nothing is_fifo = refl
-same_found t best next later true false false (Board r) is_fifo = go (ltb r.departure best) is_fifo
+same_found t best next later true false false None is_fifo = refl
+same_found t best next later true false false (Some r) is_fifo = go (ltb r.departure best) is_fifo
   where
     go : (x y : Bool)
-        → found_before (elim x [ true ↦ some (t, r) | false ↦ elim y [ true ↦ none | false ↦ later ] ])
-        ≡ elim x [ true ↦ some (t, run_before r) | false ↦ elim y [ true ↦ none | false ↦ found_before later ] ]
+        → found_before (elim x [ true ↦ Some (t, r) | false ↦ elim y [ true ↦ None | false ↦ later ] ])
+        ≡ elim x [ true ↦ Some (t, run_before r) | false ↦ elim y [ true ↦ None | false ↦ found_before later ] ]
     go true y = refl
     go false true = refl
     go false false = refl
 
 -- A LISTED DEPARTURE: b, a test before its boarding fails; m, how it is boarded; p, whether a boarding with this departure is passed over
-abbrev tested : (b : Bool) (m : FreqBoard) (p : ℕ → Bool) → FreqBoard
-tested b m p = elim b [ true ↦ Nothing | false ↦ elim m [ Nothing ↦ Nothing | Board r ↦ elim (p r.departure) [ true ↦ Nothing | false ↦ Board r ] ] ]
+abbrev tested : (b : Bool) (m : Option BoardedRun) (p : ℕ → Bool) → Option BoardedRun
+tested b m p = elim b [ true ↦ None | false ↦ elim m [ None ↦ None | Some r ↦ elim (p r.departure) [ true ↦ None | false ↦ Some r ] ] ]
 
 abbrev tested_with : (b : Bool) (m : Option BoardedBefore) (p : ℕ → Bool) → Option BoardedBefore
-tested_with b m p = elim b [ true ↦ none | false ↦ elim m [ none ↦ none | some r ↦ elim (p r.departure) [ true ↦ none | false ↦ some r ] ] ]
+tested_with b m p = elim b [ true ↦ None | false ↦ elim m [ None ↦ None | Some r ↦ elim (p r.departure) [ true ↦ None | false ↦ Some r ] ] ]
 
-same_tested : (b : Bool) (m : FreqBoard) (p : ℕ → Bool) → as_before (tested b m p) ≡ tested_with b (as_before m) p
+same_tested : (b : Bool) (m : Option BoardedRun) (p : ℕ → Bool) → as_before (tested b m p) ≡ tested_with b (as_before m) p
 same_tested true m p = refl
-same_tested false Nothing p = refl
-same_tested false (Board r) p = go (p r.departure)
+same_tested false None p = refl
+same_tested false (Some r) p = go (p r.departure)
   where
-    go : (x : Bool) → as_before (elim x [ true ↦ Nothing | false ↦ Board r ]) ≡ elim x [ true ↦ none | false ↦ some (run_before r) ]
+    go : (x : Bool) → as_before (elim x [ true ↦ None | false ↦ Some r ]) ≡ elim x [ true ↦ None | false ↦ Some (run_before r) ]
     go true = refl
     go false = refl
 
@@ -151,8 +149,8 @@ module _ (T : Tables) (Q : Query) where
       elim h [
         | false ↦ next a
         | true ↦ elim m [
-          | none ↦ next a
-          | some b ↦
+          | None ↦ next a
+          | Some b ↦
               let s : ℕ = stop_at T b.0 e.offset in
               let d : ℕ = b.1.departure in
               next (enqueue T Q b.0 e.offset s b.1.time_shift_s (relax T Q stamp s d (Walk d x s e.time no_distance (stamp - 1)) a))
@@ -164,8 +162,8 @@ module _ (T : Tables) (Q : Query) where
       elim h [
         | false ↦ next a
         | true ↦ elim m [
-          | none ↦ next a
-          | some b ↦
+          | None ↦ next a
+          | Some b ↦
               let s : ℕ = stop_at T b.0 e.offset in
               let d : ℕ = b.1.departure in
               next (enqueue T Q b.0 e.offset s b.1.shift (relax T Q stamp s d (Walk d x s e.time no_distance (stamp - 1)) a))
@@ -175,8 +173,8 @@ module _ (T : Tables) (Q : Query) where
   same_taken : (next : Arrivals → Arrivals) (stamp x : ℕ) (e : Transfer) (a : Arrivals) (h : Bool) (m : Option (ℕ × BoardedRun))
       → taken next stamp x e a h m ≡ taken_with next stamp x e a h (found_before m)
   same_taken next stamp x e a false m = refl
-  same_taken next stamp x e a true none = refl
-  same_taken next stamp x e a true (some b) = refl
+  same_taken next stamp x e a true None = refl
+  same_taken next stamp x e a true (Some b) = refl
 
   same_transfers : (stamp v x : ℕ) (es : List Transfer) (a : Arrivals) → take_transfers T Q stamp v x es a ≡ take_transfers_with T Q boards_now stamp v x es a
   unfolding take_transfers take_transfers_with
@@ -229,13 +227,13 @@ module _ (T : Tables) (Q : Query) where
       (λ d. leb s.arrivals.best d || passed_over T Q stamp t o d s.boardings)
 
   -- one departure: b, the scan ends; m, how it is boarded; forward, its trip scanned with a time shift
-  abbrev scanned : (next : State → State) (forward : ℕ → Arrivals) (round stamp : ℕ) (d : DepartureRow) (s : State) (b : Bool) (m : FreqBoard) → State
+  abbrev scanned : (next : State → State) (forward : ℕ → Arrivals) (round stamp : ℕ) (d : DepartureRow) (s : State) (b : Bool) (m : Option BoardedRun) → State
   scanned next forward round stamp d s b m =
       elim b [
         | true ↦ s
         | false ↦ elim m [
-          | Nothing ↦ next s
-          | Board r ↦ next (record {
+          | None ↦ next s
+          | Some r ↦ next (record {
             arrivals = forward r.time_shift_s;
             boardings = board T Q round stamp (delay_of Q d.trip) d.trip d.offset r.departure s.boardings;
           })
@@ -247,19 +245,19 @@ module _ (T : Tables) (Q : Query) where
       elim b [
         | true ↦ s
         | false ↦ elim m [
-          | none ↦ next s
-          | some r ↦ next (record {
+          | None ↦ next s
+          | Some r ↦ next (record {
             arrivals = forward r.shift;
             boardings = board T Q round stamp (delay_of Q d.trip) d.trip d.offset r.departure s.boardings;
           })
         ]
       ]
 
-  same_scanned : (next : State → State) (forward : ℕ → Arrivals) (round stamp : ℕ) (d : DepartureRow) (s : State) (b : Bool) (m : FreqBoard)
+  same_scanned : (next : State → State) (forward : ℕ → Arrivals) (round stamp : ℕ) (d : DepartureRow) (s : State) (b : Bool) (m : Option BoardedRun)
       → scanned next forward round stamp d s b m ≡ scanned_with next forward round stamp d s b (as_before m)
   same_scanned next forward round stamp d s true m = refl
-  same_scanned next forward round stamp d s false Nothing = refl
-  same_scanned next forward round stamp d s false (Board r) = refl
+  same_scanned next forward round stamp d s false None = refl
+  same_scanned next forward round stamp d s false (Some r) = refl
 
   same_departures : (flagged has_freq : Bool) (round stamp x after : ℕ) (ds : List DepartureRow) (s : State)
       → scan_departures T Q flagged has_freq round stamp x after ds s ≡ scan_departures_with T Q boards_now flagged has_freq round stamp x after ds s

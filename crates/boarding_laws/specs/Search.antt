@@ -4,8 +4,7 @@
 -- contracts rest on, and it never refers to this one.
 -- Definitions only.
 -- For a law: no contract rests on this.
-use Rattle.std.specs.Prelude.{ℕ, zero, suc, ◌+◌, ◌-◌, min, Bool, true, false, ◌&&◌, ◌||◌, not, List, [], ◌∷◌, ltb, leb, eqb}
-use Rattle.std.proofs.Math.Option.{Option, none, some}
+use Rattle.std.specs.Prelude.{ℕ, zero, suc, ◌+◌, ◌-◌, min, Bool, true, false, ◌&&◌, ◌||◌, not, List, [], ◌∷◌, ltb, leb, eqb, Option, None, Some}
 use Rattle.loops.specs.Iter.{Hit}
 use Rattle.label.specs.declared.Label.TheVariants.{Walk}
 use Rattle.label.specs.Label.{no_distance}
@@ -23,20 +22,20 @@ use Rattle.boarding_laws.specs.Boarding.{BoardedBefore, board_before}
 module _ (T : Tables) (Q : Query) (boards : Hit → ℕ → ℕ → ℕ → Option BoardedBefore) where
   -- RESOLVING a transfer's target: over k places of a line from place p on
   unfoldable pub resolve_in_with : (is_fifo : Bool) (offset after best : ℕ) (trip : ℕ → ℕ) (left place : ℕ) → Option (ℕ × BoardedBefore)
-  resolve_in_with is_fifo o after best trip zero p = none
+  resolve_in_with is_fifo o after best trip zero p = None
   resolve_in_with is_fifo o after best trip (suc k) p =
       let t : ℕ = trip p in
       elim (ltb t (trips T) && ltb o (stop_count T t)) [
         | false ↦ resolve_in_with is_fifo o after best trip k (suc p)
         | true ↦ elim ((is_fifo && leb (best + margin_of T Q) (departure T t o)) && no_windows T t) [
-          | true ↦ none
+          | true ↦ None
           | false ↦ elim ((not (usable T Q t) || no_pickup T t o) || skipped T Q (delay_of Q t) t o) [
             | true ↦ resolve_in_with is_fifo o after best trip k (suc p)
             | false ↦ elim (boards (delay_of Q t) t o after) [
-              | none ↦ resolve_in_with is_fifo o after best trip k (suc p)
-              | some b ↦ elim (ltb b.departure best) [
-                | true ↦ some (t, b)
-                | false ↦ elim is_fifo [ true ↦ none | false ↦ resolve_in_with false o after best trip k (suc p) ]
+              | None ↦ resolve_in_with is_fifo o after best trip k (suc p)
+              | Some b ↦ elim (ltb b.departure best) [
+                | true ↦ Some (t, b)
+                | false ↦ elim is_fifo [ true ↦ None | false ↦ resolve_in_with false o after best trip k (suc p) ]
               ]
             ]
           ]
@@ -61,8 +60,8 @@ module _ (T : Tables) (Q : Query) (boards : Hit → ℕ → ℕ → ℕ → Opti
       elim (holds_target T Q e.pattern) [
         | false ↦ take_transfers_with stamp v x es a
         | true ↦ elim (resolve_with e (v + e.time) a.best) [
-          | none ↦ take_transfers_with stamp v x es a
-          | some b ↦
+          | None ↦ take_transfers_with stamp v x es a
+          | Some b ↦
               let s : ℕ = stop_at T b.0 e.offset in
               let d : ℕ = b.1.departure in
               take_transfers_with stamp v x es
@@ -107,11 +106,11 @@ module _ (T : Tables) (Q : Query) (boards : Hit → ℕ → ℕ → ℕ → Opti
   unfoldable pub boarding_with : (stamp after : ℕ) (adj : Hit) (trip offset : ℕ) (s : State) → Option BoardedBefore
   boarding_with stamp after adj t o s =
       elim (((not (permitted T Q t) || pruned T Q adj t o s.boardings) || no_pickup T t o) || skipped T Q adj t o) [
-        | true ↦ none
+        | true ↦ None
         | false ↦ elim (boards adj t o after) [
-          | none ↦ none
-          | some b ↦ elim (leb s.arrivals.best b.departure || passed_over T Q stamp t o b.departure s.boardings)
-              [ true ↦ none | false ↦ some b ]
+          | None ↦ None
+          | Some b ↦ elim (leb s.arrivals.best b.departure || passed_over T Q stamp t o b.departure s.boardings)
+              [ true ↦ None | false ↦ Some b ]
         ]
       ]
 
@@ -124,8 +123,8 @@ module _ (T : Tables) (Q : Query) (boards : Hit → ℕ → ℕ → ℕ → Opti
         | false ↦
             let adj : Hit = delay_of Q d.trip in
             elim (boarding_with stamp after adj d.trip d.offset s) [
-              | none ↦ scan_departures_with flagged has_freq round stamp x after ds s
-              | some b ↦ scan_departures_with flagged has_freq round stamp x after ds (record {
+              | None ↦ scan_departures_with flagged has_freq round stamp x after ds s
+              | Some b ↦ scan_departures_with flagged has_freq round stamp x after ds (record {
                 arrivals = scan_trip_forward_with flagged stamp adj b.shift d.trip x d.offset s.arrivals;
                 boardings = board T Q round stamp adj d.trip d.offset b.departure s.boardings;
               })

@@ -1,8 +1,8 @@
 -- Words against their bytes.
 use Prim.Native.Nat.{ℕ, zero, suc, ◌+◌, ◌*◌, ◌-◌, ◌/◌, ◌%◌, ◌^◌, ◌<◌, ◌≤◌}
-use mathlib.Core.Path.{◌≡◌, refl, ap, ap₂, sym, ◌∙◌}
+use mathlib.Core.Path.{◌≡◌, refl, ap, ap₂, sym, ◌∙◌, subst}
 use mathlib.Core.Bool.{Bool, true, false, not, ◌||◌, or_assoc, or-false}
-use native.Mathlib.Nat.{one-mul, add-zero, add-suc, suc-add, zero-add}
+use native.Mathlib.Nat.{eq-or-lt_of_le, one-mul, add-zero, add-suc, suc-add, zero-add}
 use mathlib.Core.List.{List}
 use mathlib.Core.Logic.{⊎_elim}
 use mir.Val.{Fits}
@@ -15,8 +15,12 @@ use lib.Pow.{shl_exact, mod-pow-add}
 use borrow.Author.Tests.{eqb-true, eqb-false, eq-eqb, ne_eqb}
 use Rattle.loops.specs.Iter.{iter, range, some, some_in}
 use Rattle.loops.proofs.Iter.{some_ext}
-use Rattle.loops.specs.Count.{tab}
-use Rattle.loops.proofs.Count.{get_d_tab, tab_ext}
+use Rattle.loops.specs.Count.{tab, tab_from}
+use Rattle.loops.proofs.Count.{get_d_tab, tab_ext, tab_is}
+use Rattle.std.specs.List.{fold}
+use Rattle.std.specs.Array.{IsFromFnResult, IsFromFnResultFrom}
+use Rattle.std.specs.Fn.{Called}
+use denote.Param.Members.{Mut}
 use Rattle.loops.proofs.Search.{split}
 use Rattle.byte_words.specs.ByteWord.{byte_in, Bytes, word_of, eight_of, words_of, has_bit, both_have}
 
@@ -187,11 +191,10 @@ pub words_tab : (f : ℕ → ℕ) → words_of (byte_in (tab f 64)) ≡ words_of
 words_tab f = tab_ext (eight_of (byte_in (tab f 64))) (eight_of f) 8 (λ w u. word_ext (byte_in (tab f 64)) f (w * 8) 8 (λ k l. get_d_tab f 64 k 0 (omega arith)))
 
 -- eight bytes, one by one, make a word
-pub eight : (f : ℕ → ℕ) (i : ℕ) {b0 b1 b2 b3 b4 b5 b6 b7 : ℕ}
-    → b0 ≡ f i → b1 ≡ f (i + 1) → b2 ≡ f (i + 2) → b3 ≡ f (i + 3) → b4 ≡ f (i + 4) → b5 ≡ f (i + 5) → b6 ≡ f (i + 6) → b7 ≡ f (i + 7)
-    → b0 + b1 * 256 + b2 * 65536 + b3 * 16777216 + b4 * 4294967296 + b5 * 1099511627776 + b6 * 281474976710656 + b7 * 72057594037927936 ≡ word_of f i 8
+pub eight : (f : ℕ → ℕ) (i : ℕ)
+    → f i + f (i + 1) * 256 + f (i + 2) * 65536 + f (i + 3) * 16777216 + f (i + 4) * 4294967296 + f (i + 5) * 1099511627776 + f (i + 6) * 281474976710656 + f (i + 7) * 72057594037927936 ≡ word_of f i 8
 unfolding word_of
-eight f i e0 e1 e2 e3 e4 e5 e6 e7 =
+eight f i =
     let i1 : i + 1 ≡ suc i = omega arith in
     let i2 : i + 2 ≡ suc (suc i) = omega arith in
     let i3 : i + 3 ≡ suc (suc (suc i)) = omega arith in
@@ -199,4 +202,23 @@ eight f i e0 e1 e2 e3 e4 e5 e6 e7 =
     let i5 : i + 5 ≡ suc (suc (suc (suc (suc i)))) = omega arith in
     let i6 : i + 6 ≡ suc (suc (suc (suc (suc (suc i))))) = omega arith in
     let i7 : i + 7 ≡ suc (suc (suc (suc (suc (suc (suc i)))))) = omega arith in
-    omega (arith, e0, e1 ∙ ap f i1, e2 ∙ ap f i2, e3 ∙ ap f i3, e4 ∙ ap f i4, e5 ∙ ap f i5, e6 ∙ ap f i6, e7 ∙ ap f i7)
+    rw (i1, i2, i3, i4, i5, i6, i7) (omega arith)
+
+-- a fold that takes in the bits of the values of a function
+pub fold_taken : (f : ℕ → ℕ) (i n s : ℕ) → fold bit_or s (tab_from f i n) ≡ iter (or_with f) i n s
+unfolding tab_from iter
+fold_taken f i zero s = refl
+fold_taken f i (suc n) s = fold_taken f (suc i) n (bit_or s (f i))
+
+-- an array made by a closure that leaves itself as it was and gives f of each place
+pub tab_made : {F : Type 0} {g : Mut F (ℕ × Unit {0}) ℕ} (p : F) (f : ℕ → ℕ) (n : ℕ) (ys : List ℕ) → IsFromFnResult g p ys n
+    → ((x y : ℕ) (q : F) → Called g p (x, tt) y q → (q ≡ p) × (y ≡ f x)) → ys ≡ tab f n
+tab_made {F} {g} p f n ys made k = tab_is f n ys made.long (λ i l. from 0 n made.each i (omega arith) (omega arith))
+  where
+    from : (a m : ℕ) → IsFromFnResultFrom g p ys a m → (i : ℕ) → a ≤ i → i < a + m → get_or ys i 0 ≡ f i
+    from a zero e i l u = absurd (omega arith)
+    from a (suc m) e i l u =
+        let t = k a e.1 e.0 e.3 in
+        ⊎_elim (λ (d : a ≡ i). ap (λ (x : ℕ). get_or ys x 0) (sym d) ∙ e.2.1 0 ∙ t.1 ∙ ap f d)
+        (λ (d : a < i). from (a + 1) m (subst (λ (x : F). IsFromFnResultFrom g x ys (a + 1) m) t.0 e.4) i (omega arith) (omega arith))
+        (eq-or-lt_of_le l)

@@ -28,20 +28,15 @@ pub struct CellBitSet {
 fn reserved_bytes(reserved: u32) -> usize
     ensures { result ≡ min reserved 64 }
 {
-    if reserved < 64 {
-        return reserved as usize;
-    }
-    64
+    reserved.min(64) as usize
 }
 
 // The first n bytes as they are, the others 0.
 fn cleared(mut bytes: [u8; 64], n: usize) -> [u8; 64]
     ensures { result ≡ tab (byte_upto n bytes) 64 }
 {
-    let mut i: usize = n;
-    while i < 64 {
+    for i in n..64 {
         bytes[i] = 0;
-        i += 1;
     }
     bytes
 }
@@ -51,12 +46,8 @@ fn merged(mut bytes: [u8; 64], from: [u8; 64], n: usize) -> [u8; 64]
     requires { n ≤ 64 }
     ensures { result ≡ tab (λ i. bit_or (get_or bytes i 0) (byte_upto n from i)) 64 }
 {
-    let mut i: usize = 0;
-    while i < n {
-        let x = bytes[i];
-        let y = from[i];
-        bytes[i] = x | y;
-        i += 1;
+    for i in 0..n {
+        bytes[i] |= from[i];
     }
     bytes
 }
@@ -83,11 +74,8 @@ impl CellBitSet {
     {
         let a = reserved_bytes(self.reserved);
         let wanted = CellBitSet::new(num_cells);
-        let n = words::larger(a, wanted.reserved as usize);
-        let old = self.bytes;
-        let bytes = cleared(old, a);
-        self.bytes = bytes;
-        self.reserved = n as u32;
+        self.bytes = cleared(self.bytes, a);
+        self.reserved = a.max(wanted.reserved as usize) as u32;
         self
     }
 
@@ -97,9 +85,7 @@ impl CellBitSet {
     {
         let at = (cell / 8) as usize;
         if at < reserved_bytes(self.reserved) {
-            let bit = (cell % 8) as u8;
-            let old = self.bytes[at];
-            self.bytes[at] = old | (1u8 << bit);
+            self.bytes[at] |= 1u8 << (cell % 8);
         }
         self
     }
@@ -108,25 +94,16 @@ impl CellBitSet {
         ensures { result ≡ held self cell }
     {
         let at = (cell / 8) as usize;
-        if reserved_bytes(self.reserved) <= at {
-            return false;
-        }
-        let bit = (cell % 8) as u8;
-        let old = self.bytes[at];
-        old & (1u8 << bit) != 0
+        at < reserved_bytes(self.reserved) && self.bytes[at] & (1u8 << (cell % 8)) != 0
     }
 
     // Stops at the shorter set; by the word.
     pub fn intersects(self, other: CellBitSet) -> bool
         ensures { result ≡ meets self other }
     {
-        let shorter = words::smaller(
-            reserved_bytes(self.reserved),
-            reserved_bytes(other.reserved),
-        );
-        let bytes = self.bytes;
-        let others = other.bytes;
-        byte_words::share_bit(bytes, others, shorter)
+        let a = reserved_bytes(self.reserved);
+        let b = reserved_bytes(other.reserved);
+        byte_words::share_bit(self.bytes, other.bytes, a.min(b))
     }
 
     // The words of the reserved bytes, eight in all; past them 0.
@@ -134,8 +111,7 @@ impl CellBitSet {
         ensures { result ≡ cell_words self }
     {
         let n = reserved_bytes(self.reserved);
-        let own = self.bytes;
-        byte_words::words_of(cleared(own, n))
+        byte_words::words_of(cleared(self.bytes, n))
     }
 
     pub fn union_with(mut self, other: CellBitSet) -> Self
@@ -143,11 +119,8 @@ impl CellBitSet {
     {
         let a = reserved_bytes(self.reserved);
         let b = reserved_bytes(other.reserved);
-        let own = self.bytes;
-        let its = other.bytes;
-        let bytes = merged(cleared(own, a), its, b);
-        self.bytes = bytes;
-        self.reserved = words::larger(a, b) as u32;
+        self.bytes = merged(cleared(self.bytes, a), other.bytes, b);
+        self.reserved = a.max(b) as u32;
         self
     }
 
@@ -156,11 +129,8 @@ impl CellBitSet {
     {
         let end = reserved_bytes(self.reserved);
         let mut found: u8 = 0;
-        let mut at: usize = 0;
-        while at < end {
-            let x = self.bytes[at];
-            found = found | x;
-            at += 1;
+        for at in 0..end {
+            found |= self.bytes[at];
         }
         found == 0
     }

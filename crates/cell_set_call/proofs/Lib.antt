@@ -1,2 +1,1 @@
-pub mod CellSetCall
 pub mod Examples

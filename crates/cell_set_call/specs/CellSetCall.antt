@@ -1,11 +1,12 @@
 -- The calls of cell sets: question 1 of a number of cells, 14 of the settings, and what each answers. What a set then holds: `cell_bitset`
 -- specs/CellSet. Definitions only.
-use Rattle.std.specs.Prelude.{ℕ, zero, suc, Bool, leb}
+use Rattle.std.specs.Prelude.{ℕ, zero, suc, Bool, Result, Ok, Err, leb}
 use Rattle.loops.specs.Count.{one}
-use Rattle.door.specs.Door.{ask, answer}
+use Rattle.door.specs.Door.{ask, answer, number_of}
 use Rattle.door.specs.Settings.{settings_asked}
 use Rattle.door.specs.declared.Settings.{Settings}
 use Rattle.door.specs.declared.Answer.{Answer}
+use Rattle.door.specs.declared.Refusal.{Refusal}
 use Rattle.cell_bitset.specs.declared.CellBitSet.{CellBitSet}
 use Rattle.cell_set_call.specs.declared.CellSetAnswer.{CellSetAnswer}
 use Rattle.cell_bitset.specs.CellSet.{cell_limit, empty_set, sized, with_cell, held, meets, union, holds_none}
@@ -18,6 +19,11 @@ count_asked S n = ask 1 (leb n cell_limit) (settings_asked S)
 abbrev pub set_answer : ℕ → CellBitSet → CellBitSet → CellSetAnswer
 set_answer zero made back = record { code = 0; set = made }
 set_answer (suc n) made back = record { code = suc n; set = back }
+
+-- an outcome with a set, as a caller in C reads it: refused, a set is handed back
+abbrev pub set_of : Result CellBitSet Refusal → CellBitSet → CellSetAnswer
+set_of (Ok made) back = record { code = 0; set = made }
+set_of (Err q) back = record { code = number_of q; set = back }
 
 -- a new set of n cells; refused: the set of no group
 abbrev pub created : Settings → ℕ → CellSetAnswer

@@ -7,18 +7,17 @@
 #![tactic(auto)]
 
 ghost use Rattle.std.specs.Prelude.{◌≡◌};
-ghost use Rattle.cell_set_call.specs.CellSetCall.{created, resized, with_cell_answer, union_answer};
-ghost use Rattle.door.specs.Door.{success};
-ghost use Rattle.loops.specs.Count.{one};
-ghost use Rattle.cell_set_call.specs.CellSetCall.{held_answer, meets_answer, empty_answer};
+ghost use Rattle.door.specs.Door.{answer_of};
+ghost use Rattle.cell_bitset.specs.CellSet.{empty_set};
+ghost use Rattle.cell_set_call.specs.CellSetCall.{set_of, created, resized, with_cell_answer, union_answer, held_answer, meets_answer, empty_answer};
 
 use cell_bitset::CellBitSet;
-use door::{Answer, Settings};
+use door::{Refusal, Settings};
 
 // The most cells that a set has room for.
 const CELL_LIMIT: u32 = 512;
 
-// The answer of a call that gives a set: 0 and the set made, or the number of the first no.
+// What a caller in C reads of a call that gives a set: 0 and the set made, or the number of the first no and the set as it came.
 #[repr(C)]
 #[derive(Clone, Copy)]
 pub struct CellSetAnswer {
@@ -26,99 +25,76 @@ pub struct CellSetAnswer {
     pub set: CellBitSet,
 }
 
-// A new set, behind questions 1 and 14.
-pub fn create(settings: Settings, num_cells: u32) -> CellSetAnswer
-    ensures { result ≡ created settings num_cells }
+// Refused, `back` is handed back.
+pub fn answered(outcome: Result<CellBitSet, Refusal>, back: CellBitSet) -> CellSetAnswer
+    ensures { result ≡ set_of outcome back }
 {
-    let v = door::limits(num_cells <= CELL_LIMIT, settings);
-    if v != 0 {
-        return CellSetAnswer {
-            code: v,
-            set: CellBitSet::new(0),
-        };
+    match outcome {
+        Ok(set) => CellSetAnswer { code: 0, set },
+        Err(question) => CellSetAnswer {
+            code: u32::from(question),
+            set: back,
+        },
     }
-    CellSetAnswer {
-        code: 0,
-        set: CellBitSet::new(num_cells),
-    }
+}
+
+// A new set, behind questions 1 and 14.
+pub fn create(settings: Settings, num_cells: u32) -> Result<CellBitSet, Refusal>
+    ensures { set_of result (empty_set 0) ≡ created settings num_cells }
+{
+    door::limits(num_cells <= CELL_LIMIT, settings)?;
+    Ok(CellBitSet::new(num_cells))
 }
 
 // A set with room for more cells, behind questions 1 and 14.
-pub fn resize(settings: Settings, set: CellBitSet, num_cells: u32) -> CellSetAnswer
-    ensures { result ≡ resized settings set num_cells }
+pub fn resize(settings: Settings, set: CellBitSet, num_cells: u32) -> Result<CellBitSet, Refusal>
+    ensures { set_of result set ≡ resized settings set num_cells }
 {
-    let v = door::limits(num_cells <= CELL_LIMIT, settings);
-    if v != 0 {
-        return CellSetAnswer { code: v, set: set };
-    }
-    CellSetAnswer {
-        code: 0,
-        set: set.ensure_sized(num_cells),
-    }
+    let few = num_cells <= CELL_LIMIT;
+    door::limits(few, settings)?;
+    Ok(set.ensure_sized(num_cells))
 }
 
-// A set with one cell more, behind question 14.
-pub fn set_bit(settings: Settings, set: CellBitSet, cell: u32) -> CellSetAnswer
-    ensures { result ≡ with_cell_answer settings set cell }
+// A set with one cell more, behind question 14, as all that follow.
+pub fn set_bit(settings: Settings, set: CellBitSet, cell: u32) -> Result<CellBitSet, Refusal>
+    ensures { set_of result set ≡ with_cell_answer settings set cell }
 {
-    if !door::settings_ok(settings) {
-        return CellSetAnswer { code: 14, set: set };
-    }
-    CellSetAnswer {
-        code: 0,
-        set: set.set_bit(cell),
-    }
+    door::ask(Refusal::Settings, door::settings_ok(settings))?;
+    Ok(set.set_bit(cell))
 }
 
-// Two sets in one, behind question 14.
-pub fn union_with(settings: Settings, set: CellBitSet, other: CellBitSet) -> CellSetAnswer
-    ensures { result ≡ union_answer settings set other }
+// Two sets in one.
+pub fn union_with(
+    settings: Settings,
+    set: CellBitSet,
+    other: CellBitSet,
+) -> Result<CellBitSet, Refusal>
+    ensures { set_of result set ≡ union_answer settings set other }
 {
-    if !door::settings_ok(settings) {
-        return CellSetAnswer { code: 14, set: set };
-    }
-    CellSetAnswer {
-        code: 0,
-        set: set.union_with(other),
-    }
+    door::ask(Refusal::Settings, door::settings_ok(settings))?;
+    Ok(set.union_with(other))
 }
 
-// Yes or no as 1 or 0.
-fn yes_or_no(yes: bool) -> Answer
-    ensures { result ≡ success (one yes) }
+// Is the cell in the set? 1 for yes, 0 for no, as the next two.
+pub fn get_bit(settings: Settings, set: CellBitSet, cell: u32) -> Result<u32, Refusal>
+    ensures { answer_of result ≡ held_answer settings set cell }
 {
-    if yes {
-        return door::given(1);
-    }
-    door::given(0)
-}
-
-// Is the cell in the set? Behind question 14, as the next two.
-pub fn get_bit(settings: Settings, set: CellBitSet, cell: u32) -> Answer
-    ensures { result ≡ held_answer settings set cell }
-{
-    if !door::settings_ok(settings) {
-        return door::refused(14);
-    }
-    yes_or_no(set.get_bit(cell))
+    door::ask(Refusal::Settings, door::settings_ok(settings))?;
+    Ok(u32::from(set.get_bit(cell)))
 }
 
 // Have the sets a cell in common?
-pub fn intersects(settings: Settings, set: CellBitSet, other: CellBitSet) -> Answer
-    ensures { result ≡ meets_answer settings set other }
+pub fn intersects(settings: Settings, set: CellBitSet, other: CellBitSet) -> Result<u32, Refusal>
+    ensures { answer_of result ≡ meets_answer settings set other }
 {
-    if !door::settings_ok(settings) {
-        return door::refused(14);
-    }
-    yes_or_no(set.intersects(other))
+    door::ask(Refusal::Settings, door::settings_ok(settings))?;
+    Ok(u32::from(set.intersects(other)))
 }
 
 // Does the set hold no cell?
-pub fn is_empty(settings: Settings, set: CellBitSet) -> Answer
-    ensures { result ≡ empty_answer settings set }
+pub fn is_empty(settings: Settings, set: CellBitSet) -> Result<u32, Refusal>
+    ensures { answer_of result ≡ empty_answer settings set }
 {
-    if !door::settings_ok(settings) {
-        return door::refused(14);
-    }
-    yes_or_no(set.is_empty())
+    door::ask(Refusal::Settings, door::settings_ok(settings))?;
+    Ok(u32::from(set.is_empty()))
 }

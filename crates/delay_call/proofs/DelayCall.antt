@@ -1,26 +1,27 @@
 -- What a yes to every question of the delay calls gives, and what the calls answer under the door's number. Assumes nothing.
-use Prim.Native.Nat.{ℕ, zero, suc, ◌*◌, ◌≤◌}
-use mathlib.Core.Path.{◌≡◌, refl, ap, ◌∙◌, sym}
+use Prim.Native.Nat.{ℕ, ◌*◌, ◌<◌, ◌≤◌}
+use mathlib.Core.Path.{◌≡◌, ◌∙◌, sym}
 use mathlib.Core.Bool.{Bool, true, ◌&&◌}
 use mathlib.Core.List.{List}
 use native.Mathlib.Omega.{arith}
 use lib.ListN.{length}
-use lib.Dec.{ltb, leb, eqb}
+use lib.Dec.{leb, eqb}
 use borrow.Author.Tests.{leb-true, eqb-true}
-use Rattle.loops.specs.Iter.{Hit}
+use Rattle.std.specs.Prelude.{Some}
+use Rattle.loops.specs.Iter.{found}
+use Rattle.loops.proofs.Search.{hit_below}
 use Rattle.loops.proofs.Iter.{and_left, and_right}
 use Rattle.door.proofs.Laws.{ask_yes, ask_later}
 use Rattle.door.specs.Door.{ask}
 use Rattle.door.specs.Settings.{settings_ok}
 use Rattle.door.specs.declared.Settings.{Settings}
-use Rattle.delay_call.specs.declared.DelayAt.{DelayAt}
-use Rattle.delay_rows.specs.Delays.{delay_row, stop_delay}
-use Rattle.delay_rows.specs.Flat.{delay_row_count, stop_row_count, delay_tables}
-use Rattle.stop_delay.specs.Times.{no_delay}
-use Rattle.delay_call.specs.DelayCall.{delay_counts, delay_lengths, delays_door, told, known_of, delay_answer, delay_at_outcome}
+use Rattle.delay_rows.specs.Delays.{delay_row}
+use Rattle.delay_rows.specs.Flat.{delay_row_count, stop_row_count, delay_row_at, stop_row_at, delay_tables, delays_alone}
+use Rattle.delay_call.specs.DelayCall.{delay_counts, delay_lengths, delays_door}
 use Rattle.delay_rows.specs.Door.{delay_numbers, delay_ranges, delay_order}
-use Rattle.delay_lookup.specs.Sane.{Delays}
+use Rattle.delay_lookup.specs.Sane.{Delays, DelayRows, StopRows}
 use Rattle.delay_lookup.proofs.Door.{delays_yes}
+use Rattle.delay_lookup.proofs.Search.{found_hit}
 
 -- question 2: the counts handed in are those of the tables
 pub delay_count : (n m : ℕ) (rows stops : List ℕ) → delay_lengths n m rows stops ≡ true → delay_row_count rows ≡ n
@@ -72,19 +73,16 @@ admitted S trips n m rows stops numbered v e z =
     (ask_yes 4 (delay_ranges D) l6 h4)
     (ask_yes 5 (delay_order D) 0 h5)
 
--- What the calls answer, under the number v that the door gave
-module _ (S : Settings) (trips n m : ℕ) (rows stops : List ℕ) (trip sequence v : ℕ) (e : v ≡ delays_door S trips n m rows stops (ltb trip trips)) where
-  outcome_at : ℕ → DelayAt
-  outcome_at k = delay_answer k (known_of (delay_row (delay_tables rows stops) trip)) (stop_delay (delay_tables rows stops) (delay_row (delay_tables rows stops) trip) sequence)
+-- what the look-up asks: of the delay rows, of the row that it found, of the stop rows
+pub sane_rows : (S : Settings) (trips n m : ℕ) (rows stops : List ℕ) (numbered : Bool) (v : ℕ) → v ≡ delays_door S trips n m rows stops numbered → v ≡ 0
+    → DelayRows (delay_row_count rows) (delay_row_at rows)
+sane_rows S trips n m rows stops numbered v e z = (admitted S trips n m rows stops numbered v e z).delay_rows
 
-  pub delay_given : (h : Hit) → v ≡ 0 → delay_row (delay_tables rows stops) trip ≡ h → told 0 (known_of h) (stop_delay (delay_tables rows stops) h sequence) ≡ delay_at_outcome S trips n m rows stops trip sequence
-  unfolding outcome_at
-  delay_given h z f = ap (λ (k : Hit). told 0 (known_of k) (stop_delay (delay_tables rows stops) k sequence)) (sym f) ∙ ap outcome_at (sym z ∙ e)
+pub sane_stops : (S : Settings) (trips n m : ℕ) (rows stops : List ℕ) (numbered : Bool) (v : ℕ) → v ≡ delays_door S trips n m rows stops numbered → v ≡ 0
+    → StopRows (stop_row_count stops) (stop_row_at stops)
+sane_stops S trips n m rows stops numbered v e z = (admitted S trips n m rows stops numbered v e z).stop_rows
 
-  pub delay_refused : (v ≡ 0 → ⊥) → told v 0 no_delay ≡ delay_at_outcome S trips n m rows stops trip sequence
-  unfolding outcome_at
-  delay_refused h = at v h ∙ ap outcome_at e
-    where
-      at : (k : ℕ) → (k ≡ 0 → ⊥) → told k 0 no_delay ≡ outcome_at k
-      at zero h = absurd (h refl)
-      at (suc k) h = refl
+pub row_below : (rows : List ℕ) (trip i : ℕ) → found (delay_row (delays_alone rows) trip) ≡ Some i → i < delay_row_count rows
+row_below rows trip i e = hit_below _ _ i (found_hit (delay_row (delays_alone rows) trip) i e)
+
+pub ruleset read_steps = (sane_rows, sane_stops, row_below)

@@ -1,8 +1,9 @@
 -- The calls that read the delay tables, the look-up and the margin: their questions in order, and what each answers. Definitions only.
-use Rattle.std.specs.Prelude.{ℕ, zero, suc, ◌*◌, Bool, true, ◌&&◌, List, length, ltb, leb, eqb}
+use Rattle.std.specs.Prelude.{ℕ, zero, suc, ◌*◌, Bool, true, ◌&&◌, Option, None, Some, Result, Ok, Err, List, length, ltb, leb, eqb}
 use Rattle.loops.specs.Iter.{Hit, hit, miss}
 use Rattle.door.specs.declared.Answer.{Answer}
-use Rattle.door.specs.Door.{ask, answer}
+use Rattle.door.specs.declared.Refusal.{Refusal}
+use Rattle.door.specs.Door.{ask, answer, number_of}
 use Rattle.door.specs.Settings.{settings_ok}
 use Rattle.door.specs.declared.Settings.{Settings}
 use Rattle.stop_delay.specs.Times.{no_delay}
@@ -51,6 +52,12 @@ told code known d =
       departure_delay = d.departure_delay;
       arrival_delay = d.arrival_delay;
     }
+
+-- an outcome of the look-up, as a caller in C reads it
+abbrev pub delay_of : Result (Option StopDelay) Refusal → DelayAt
+delay_of (Ok (Some d)) = told 0 1 d
+delay_of (Ok None) = told 0 0 no_delay
+delay_of (Err q) = told (number_of q) 0 no_delay
 
 -- a refusal writes no answer: all else is 0
 abbrev pub delay_answer : ℕ → ℕ → StopDelay → DelayAt

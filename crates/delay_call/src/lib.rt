@@ -7,14 +7,14 @@
 #![tactic(auto)]
 
 ghost use Rattle.std.specs.Prelude.{◌≡◌};
-ghost use Rattle.delay_call.specs.DelayCall.{delay_counts, delay_lengths, delays_door, margin_outcome, told, delay_at_outcome};
+ghost use Rattle.door.specs.Door.{code_of, answer_of};
+ghost use Rattle.delay_call.specs.DelayCall.{delay_counts, delay_lengths, delays_door, margin_outcome, told, delay_of, delay_at_outcome};
 ghost use Rattle.delay_rows.specs.Delays.{margin};
 
-use delay_rows::Found;
-use door::Settings;
+use door::{Refusal, Settings};
 use stop_delay::StopDelay;
 
-// The answer of delay_at: code 0, and known 1 where the trip has a delay row; or the number of the first no, the rest 0.
+// What a caller in C reads of `delay_at`: code 0, and known 1 where the trip has a delay row; or the number of the first no, the rest 0.
 #[repr(C)]
 #[derive(Clone, Copy)]
 pub struct DelayAt {
@@ -30,8 +30,7 @@ pub struct DelayAt {
 fn delay_counts(trips: u32, delay_row_count: u32, stop_row_count: u32) -> bool
     ensures { result ≡ delay_counts trips delay_row_count stop_row_count }
 {
-    let rows = door::both(delay_row_count <= 4096, stop_row_count <= 4096);
-    door::both(trips <= 4096, rows)
+    trips <= 4096 && delay_row_count <= 4096 && stop_row_count <= 4096
 }
 
 // Question 2.
@@ -45,10 +44,11 @@ fn delay_lengths(
 {
     let delays = delay_rows.len() == 2 * (delay_row_count as usize);
     let stops = stop_rows.len() == 5 * (stop_row_count as usize);
-    door::both(delays, stops)
+    delays && stops
 }
 
-// The door of the delay tables: the number of the first no, or 0. `numbered` is the caller's own part of question 4.
+// The door of the delay tables. `numbered` is the caller's own part of question 4.
+#[tactic(auto, unfolding(crate::specs::DelayCall::delays_door), using(door::proofs::Laws::not_within))]
 fn delays_door(
     settings: Settings,
     trips: u32,
@@ -57,33 +57,20 @@ fn delays_door(
     delay_rows: &[u32],
     stop_rows: &[u32],
     numbered: bool,
-) -> u32
-    ensures { result ≡ delays_door settings trips delay_row_count stop_row_count
+) -> Result<(), Refusal>
+    ensures { code_of result ≡ delays_door settings trips delay_row_count stop_row_count
         delay_rows.now stop_rows.now numbered }
 {
-    let v = door::limits(
-        delay_counts(trips, delay_row_count, stop_row_count),
-        settings,
-    );
-    if v != 0 {
-        return v;
-    }
-    if !delay_lengths(delay_row_count, stop_row_count, delay_rows, stop_rows) {
-        return 2;
-    }
-    if !door::both(
-        delay_rows::rows_asked(4, trips, delay_rows, stop_rows),
-        numbered,
-    ) {
-        return 4;
-    }
-    if !delay_rows::rows_asked(5, trips, delay_rows, stop_rows) {
-        return 5;
-    }
-    if !delay_rows::rows_asked(6, trips, delay_rows, stop_rows) {
-        return 6;
-    }
-    0
+    let counts = delay_counts(trips, delay_row_count, stop_row_count);
+    door::limits(counts, settings)?;
+    let lengths = delay_lengths(delay_row_count, stop_row_count, delay_rows, stop_rows);
+    door::ask(Refusal::Sizes, lengths)?;
+    let numbers = delay_rows::numbers_ok(trips, delay_rows, stop_rows);
+    door::ask(Refusal::Numbers, numbers && numbered)?;
+    let ranges = delay_rows::ranges_ok(delay_rows, stop_rows);
+    door::ask(Refusal::Ranges, ranges)?;
+    let order = delay_rows::order_ok(delay_rows, stop_rows);
+    door::ask(Refusal::Order, order)
 }
 
 // Questions 1, 14, 2, 4, 5 and 6, then the margin.
@@ -94,11 +81,11 @@ pub fn margin(
     stop_row_count: u32,
     delay_rows: &[u32],
     stop_rows: &[u32],
-) -> door::Answer
-    ensures { result ≡ margin_outcome settings trips delay_row_count stop_row_count
+) -> Result<u32, Refusal>
+    ensures { answer_of result ≡ margin_outcome settings trips delay_row_count stop_row_count
         delay_rows.now stop_rows.now }
 {
-    let no = delays_door(
+    delays_door(
         settings,
         trips,
         delay_row_count,
@@ -106,11 +93,8 @@ pub fn margin(
         delay_rows,
         stop_rows,
         true,
-    );
-    if no != 0 {
-        return door::refused(no);
-    }
-    door::given(delay_lookup::rt_margin(delay_rows, stop_rows, settings.margin_cap))
+    )?;
+    Ok(delay_lookup::rt_margin(delay_rows, stop_rows, settings.margin_cap))
 }
 
 // An answer of delay_at.
@@ -118,8 +102,8 @@ fn told(code: u32, known: u32, d: StopDelay) -> DelayAt
     ensures { result ≡ told code known d }
 {
     DelayAt {
-        code: code,
-        known: known,
+        code,
+        known,
         trip_delay: d.trip_delay,
         flags: d.flags,
         departure_delay: d.departure_delay,
@@ -127,7 +111,22 @@ fn told(code: u32, known: u32, d: StopDelay) -> DelayAt
     }
 }
 
-// Questions 1, 14, 2, 4 (with the trip), 5 and 6, then what the tables say of the trip's stop time with this sequence.
+// What a caller in C reads of delay_at.
+impl From<Result<Option<StopDelay>, Refusal>> for DelayAt {
+    ghost from_gives = { λ r a. a ≡ delay_of r };
+
+    fn from(outcome: Result<Option<StopDelay>, Refusal>) -> DelayAt {
+        match outcome {
+            Ok(Some(delay)) => told(0, 1, delay),
+            Ok(None) => told(0, 0, stop_delay::no_delay()),
+            Err(question) => told(u32::from(question), 0, stop_delay::no_delay()),
+        }
+    }
+}
+
+// Questions 1, 14, 2, 4 (with the trip), 5 and 6, then what the tables say of the trip's stop time with this sequence;
+// None: the trip has no delay row.
+#[tactic(auto, using(crate::proofs::DelayCall::read_steps))]
 pub fn delay_at(
     settings: Settings,
     trips: u32,
@@ -137,34 +136,19 @@ pub fn delay_at(
     stop_rows: &[u32],
     trip: u32,
     sequence: u32,
-) -> DelayAt
-    ensures { result ≡ delay_at_outcome settings trips delay_row_count stop_row_count
+) -> Result<Option<StopDelay>, Refusal>
+    ensures { delay_of result ≡ delay_at_outcome settings trips delay_row_count stop_row_count
         delay_rows.now stop_rows.now trip sequence }
 {
-    let numbered = trip < trips;
-    let no = delays_door(
+    delays_door(
         settings,
         trips,
         delay_row_count,
         stop_row_count,
         delay_rows,
         stop_rows,
-        numbered,
-    );
-    if no != 0 {
-        return told(no, 0, stop_delay::no_delay());
-    }
-    let found = delay_lookup::delay_row(delay_rows, trip);
-    match found {
-        Found::At(i) => {
-            return told(
-                0,
-                1,
-                delay_lookup::stop_delay(delay_rows, stop_rows, i, sequence),
-            );
-        }
-        Found::Nothing => {
-            return told(0, 0, stop_delay::no_delay());
-        }
-    }
+        trip < trips,
+    )?;
+    let row = delay_lookup::delay_row(delay_rows, trip);
+    Ok(row.map(|row| delay_lookup::stop_delay(delay_rows, stop_rows, row, sequence)))
 }

@@ -14,9 +14,8 @@ use Rattle.delay_rows.specs.declared.DelayRow.{DelayRow}
 use Rattle.delay_rows.specs.declared.StopRow.{StopRow}
 use Rattle.delay_rows.specs.Delays.{DelayTables, unknown_trip}
 use Rattle.stop_delay.specs.Times.{size_of}
-use Rattle.delay_rows.specs.Door.{trip_numbered, trips_rise, stops_rise, row_in_order, delay_numbers, delay_ranges, delay_order}
+use Rattle.delay_rows.specs.Door.{trip_numbered, row_numbered, stop_in_range, trips_rise, stops_rise, row_in_order, delay_numbers, delay_ranges, delay_order}
 use Rattle.stop_delay.specs.Door.{size_ok}
-use Rattle.delay_rows.specs.Asked.{delay_asked, stop_asked}
 use Rattle.delay_lookup.specs.Sane.{DelayRows, StopRows, Delays}
 
 or_split : (a b : Bool) → (a || b) ≡ true → (a ≡ true) ⊎ (b ≡ true)
@@ -62,19 +61,16 @@ trip-numbered trips r h =
     ⊎_elim (λ e. inl (ltb-true r.trip trips e)) (λ e. inr (eqb-true r.trip unknown_trip e)) (or_split (ltb r.trip trips) (eqb r.trip unknown_trip) h)
 
 module _ (trips n : ℕ) (delay : ℕ → DelayRow) where
-  abbrev Yes : ℕ → Type 0
-  Yes question = every_in (delay_asked question trips delay) 0 n ≡ true
-
-  delay-rows : trips ≤ 4096 → n ≤ 4096 → Yes 4 → Yes 5 → Yes 6 → DelayRows n delay
+  delay-rows : trips ≤ 4096 → n ≤ 4096 → every_in (λ i. trip_numbered trips (delay i)) 0 n ≡ true → every_in (λ i. size_ok (delay i).delay) 0 n ≡ true → every_in (row_in_order trips_rise delay) 0 n ≡ true → DelayRows n delay
   delay-rows t f a b d =
       record {
         few = f;
         rise = pairs (TripAfter delay) n (λ i j k u x y. trip_after (delay i).trip (delay j).trip (delay k).trip (known k u) x y) (λ i l. trips-rise (delay i) (delay (i + 1)) (in_order trips_rise delay n d i l));
-        size = λ i l. leb-true (size_of (delay i).delay) time_limit (every_in_at (delay_asked 5 trips delay) n i b l);
+        size = λ i l. leb-true (size_of (delay i).delay) time_limit (every_in_at (λ j. size_ok (delay j).delay) n i b l);
       }
     where
       known : (k : ℕ) → k < n → (delay k).trip ≤ unknown_trip
-      known k u = ⊎_elim (λ e. omega arith) (λ e. omega arith) (trip-numbered trips (delay k) (every_in_at (delay_asked 4 trips delay) n k a u))
+      known k u = ⊎_elim (λ e. omega arith) (λ e. omega arith) (trip-numbered trips (delay k) (every_in_at (λ j. trip_numbered trips (delay j)) n k a u))
 
 -- .. and of the stop rows
 abbrev StopAfter : (ℕ → StopRow) → ℕ → ℕ → Type 0
@@ -92,11 +88,8 @@ stop_after a b c x y z (inl p) (inr q) = inl (omega arith)
 stop_after a b c x y z (inr p) (inl q) = inl (omega arith)
 stop_after a b c x y z (inr p) (inr q) = inr (p.0 ∙ q.0, omega arith)
 
-module _ (rows n : ℕ) (stop : ℕ → StopRow) where
-  abbrev StopsYes : ℕ → Type 0
-  StopsYes question = every_in (stop_asked question rows stop) 0 n ≡ true
-
-  stop-rows : n ≤ 4096 → StopsYes 5 → StopsYes 6 → StopRows n stop
+module _ (n : ℕ) (stop : ℕ → StopRow) where
+  stop-rows : n ≤ 4096 → every_in (λ j. stop_in_range (stop j)) 0 n ≡ true → every_in (row_in_order stops_rise stop) 0 n ≡ true → StopRows n stop
   stop-rows f b d =
       record {
         few = f;
@@ -110,25 +103,17 @@ module _ (rows n : ℕ) (stop : ℕ → StopRow) where
       sizes j = size_ok (stop j).departure_delay && size_ok (stop j).arrival_delay
 
       row : (j : ℕ) → j < n → leb (stop j).flags 7 && sizes j ≡ true
-      row j l = every_in_at (stop_asked 5 rows stop) n j b l
+      row j l = every_in_at (λ k. stop_in_range (stop k)) n j b l
 
 -- questions 4, 5 and 6 are answered yes: both tables are as the inner functions want them
 module _ (trips : ℕ) (D : DelayTables) where
-  abbrev delays_say : ℕ → Bool
-  delays_say question = every_in (delay_asked question trips D.delay) 0 D.delays
-
-  abbrev stops_say : ℕ → Bool
-  stops_say question = every_in (stop_asked question D.delays D.stop_row) 0 D.stop_rows
-
   pub delays_yes : trips ≤ 4096 → D.delays ≤ 4096 → D.stop_rows ≤ 4096 → delay_numbers trips D ≡ true → delay_ranges D ≡ true → delay_order D ≡ true → Delays trips D
   delays_yes t a b q4 q5 q6 =
-      let r4 = and_left (delays_say 4) (stops_say 4) q4 in
-      let r5 = and_left (delays_say 5) (stops_say 5) q5 in
-      let r6 = and_left (delays_say 6) (stops_say 6) q6 in
+      let r4 = and_left (every_in (λ i. trip_numbered trips (D.delay i)) 0 D.delays) _ q4 in
       record {
         few = t;
-        delay_rows = delay-rows trips D.delays D.delay t a r4 r5 r6;
-        stop_rows = stop-rows D.delays D.stop_rows D.stop_row b (and_right (delays_say 5) (stops_say 5) q5) (and_right (delays_say 6) (stops_say 6) q6);
-        trip = λ i l. trip-numbered trips (D.delay i) (every_in_at (delay_asked 4 trips D.delay) D.delays i r4 l);
-        row = λ j l. ltb-true (D.stop_row j).row D.delays (every_in_at (stop_asked 4 D.delays D.stop_row) D.stop_rows j (and_right (delays_say 4) (stops_say 4) q4) l);
+        delay_rows = delay-rows trips D.delays D.delay t a r4 (and_left _ _ q5) (and_left _ _ q6);
+        stop_rows = stop-rows D.stop_rows D.stop_row b (and_right _ _ q5) (and_right _ _ q6);
+        trip = λ i l. trip-numbered trips (D.delay i) (every_in_at (λ k. trip_numbered trips (D.delay k)) D.delays i r4 l);
+        row = λ j l. ltb-true (D.stop_row j).row D.delays (every_in_at (λ k. row_numbered D.delays (D.stop_row k)) D.stop_rows j (and_right _ _ q4) l);
       }

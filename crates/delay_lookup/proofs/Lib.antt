@@ -1,3 +1,4 @@
+pub mod Fold
 pub mod Search
 pub mod Door
 pub mod Largest

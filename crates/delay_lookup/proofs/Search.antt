@@ -7,14 +7,15 @@ use mathlib.Core.List.{List}
 use native.Mathlib.Nat.{eq-or-lt_of_le, suc-mul, mul-le-mul_right}
 use native.Mathlib.Omega.{arith}
 use lib.ListN.{get_or}
-use lib.Dec.{leb, eqb}
-use borrow.Author.Tests.{leb-true, leb-false, eqb-true, eqb-false, le-leb, lt-leb, eq-eqb, ne_eqb}
-use Rattle.loops.specs.Iter.{first_in, Hit, hit, miss}
+use lib.Dec.{leb, ltb, eqb}
+use borrow.Author.Tests.{leb-true, leb-false, ltb-true, ltb-false, eqb-true, eqb-false, le-leb, lt-leb, eq-eqb, ne_eqb}
+use Rattle.loops.specs.Iter.{first_in, Hit, hit, miss, found}
 use Rattle.loops.specs.Order.{KeysRise, Halved}
 use Rattle.loops.proofs.Search.{first_ext, halved_ext, stays_ext, keys_stay, same_found, same_past, same_other}
-use Rattle.delay_rows.specs.Flat.{delays_alone, stops_alone, delay_row_count, stop_row_count, delay_row_at, stop_row_at, found_of}
+use Rattle.delay_rows.specs.Flat.{delays_alone, stops_alone, delay_row_count, stop_row_count, delay_row_at, stop_row_at}
 use Rattle.delay_rows.specs.Delays.{delay_row, stop_row}
-use Rattle.delay_rows.specs.declared.Found.TheVariants.{At, Nothing}
+use Rattle.std.specs.Prelude.{None, Some}
+use Rattle.std.specs.Bool.{then_some}
 use Rattle.delay_lookup.specs.Sane.{DelayRows, StopRows}
 use Rattle.delay_lookup.specs.Halving.{key_at, Keyed}
 
@@ -54,6 +55,16 @@ stops_rising stops s w =
       rising = λ i j l u. ⊎_elim (λ (e : i ≡ j). omega (arith, ap (key_at stops 5) e)) (λ (e : i < j). ⊎_elim (λ z. omega (arith, w (i * 5 + 1))) (λ z. omega arith) (s.rise i j e u)) (eq-or-lt_of_le l);
     }
 
+-- What a search by halving finds: its place, if a row is there and has the key
+told : (key : ℕ → ℕ) (t n : ℕ) → KeysRise key n → (at : ℕ) → Halved (λ i. leb t (key i)) n at at → (b : Bool) → b ≡ (ltb at n && eqb (key at) t)
+    → then_some b at ≡ found (first_in (λ i. eqb (key i) t) 0 n)
+told key t n r at h b e = go (ltb at n) refl (eqb (key at) t) refl e
+  where
+    go : (x : Bool) → ltb at n ≡ x → (y : Bool) → eqb (key at) t ≡ y → b ≡ (x && y) → then_some b at ≡ found (first_in (λ i. eqb (key i) t) 0 n)
+    go true p true q z = rw z (ap found (sym (same_found key t n r at at h (ltb-true at n p) (eqb-true (key at) t q))))
+    go true p false q z = rw z (ap found (sym (same_other key t n r at at h (omega arith) (ltb-true at n p) (eqb-false (key at) t q))))
+    go false p y q z = rw z (ap found (sym (same_past key t n r at at h (ltb-false at n p))))
+
 -- The search for a trip's delay row: it may halve, and what it finds
 module _ (rows : List ℕ) (trip key : ℕ) (w : Words rows) (e : key ≡ trip * 4294967296 + 0) where
   pub trip_key : (i : ℕ) → leb key (key_at rows 2 i) ≡ leb trip (delay_row_at rows i).trip
@@ -71,14 +82,8 @@ module _ (rows : List ℕ) (trip key : ℕ) (w : Words rows) (e : key ≡ trip *
     by-trip : Halved (λ i. leb trip (delay_row_at rows i).trip) (delay_row_count rows) at at
     by-trip = halved_ext (λ i. leb key (key_at rows 2 i)) (λ i. leb trip (delay_row_at rows i).trip) (delay_row_count rows) at at trip_key h
 
-    pub delay_past : delay_row_count rows ≤ at → Nothing ≡ found_of (delay_row (delays_alone rows) trip)
-    delay_past l = ap found_of (sym (same_past (λ i. (delay_row_at rows i).trip) trip (delay_row_count rows) (trips_rising rows d) at at by-trip l))
-
-    pub delay_found : (delay_row_at rows at).trip ≡ trip → at < delay_row_count rows → At at ≡ found_of (delay_row (delays_alone rows) trip)
-    delay_found q l = ap found_of (sym (same_found (λ i. (delay_row_at rows i).trip) trip (delay_row_count rows) (trips_rising rows d) at at by-trip l q))
-
-    pub delay_other : ((delay_row_at rows at).trip ≡ trip → ⊥) → at < delay_row_count rows → Nothing ≡ found_of (delay_row (delays_alone rows) trip)
-    delay_other q l = ap found_of (sym (same_other (λ i. (delay_row_at rows i).trip) trip (delay_row_count rows) (trips_rising rows d) at at by-trip (omega arith) l q))
+    pub delay_told : (b : Bool) → b ≡ (ltb at (delay_row_count rows) && eqb (delay_row_at rows at).trip trip) → then_some b at ≡ found (delay_row (delays_alone rows) trip)
+    delay_told = told (λ i. (delay_row_at rows i).trip) trip (delay_row_count rows) (trips_rising rows d) at by-trip
 
 -- The search for a stop row by its key
 module _ (stops : List ℕ) (row sequence key : ℕ) (w : Words stops) (s : StopRows (stop_row_count stops) (stop_row_at stops)) where
@@ -89,20 +94,14 @@ module _ (stops : List ℕ) (row sequence key : ℕ) (w : Words stops) (s : Stop
     by_key : stop_row (stops_alone stops) row sequence ≡ first_in (λ j. eqb (key_at stops 5 j) key) 0 (stop_row_count stops)
     by_key = first_ext (λ j. eqb (stop_row_at stops j).row row && eqb (stop_row_at stops j).sequence sequence) (λ j. eqb (key_at stops 5 j) key) (stop_row_count stops) (λ j. sym (ap (eqb (key_at stops 5 j)) e ∙ key_eqb (get_or stops (j * 5) 0) (get_or stops (j * 5 + 1) 0) row sequence (w (j * 5 + 1)) u))
 
-    pub stop_past : stop_row_count stops ≤ at → Nothing ≡ found_of (stop_row (stops_alone stops) row sequence)
-    stop_past l = ap found_of (sym (by_key ∙ same_past (key_at stops 5) key (stop_row_count stops) (stops_rising stops s w) at at h l))
-
-    pub stop_found : key_at stops 5 at ≡ key → at < stop_row_count stops → At at ≡ found_of (stop_row (stops_alone stops) row sequence)
-    stop_found q l = ap found_of (sym (by_key ∙ same_found (key_at stops 5) key (stop_row_count stops) (stops_rising stops s w) at at h l q))
-
-    pub stop_other : (key_at stops 5 at ≡ key → ⊥) → at < stop_row_count stops → Nothing ≡ found_of (stop_row (stops_alone stops) row sequence)
-    stop_other q l = ap found_of (sym (by_key ∙ same_other (key_at stops 5) key (stop_row_count stops) (stops_rising stops s w) at at h (omega arith) l q))
+    pub stop_told : (b : Bool) → b ≡ (ltb at (stop_row_count stops) && eqb (key_at stops 5 at) key) → then_some b at ≡ found (stop_row (stops_alone stops) row sequence)
+    stop_told b q = told (key_at stops 5) key (stop_row_count stops) (stops_rising stops s w) at h b q ∙ ap found (sym by_key)
 
 -- what was found, as the code's enum says it
-pub found_hit : (h : Hit) (i : ℕ) → found_of h ≡ At i → h ≡ hit i
+pub found_hit : (h : Hit) (i : ℕ) → found h ≡ Some i → h ≡ hit i
 found_hit (hit k) i e = cc
 found_hit miss i e = let z : ◌≡◌ {A = ℕ} 0 1 = cc in absurd (omega arith)
 
-pub found_miss : (h : Hit) → found_of h ≡ Nothing → h ≡ miss
+pub found_miss : (h : Hit) → found h ≡ None → h ≡ miss
 found_miss (hit k) e = let z : ◌≡◌ {A = ℕ} 0 1 = cc in absurd (omega arith)
 found_miss miss e = refl

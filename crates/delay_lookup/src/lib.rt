@@ -8,15 +8,15 @@
 #![tactic(auto)]
 
 ghost use Rattle.std.specs.Prelude.{◌≡◌, cond, ◌+◌, ◌*◌, ◌<◌, length, leb};
-ghost use Rattle.loops.specs.Iter.{hit};
+ghost use Rattle.loops.specs.Iter.{found, hit};
 ghost use Rattle.loops.specs.Order.{Halved};
 ghost use Rattle.stop_delay.specs.Times.{size_of};
 ghost use Rattle.delay_rows.specs.Delays.{delay_row, stop_row, stop_delay, given_size, largest, margin};
-ghost use Rattle.delay_rows.specs.Flat.{delay_row_count, stop_row_count, delay_row_at, stop_row_at, delay_tables, delays_alone, stops_alone, found_of};
+ghost use Rattle.delay_rows.specs.Flat.{delay_row_count, stop_row_count, delay_row_at, stop_row_at, delay_tables, delays_alone, stops_alone};
 ghost use Rattle.delay_lookup.specs.Sane.{DelayRows, StopRows};
 ghost use Rattle.delay_lookup.specs.Halving.{key_at, Keyed};
 
-use delay_rows::{DelayRow, Found, StopRow};
+use delay_rows::StopRow;
 use stop_delay::StopDelay;
 
 // Searches
@@ -25,7 +25,7 @@ use stop_delay::StopDelay;
 fn key_of(a: u32, b: u32) -> u64
     ensures { result ≡ a * 4294967296 + b }
 {
-    (a as u64) * 4294967296 + b as u64
+    u64::from(a) * 4294967296 + u64::from(b)
 }
 
 // The key of row i of a table: its first two numbers.
@@ -48,44 +48,32 @@ fn first_from(t: &[u32], width: usize, n: usize, key: u64) -> usize
         let mid = lo + (hi - lo) / 2;
         if key_at(t, width, mid) < key {
             lo = mid + 1;
-            continue;
+        } else {
+            hi = mid;
         }
-        hi = mid;
     }
     lo
 }
 
 // The delay row of a trip: the first one, by halving.
-pub fn delay_row(delay_rows: &[u32], trip: u32) -> Found
+pub fn delay_row(delay_rows: &[u32], trip: u32) -> Option<usize>
     requires { DelayRows (delay_row_count delay_rows.now) (delay_row_at delay_rows.now) }
-    ensures { result ≡ found_of (delay_row (delays_alone delay_rows.now) trip) }
+    ensures { result ≡ found (delay_row (delays_alone delay_rows.now) trip) }
 {
     let n = delay_rows.len() / 2;
     let at = first_from(delay_rows, 2, n, key_of(trip, 0));
-    if n <= at {
-        return Found::Nothing;
-    }
-    if delay_rows[at * 2] == trip {
-        return Found::At(at);
-    }
-    Found::Nothing
+    (at < n && delay_rows[at * 2] == trip).then_some(at)
 }
 
 // The stop row of a delay row at a sequence, by halving.
-fn stop_row(stop_rows: &[u32], row: u32, sequence: u32) -> Found
+fn stop_row(stop_rows: &[u32], row: u32, sequence: u32) -> Option<usize>
     requires { StopRows (stop_row_count stop_rows.now) (stop_row_at stop_rows.now) }
-    ensures { result ≡ found_of (stop_row (stops_alone stop_rows.now) row sequence) }
+    ensures { result ≡ found (stop_row (stops_alone stop_rows.now) row sequence) }
 {
     let m = stop_rows.len() / 5;
     let key = key_of(row, sequence);
     let at = first_from(stop_rows, 5, m, key);
-    if m <= at {
-        return Found::Nothing;
-    }
-    if key_at(stop_rows, 5, at) == key {
-        return Found::At(at);
-    }
-    Found::Nothing
+    (at < m && key_at(stop_rows, 5, at) == key).then_some(at)
 }
 
 // What the tables say of a stop time, of a trip whose delay row is at `row`.
@@ -96,25 +84,22 @@ pub fn stop_delay(delay_rows: &[u32], stop_rows: &[u32], row: usize, sequence: u
     ensures { result ≡ stop_delay (delay_tables delay_rows.now stop_rows.now) (hit row) sequence }
 {
     let own = delay_rows::delay_row_at(delay_rows, row);
-    let found = stop_row(stop_rows, row as u32, sequence);
-    match found {
-        Found::At(j) => {
+    match stop_row(stop_rows, row as u32, sequence) {
+        Some(j) => {
             let stop = delay_rows::stop_row_at(stop_rows, j);
-            return StopDelay {
+            StopDelay {
                 trip_delay: own.delay,
                 flags: stop.flags,
                 departure_delay: stop.departure_delay,
                 arrival_delay: stop.arrival_delay,
-            };
+            }
         }
-        Found::Nothing => {
-            return StopDelay {
-                trip_delay: own.delay,
-                flags: 0,
-                departure_delay: 0,
-                arrival_delay: 0,
-            };
-        }
+        None => StopDelay {
+            trip_delay: own.delay,
+            flags: 0,
+            departure_delay: 0,
+            arrival_delay: 0,
+        },
     }
 }
 
@@ -124,64 +109,41 @@ pub fn stop_delay(delay_rows: &[u32], stop_rows: &[u32], row: usize, sequence: u
 fn size_if(given: bool, bits: u32) -> u32
     ensures { result ≡ cond given (size_of bits) 0 }
 {
-    if given {
-        return signed::size(bits);
-    }
-    0
+    if given { signed::size(bits) } else { 0 }
 }
 
-// What a delay row counts for the margin, its trip known or not: the size of its delay.
-fn trip_size(row: DelayRow) -> u32
-    ensures { result ≡ size_of row.delay }
-{
-    signed::size(row.delay)
-}
-
-// What a stop row counts for it: the larger size of its given delays.
+// What a stop row counts for the margin: the larger size of its given delays.
 fn given_size(row: StopRow) -> u32
     ensures { result ≡ given_size row }
 {
     let departure = size_if(stop_delay::departure_given(row.flags), row.departure_delay);
     let arrival = size_if(stop_delay::arrival_given(row.flags), row.arrival_delay);
-    words::larger_word(departure, arrival)
+    departure.max(arrival)
 }
 
-// The largest over each table.
+// The largest over each table; a delay row counts the size of its delay, its trip known or not.
 fn largest_trip(delay_rows: &[u32]) -> u32
     ensures { result ≡ largest (λ i. size_of (delay_row_at delay_rows.now i).delay)
         (delay_row_count delay_rows.now) }
 {
     let n = delay_rows.len() / 2;
-    let mut most: u32 = 0;
-    let mut i: usize = 0;
-    while i < n {
-        most = words::larger_word(most, trip_size(delay_rows::delay_row_at(delay_rows, i)));
-        i += 1;
-    }
-    most
+    (0..n).fold(0, |most, i| {
+        most.max(signed::size(delay_rows::delay_row_at(delay_rows, i).delay))
+    })
 }
 
 fn largest_stop(stop_rows: &[u32]) -> u32
     ensures { result ≡ largest (λ j. given_size (stop_row_at stop_rows.now j)) (stop_row_count stop_rows.now) }
 {
     let m = stop_rows.len() / 5;
-    let mut most: u32 = 0;
-    let mut j: usize = 0;
-    while j < m {
-        most = words::larger_word(most, given_size(delay_rows::stop_row_at(stop_rows, j)));
-        j += 1;
-    }
-    most
+    (0..m).fold(0, |most, j| {
+        most.max(given_size(delay_rows::stop_row_at(stop_rows, j)))
+    })
 }
 
 // The largest size among trip delays and given stop delays, at most the cap.
 pub fn rt_margin(delay_rows: &[u32], stop_rows: &[u32], cap: u32) -> u32
     ensures { result ≡ margin (delay_tables delay_rows.now stop_rows.now) cap }
 {
-    words::smaller_word(
-        cap,
-        words::larger_word(largest_trip(delay_rows), largest_stop(stop_rows)),
-    )
+    cap.min(largest_trip(delay_rows).max(largest_stop(stop_rows)))
 }
-
-// Exported calls

@@ -1,10 +1,7 @@
 -- The delay tables made from two lent slices of numbers. Definitions only.
 use Rattle.std.specs.Prelude.{ℕ, ◌+◌, ◌*◌, ◌/◌, List, [], length, get_or}
-use Rattle.loops.specs.Iter.{Hit, hit, miss}
 use Rattle.delay_rows.specs.declared.DelayRow.{DelayRow}
 use Rattle.delay_rows.specs.declared.StopRow.{StopRow}
-use Rattle.delay_rows.specs.declared.Found.{Found}
-use Rattle.delay_rows.specs.declared.Found.TheVariants.{At, Nothing}
 use Rattle.delay_rows.specs.Delays.{DelayTables}
 
 -- how many delay rows: two numbers each
@@ -40,8 +37,3 @@ delays_alone rows = delay_tables rows []
 
 abbrev pub stops_alone : List ℕ → DelayTables
 stops_alone stops = delay_tables [] stops
-
--- what a search found, as the code's enum
-abbrev pub found_of : Hit → Found
-found_of (hit i) = At i
-found_of miss = Nothing

@@ -1,4 +1,3 @@
 pub mod Delays
 pub mod Flat
 pub mod Door
-pub mod Asked

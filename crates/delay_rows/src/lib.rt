@@ -4,19 +4,18 @@
 // bits of an i32; what they mean is said in crate `signed`, what they do to a stop time in crate `stop_delay`.
 // Place: a leaf. Its calls: `delay_call`.
 // Specs: Delays (what the tables say of a stop time, the margin), Flat (the tables from two slices), Door (questions 4, 5 and
-// 6 of the rows); these are claims. Asked (how the code asks) is inner.
+// 6 of the rows); these are claims.
 // Proves: each question is answered as its definition, on every input.
 // Assumes nothing.
 #![tactic(auto)]
 
-ghost use Rattle.std.specs.Prelude.{◌≡◌, ◌-◌, ◌<◌};
-ghost use Rattle.loops.specs.Iter.{every_in};
+ghost use Rattle.std.specs.Prelude.{◌≡◌, ◌<◌};
 ghost use Rattle.delay_rows.specs.Flat.{delay_row_count, stop_row_count, delay_row_at, stop_row_at, delay_tables};
 ghost use Rattle.delay_rows.specs.Door.{trip_numbered, row_numbered, stop_in_range, trips_rise, stops_rise};
-ghost use Rattle.delay_rows.specs.Asked.{asked, delay_asked, stop_asked, rows_asked};
+ghost use Rattle.delay_rows.specs.Door.{delay_numbers, delay_ranges, delay_order};
 
 // The trip of a delay row that no trip of the timetable has.
-const UNKNOWN_TRIP: u32 = 4294967295;
+const UNKNOWN_TRIP: u32 = u32::MAX;
 
 // A delay row.
 #[derive(Clone, Copy)]
@@ -33,13 +32,6 @@ pub struct StopRow {
     pub flags: u32,
     pub departure_delay: u32,
     pub arrival_delay: u32,
-}
-
-// What a search finds.
-#[derive(Clone, Copy)]
-pub enum Found {
-    At(usize),
-    Nothing,
 }
 
 // Rows
@@ -74,7 +66,7 @@ pub fn stop_row_at(stop_rows: &[u32], j: usize) -> StopRow
 fn trip_numbered(trips: u32, row: DelayRow) -> bool
     ensures { result ≡ trip_numbered trips row }
 {
-    door::either(row.trip < trips, row.trip == UNKNOWN_TRIP)
+    row.trip < trips || row.trip == UNKNOWN_TRIP
 }
 
 fn row_numbered(n: usize, row: StopRow) -> bool
@@ -87,111 +79,57 @@ fn row_numbered(n: usize, row: StopRow) -> bool
 fn stop_in_range(row: StopRow) -> bool
     ensures { result ≡ stop_in_range row }
 {
-    let sizes = door::both(
-        stop_delay::size_ok(row.departure_delay),
-        stop_delay::size_ok(row.arrival_delay),
-    );
-    door::both(row.flags <= 7, sizes)
+    row.flags <= 7
+        && stop_delay::size_ok(row.departure_delay)
+        && stop_delay::size_ok(row.arrival_delay)
 }
 
 // Question 6 of two neighbours, delay rows and stop rows.
 fn trips_rise(a: DelayRow, b: DelayRow) -> bool
     ensures { result ≡ trips_rise a b }
 {
-    let unknown = door::both(a.trip == UNKNOWN_TRIP, b.trip == UNKNOWN_TRIP);
-    door::either(a.trip < b.trip, unknown)
+    a.trip < b.trip || (a.trip == UNKNOWN_TRIP && b.trip == UNKNOWN_TRIP)
 }
 
 fn stops_rise(a: StopRow, b: StopRow) -> bool
     ensures { result ≡ stops_rise a b }
 {
-    let later = door::both(a.row == b.row, a.sequence < b.sequence);
-    door::either(a.row < b.row, later)
+    a.row < b.row || (a.row == b.row && a.sequence < b.sequence)
 }
 
-// The answer to question 4, 5 or 6, of the three.
-fn asked(question: u32, numbered: bool, ranged: bool, ordered: bool) -> bool
-    ensures { result ≡ asked question numbered ranged ordered }
-{
-    if question == 4 {
-        return numbered;
-    }
-    if question == 5 {
-        return ranged;
-    }
-    ordered
-}
-
-// The row before row i, if there is one.
-fn previous(i: usize) -> usize
-    ensures { result ≡ i - 1 }
-{
-    if i == 0 { 0 } else { i - 1 }
-}
-
-// Question 4, 5 or 6 of delay row i.
-fn delay_asked(question: u32, trips: u32, delay_rows: &[u32], i: usize) -> bool
-    requires { i < delay_row_count delay_rows.now }
-    ensures { result ≡ delay_asked question trips (delay_row_at delay_rows.now) i }
-{
-    let row = delay_row_at(delay_rows, i);
-    let prior = delay_row_at(delay_rows, previous(i));
-    let ordered = door::either(i == 0, trips_rise(prior, row));
-    asked(
-        question,
-        trip_numbered(trips, row),
-        stop_delay::size_ok(row.delay),
-        ordered,
-    )
-}
-
-// Question 4, 5 or 6 of stop row j, where there are n delay rows.
-fn stop_asked(question: u32, n: usize, stop_rows: &[u32], j: usize) -> bool
-    requires { j < stop_row_count stop_rows.now }
-    ensures { result ≡ stop_asked question n (stop_row_at stop_rows.now) j }
-{
-    let row = stop_row_at(stop_rows, j);
-    let prior = stop_row_at(stop_rows, previous(j));
-    let ordered = door::either(j == 0, stops_rise(prior, row));
-    asked(question, row_numbered(n, row), stop_in_range(row), ordered)
-}
-
-// Question 4, 5 or 6 of every row of a table.
-fn delays_asked(question: u32, trips: u32, delay_rows: &[u32]) -> bool
-    ensures { result ≡ every_in (delay_asked question trips (delay_row_at delay_rows.now)) 0
-        (delay_row_count delay_rows.now) }
+// Question 4 of both tables.
+pub fn numbers_ok(trips: u32, delay_rows: &[u32], stop_rows: &[u32]) -> bool
+    ensures { result ≡ delay_numbers trips (delay_tables delay_rows.now stop_rows.now) }
 {
     let n = delay_rows.len() / 2;
-    let mut i: usize = 0;
-    while i < n {
-        if !delay_asked(question, trips, delay_rows, i) {
-            return false;
-        }
-        i += 1;
-    }
-    true
-}
-
-fn stops_asked(question: u32, n: usize, stop_rows: &[u32]) -> bool
-    ensures { result ≡ every_in (stop_asked question n (stop_row_at stop_rows.now)) 0
-        (stop_row_count stop_rows.now) }
-{
     let m = stop_rows.len() / 5;
-    let mut j: usize = 0;
-    while j < m {
-        if !stop_asked(question, n, stop_rows, j) {
-            return false;
-        }
-        j += 1;
-    }
-    true
+    let delays = (0..n).all(|i| trip_numbered(trips, delay_row_at(delay_rows, i)));
+    let stops = (0..m).all(|j| row_numbered(n, stop_row_at(stop_rows, j)));
+    delays && stops
 }
 
-// Question 4, 5 or 6 of both tables.
-pub fn rows_asked(question: u32, trips: u32, delay_rows: &[u32], stop_rows: &[u32]) -> bool
-    ensures { result ≡ rows_asked question trips (delay_tables delay_rows.now stop_rows.now) }
+// Question 5.
+pub fn ranges_ok(delay_rows: &[u32], stop_rows: &[u32]) -> bool
+    ensures { result ≡ delay_ranges (delay_tables delay_rows.now stop_rows.now) }
 {
-    let delays = delays_asked(question, trips, delay_rows);
-    let stops = stops_asked(question, delay_rows.len() / 2, stop_rows);
-    door::both(delays, stops)
+    let n = delay_rows.len() / 2;
+    let m = stop_rows.len() / 5;
+    let delays = (0..n).all(|i| stop_delay::size_ok(delay_row_at(delay_rows, i).delay));
+    let stops = (0..m).all(|j| stop_in_range(stop_row_at(stop_rows, j)));
+    delays && stops
+}
+
+// Question 6: each row is the first, or rises from the one before it.
+pub fn order_ok(delay_rows: &[u32], stop_rows: &[u32]) -> bool
+    ensures { result ≡ delay_order (delay_tables delay_rows.now stop_rows.now) }
+{
+    let n = delay_rows.len() / 2;
+    let m = stop_rows.len() / 5;
+    let delays = (0..n).all(|i| {
+        i == 0 || trips_rise(delay_row_at(delay_rows, i - 1), delay_row_at(delay_rows, i))
+    });
+    let stops = (0..m).all(|j| {
+        j == 0 || stops_rise(stop_row_at(stop_rows, j - 1), stop_row_at(stop_rows, j))
+    });
+    delays && stops
 }

@@ -9,11 +9,11 @@ use Rattle.departures.specs.Departures.{row_at, row_departure}
 use Rattle.departures.specs.Listed.{RowKnown, RowsListed}
 use Rattle.departure_order.specs.Order.{departure_order}
 
--- a row of stop s is right, and leaves at b - 1
+-- a row of stop s is right, and leaves at b
 pub record Leaving (t : List ℕ) (c : Counts) (s : ℕ) (r : DepartureRow) (b : ℕ) : Type 0 where
   pub known : RowKnown t c r
   pub at : stop_of t c r.trip r.offset ≡ s
-  pub leaves : b ≡ row_departure (timetable t c) r + 1
+  pub leaves : b ≡ row_departure (timetable t c) r
 
 -- the rows of stop s from first on, up to end, are right, and none is earlier than the one before it
 pub record RunRight (t : List ℕ) (c : Counts) (rows : List ℕ) (s first end : ℕ) : Type 0 where

@@ -5,7 +5,7 @@
 // Assumes nothing.
 #![tactic(auto)]
 
-ghost use Rattle.std.specs.Prelude.{◌≡◌, ◌*◌, ◌≤◌, ◌<◌, true, length, leb};
+ghost use Rattle.std.specs.Prelude.{◌≡◌, ◌*◌, ◌≤◌, ◌<◌, true, length, IfSome};
 ghost use Rattle.tables.specs.Timetable.{timetable};
 ghost use Rattle.tables.specs.Sane.{SlicesOk, CountsOk, RunsOk};
 ghost use Rattle.departures.specs.Departures.{row_at, row_departure, departures_of, run_length};
@@ -25,12 +25,6 @@ fn departure_at(tables: &[u32], c: Counts, rows: &[u32], count: usize, k: usize)
     departures::row_departure(tables, c, departures::departure_row(rows, k))
 }
 
-fn in_order(before: usize, after: usize) -> bool
-    ensures { result ≡ leb before after }
-{
-    before <= after
-}
-
 // Question 6 of a stop's part: is no row earlier than the one before it?
 fn part_order(tables: &[u32], c: Counts, rows: &[u32], count: usize) -> bool
     requires { RowsKnown tables.now c rows.now count }
@@ -40,14 +34,12 @@ fn part_order(tables: &[u32], c: Counts, rows: &[u32], count: usize) -> bool
         return true;
     }
     let mut last = departure_at(tables, c, rows, count, 0);
-    let mut k: usize = 1;
-    while k < count {
+    for k in 1..count {
         let next = departure_at(tables, c, rows, count, k);
-        if !in_order(last, next) {
+        if next < last {
             return false;
         }
         last = next;
-        k += 1;
     }
     true
 }
@@ -73,32 +65,25 @@ pub fn departure_order(tables: &[u32], c: Counts, runs: &[u32], rows: &[u32], d:
     requires { RowsListed tables.now c runs.now rows.now d }
     ensures { result ≡ departure_order (timetable tables.now c) runs.now rows.now c.stops }
 {
-    let n = c.stops;
-    let mut s: usize = 0;
-    while s < n {
-        if !stop_order(tables, c, runs, rows, d, s) {
-            return false;
-        }
-        s += 1;
-    }
-    true
+    (0..c.stops).all(|s| stop_order(tables, c, runs, rows, d, s))
 }
 
-// Questions 4 and 6 of a listed row of stop s: when it leaves, plus 1; 0 where its numbers or its stop are not right.
-fn leaving(tables: &[u32], c: Counts, s: usize, r: DepartureRow) -> usize
+// Questions 4 and 6 of a listed row of stop s: when it leaves; None where its numbers or its stop are not right.
+#[tactic(auto, using(departures::proofs::Parts::row_time, departures::proofs::Yes::row_known))]
+fn leaving(tables: &[u32], c: Counts, s: usize, r: DepartureRow) -> Option<usize>
     requires counts_ok { CountsOk c }
     requires slices_ok { SlicesOk tables.now c }
     requires runs_ok { RunsOk tables.now c }
-    ensures { 0 < result → Leaving tables.now c s r result }
+    ensures { IfSome result (λ b. Leaving tables.now c s r b) }
 {
     if !departures::row_numbers(tables, c, r) {
-        return 0;
+        return None;
     }
     let at = tables::trip(tables, c, r.trip, 0) + r.offset;
     if tables::time(tables, c, at, 0) != s {
-        return 0;
+        return None;
     }
-    tables::time(tables, c, at, 2) + 1
+    Some(tables::time(tables, c, at, 2))
 }
 
 // Of the rows of stop s from `first` on, up to `end`: is each right, and none earlier than the one before it?
@@ -109,15 +94,15 @@ fn run_right(tables: &[u32], c: Counts, rows: &[u32], s: usize, first: usize, en
     requires end_bound { end * 2 ≤ length rows.now }
     ensures { result ≡ true → RunRight tables.now c rows.now s first end }
 {
-    let mut last: usize = 1;
-    let mut k = first;
-    while k < end {
-        let next = leaving(tables, c, s, departures::departure_row(rows, k));
+    let mut last: usize = 0;
+    for k in first..end {
+        let Some(next) = leaving(tables, c, s, departures::departure_row(rows, k)) else {
+            return false;
+        };
         if next < last {
             return false;
         }
         last = next;
-        k += 1;
     }
     true
 }
@@ -130,20 +115,16 @@ pub fn in_turn(tables: &[u32], c: Counts, runs: &[u32], rows: &[u32], d: usize) 
     requires rows_length { length rows.now ≡ d * 2 }
     ensures { result ≡ true → InTurn tables.now c runs.now rows.now d }
 {
-    let n = c.stops;
     let mut end: usize = 0;
-    let mut s: usize = 0;
-    while s < n {
+    for s in 0..c.stops {
         let r = departures::stop_run(runs, s);
-        let first = r.first;
-        if first != end {
+        if r.first != end {
             return false;
         }
         end += r.length;
-        if !run_right(tables, c, rows, s, first, end) {
+        if !run_right(tables, c, rows, s, r.first, end) {
             return false;
         }
-        s += 1;
     }
     end == d
 }

@@ -11,8 +11,8 @@ use Rattle.loops.specs.Count.{tab_from}
 use Rattle.tables.specs.declared.Counts.{Counts}
 use Rattle.tables.specs.Tables.{time_of, trip_of}
 use Rattle.tables.specs.Timetable.{timetable}
-use Rattle.frequency.specs.declared.FreqBoard.{FreqBoard}
-use Rattle.frequency.specs.declared.FreqBoard.TheVariants.{Nothing, Board}
+use Rattle.std.specs.Prelude.{Option, None, Some}
+use Rattle.frequency.specs.declared.BoardedRun.{BoardedRun}
 use Rattle.departures.specs.declared.DepartureRow.{DepartureRow}
 use Rattle.departures.specs.Departures.{row_at, rows_of}
 use Rattle.query_types.specs.declared.Terms.{Terms}
@@ -36,13 +36,13 @@ module _ (T : Tables) (Q : Query) (flagged has_freq : Bool) (round stamp x after
   too_late best d = not has_freq && leb (best + margin_of T Q) (departure T d.trip d.offset)
 
   -- one departure, by the two tests
-  abbrev step_by : Bool → FreqBoard → DepartureRow → List DepartureRow → State → State
+  abbrev step_by : Bool → Option BoardedRun → DepartureRow → List DepartureRow → State → State
   step_by late f d ds s =
       elim late as (λ z. State) [
         | true ↦ s
         | false ↦ elim f as (λ z. State) [
-          | Nothing ↦ scan_departures T Q flagged has_freq round stamp x after ds s
-          | Board b ↦ scan_departures T Q flagged has_freq round stamp x after ds (taken_by T Q flagged round stamp x d (Board b) s)
+          | None ↦ scan_departures T Q flagged has_freq round stamp x after ds s
+          | Some b ↦ scan_departures T Q flagged has_freq round stamp x after ds (taken_by T Q flagged round stamp x d (Some b) s)
         ]
       ]
 
@@ -66,9 +66,9 @@ module _ (T : Tables) (Q : Query) (flagged has_freq : Bool) (round stamp x after
       let f = boarding T Q stamp after (delay_of Q d.trip) d.trip d.offset s in
       go f ∙ sym (scan_cons d ds s ∙ ap (λ (b : Bool). step_by b f d ds s) e)
     where
-      go : (f : FreqBoard) → scan_departures T Q flagged has_freq round stamp x after ds (taken_by T Q flagged round stamp x d f s) ≡ step_by false f d ds s
-      go Nothing = refl
-      go (Board b) = refl
+      go : (f : Option BoardedRun) → scan_departures T Q flagged has_freq round stamp x after ds (taken_by T Q flagged round stamp x d f s) ≡ step_by false f d ds s
+      go None = refl
+      go (Some b) = refl
 
   -- the departures of a list of n rows, from row i on
   abbrev pub scan_from : List ℕ → ℕ → ℕ → State → State

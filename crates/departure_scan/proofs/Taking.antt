@@ -9,11 +9,9 @@ use Rattle.loops.specs.Iter.{Hit}
 use Rattle.stop_delay.specs.Times.{size_of}
 use Rattle.door.specs.Door.{time_limit}
 use Rattle.tables.specs.Timetable.{Timetable}
-use Rattle.delay_rows.specs.declared.Found.{Found}
+use Rattle.std.specs.Prelude.{Option, None, Some}
 use Rattle.delay_rows.specs.Flat.{delay_tables}
 use Rattle.frequency.specs.declared.BoardedRun.{BoardedRun}
-use Rattle.frequency.specs.declared.FreqBoard.{FreqBoard}
-use Rattle.frequency.specs.declared.FreqBoard.TheVariants.{Nothing, Board}
 use Rattle.model.specs.Tables.{Tables, Query}
 use Rattle.model.specs.Search.{Arrivals, State, delay_of, board_at, boarding, board, scan_trip_forward}
 use Rattle.model.proofs.Sizes.{boards_soon}
@@ -47,7 +45,7 @@ module _ {ctx : Context} {sl : Slices} {stamp : ℕ} {w l : List ℕ} {m : List 
       }
 
   -- A LISTED DEPARTURE, by what board_listed says of it
-  module _ (flagged : Bool) (adj : Found) (x after trip off round : ℕ) (r : FreqBoard)
+  module _ (flagged : Bool) (adj : Option ℕ) (x after trip off round : ℕ) (r : Option BoardedRun)
       (told : (T : Tables) (Q : Query) (s : State) → Agree T Q sl.tables ctx.counts.timetable sl.delay_rows sl.stop_rows → Asks Q ctx.net.terms → Agrees T ctx.lay ctx.counts.timetable sl.built w
       → Books ctx.lay stamp T Q w s.boardings → s.arrivals.best ≡ h.best → r ≡ boarding T Q stamp after (hit_of adj) trip off s)
       (row : (Q : Query) (stops : List ℕ) → Q.delays ≡ delay_tables sl.delay_rows stops → hit_of adj ≡ delay_of Q trip) where
@@ -57,15 +55,15 @@ module _ {ctx : Context} {sl : Slices} {stamp : ℕ} {w l : List ℕ} {m : List 
         told T Q s y.nets.agree y.nets.asks (agrees_of G.laid y) e.boardings (ap (λ (a : Arrivals). a.best) e.arrivals)
         ∙ ap (λ (k : Hit). boarding T Q stamp after k trip off s) (row Q sl.stop_rows y.nets.agree.delays)
 
-    taken_as : (f : FreqBoard) → r ≡ f → (T : Tables) (Q : Query) → Rides ctx sl w T Q → (s : State) → Seen ctx.lay stamp T Q (memory w l m h) q s
+    taken_as : (f : Option BoardedRun) → r ≡ f → (T : Tables) (Q : Query) → Rides ctx sl w T Q → (s : State) → Seen ctx.lay stamp T Q (memory w l m h) q s
         → taken_by T Q flagged round stamp x (record { trip = trip; offset = off }) f s ≡ taken T Q flagged round stamp x after (record { trip = trip; offset = off }) s
-    taken_as f i T Q y s e = ap (λ (g : FreqBoard). taken_by T Q flagged round stamp x (record { trip = trip; offset = off }) g s) (sym i ∙ told_seen T Q y s e)
+    taken_as f i T Q y s e = ap (λ (g : Option BoardedRun). taken_by T Q flagged round stamp x (record { trip = trip; offset = off }) g s) (sym i ∙ told_seen T Q y s e)
 
     -- it is not boarded
-    pub taken_none : r ≡ Nothing → Rode ctx.lay stamp (Rides ctx sl w) (λ T Q. taken T Q flagged round stamp x after (record { trip = trip; offset = off })) (memory w l m h) (memory w l m h) q q
-    taken_none i = ride_none (λ T Q. taken T Q flagged round stamp x after (record { trip = trip; offset = off })) (memory w l m h) q G.ready G.chains G.room (taken_as Nothing i)
+    pub taken_none : r ≡ None → Rode ctx.lay stamp (Rides ctx sl w) (λ T Q. taken T Q flagged round stamp x after (record { trip = trip; offset = off })) (memory w l m h) (memory w l m h) q q
+    taken_none i = ride_none (λ T Q. taken T Q flagged round stamp x after (record { trip = trip; offset = off })) (memory w l m h) q G.ready G.chains G.room (taken_as None i)
 
-    module _ (c : BoardedRun) (i : r ≡ Board c) where
+    module _ (c : BoardedRun) (i : r ≡ Some c) where
       -- its shift is small
       pub shift_small : AsBoarded sl.tables ctx.counts.timetable sl.delay_rows sl.stop_rows adj trip off after r → Event sl.tables ctx.counts.timetable trip off → size_of c.time_shift_s ≤ time_limit
       shift_small a v =
@@ -95,4 +93,4 @@ module _ {ctx : Context} {sl : Slices} {stamp : ℕ} {w l : List ℕ} {m : List 
             (record { earlier = λ e o. let u = noted_at ctx.lay stamp sl.built (hit_of adj) trip off c.departure w w1 v e (omega (arith, o)) in omega (arith, u) }) v.chains
             (λ T Q y k p. subst (λ (g : Hit). Books ctx.lay stamp T Q w1 (board T Q round stamp g trip off c.departure k)) (row Q sl.stop_rows y.nets.agree.delays)
             (v.books T Q ctx.counts.timetable (agrees_of G.laid y) (row Q sl.stop_rows y.nets.agree.delays) round k p)) z)
-            (λ T Q y. y) (taken_as (Board c) i)
+            (λ T Q y. y) (taken_as (Some c) i)

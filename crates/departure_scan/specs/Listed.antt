@@ -1,10 +1,7 @@
 -- What deciding on a listed departure reads besides the tables, and a stop's part of the departures in order. Definitions only.
 -- Inner: nobody has to believe this.
-use Rattle.std.specs.Prelude.{ℕ, ◌≤◌, ◌<◌, ◌≡◌, List, length}
+use Rattle.std.specs.Prelude.{ℕ, ◌≤◌, ◌<◌, ◌≡◌, List, length, Option, Some}
 use Rattle.frequency.specs.declared.BoardedRun.{BoardedRun}
-use Rattle.frequency.specs.declared.FreqBoard.{FreqBoard}
-use Rattle.frequency.specs.declared.FreqBoard.TheVariants.{Board}
-use Rattle.delay_rows.specs.declared.Found.{Found}
 use Rattle.tables.specs.declared.Counts.{Counts}
 use Rattle.tables.specs.Timetable.{timetable}
 use Rattle.departures.specs.Departures.{row_at, row_departure}
@@ -29,5 +26,5 @@ pub record RowsOrdered (t : List ℕ) (c : Counts) (rows : List ℕ) (n : ℕ) :
   pub order : (i j : ℕ) → i ≤ j → j < n → row_departure (timetable t c) (row_at rows i) ≤ row_departure (timetable t c) (row_at rows j)
 
 -- how it is boarded, if it is, is how the trip is boarded there (`board_at`), for all tables and queries that agree
-pub record AsBoarded (t : List ℕ) (c : Counts) (rows stop_rows : List ℕ) (adj : Found) (trip off after : ℕ) (r : FreqBoard) : Type 0 where
-  pub at : (b : BoardedRun) → r ≡ Board b → (T : Tables) (Q : Query) → Agree T Q t c rows stop_rows → board_at T Q (hit_of adj) trip off after ≡ Board b
+pub record AsBoarded (t : List ℕ) (c : Counts) (rows stop_rows : List ℕ) (adj : Option ℕ) (trip off after : ℕ) (r : Option BoardedRun) : Type 0 where
+  pub at : (b : BoardedRun) → r ≡ Some b → (T : Tables) (Q : Query) → Agree T Q t c rows stop_rows → board_at T Q (hit_of adj) trip off after ≡ Some b

@@ -25,9 +25,8 @@ ghost use Rattle.ride_step.specs.Laid.{Rides};
 ghost use Rattle.ride_step.specs.Going.{Going, Rode, taken};
 ghost use Rattle.query_types.specs.Slices.{slices};
 
-use delay_rows::Found;
 use departures::DepartureRow;
-use frequency::FreqBoard;
+use frequency::BoardedRun;
 use query_types::{Head, Lay, Phase, QueryCounts, Ride, Scan, StopScan, Terms};
 use tables::Counts;
 
@@ -87,7 +86,7 @@ fn barred_listed(
     terms: Terms,
     lay: Lay,
     stamp: u32,
-    adj: Found,
+    adj: Option<usize>,
     trip: usize,
     off: usize,
     work: &[u32],
@@ -101,18 +100,10 @@ fn barred_listed(
         → Books lay stamp T Q work.now b → result
         ≡ (((not (permitted T Q trip) || pruned T Q (hit_of adj) trip off b) || no_pickup T trip off) || skipped T Q (hit_of adj) trip off) }
 {
-    let fit = trip_boarding::permitted(tables, c, terms, trip);
-    if !fit {
-        return true;
-    }
-    let cut = line_pruning::pruned(lay, stamp, built, adj, trip, off, work);
-    if cut {
-        return true;
-    }
-    if tables::time(tables, c, tables::trip(tables, c, trip, 0) + off, 4) == 1 {
-        return true;
-    }
-    trip_boarding::skipped(tables, c, delay_rows, stop_rows, adj, trip, off)
+    !trip_boarding::permitted(tables, c, terms, trip)
+        || line_pruning::pruned(lay, stamp, built, adj, trip, off, work)
+        || tables::time(tables, c, tables::trip(tables, c, trip, 0) + off, 4) == 1
+        || trip_boarding::skipped(tables, c, delay_rows, stop_rows, adj, trip, off)
 }
 
 // The tests of one listed departure, in the Rust's order: how it is boarded, if it is.
@@ -125,13 +116,13 @@ fn board_listed(
     terms: Terms,
     lay: Lay,
     stamp: u32,
-    adj: Found,
+    adj: Option<usize>,
     trip: usize,
     off: usize,
     after: u32,
     best: u32,
     work: &[u32],
-) -> FreqBoard
+) -> Option<BoardedRun>
     requires on_ground { Ground tables.now c delay_rows.now stop_rows.now }
     requires known { Known delay_rows.now adj }
     requires event { Event tables.now c trip off }
@@ -146,19 +137,15 @@ fn board_listed(
     if barred_listed(
         tables, c, delay_rows, stop_rows, built, terms, lay, stamp, adj, trip, off, work,
     ) {
-        return FreqBoard::Nothing;
+        return None;
     }
-    let found = trip_boarding::board_at(tables, c, delay_rows, stop_rows, adj, trip, off, after);
-    let FreqBoard::Board(b) = found else {
-        return FreqBoard::Nothing;
-    };
-    if best <= b.departure {
-        return FreqBoard::Nothing;
+    let b = trip_boarding::board_at(tables, c, delay_rows, stop_rows, adj, trip, off, after)?;
+    if best <= b.departure
+        || line_pruning::passed_over(lay, stamp, trip, off as u32, b.departure, work)
+    {
+        return None;
     }
-    if line_pruning::passed_over(lay, stamp, trip, off as u32, b.departure, work) {
-        return FreqBoard::Nothing;
-    }
-    FreqBoard::Board(b)
+    Some(b)
 }
 
 // One listed departure of stop x, without the test whether it is too late: boarded not before `after`, if it can be, and scanned.
@@ -194,7 +181,7 @@ fn take_departure(
     let counts = p.context.counts.timetable;
     let lay = p.context.lay;
     let adj = trip_boarding::delay_of(delay_rows, trip);
-    let found = board_listed(
+    let Some(b) = board_listed(
         tables,
         counts,
         delay_rows,
@@ -209,8 +196,7 @@ fn take_departure(
         at.after,
         h.best,
         work,
-    );
-    let FreqBoard::Board(b) = found else {
+    ) else {
         return h;
     };
     line_pruning::note(lay, p.stamp, built, adj, d.trip, off, b.departure, work);
@@ -248,9 +234,7 @@ fn too_late(tables: &[u32], p: Phase, has_freq: bool, d: DepartureRow, best: u32
 {
     let first = tables::trip(tables, p.context.counts.timetable, d.trip, 0);
     let dep = tables::time(tables, p.context.counts.timetable, first + d.offset, 2) as u64;
-    let terms = p.context.net.terms;
-    let late = best as u64 + terms.margin as u64 <= dep;
-    door::both(!has_freq, late)
+    !has_freq && best as u64 + p.context.net.terms.margin as u64 <= dep
 }
 
 // The departures of stop x in `list`, one by one; at a stop without frequency trips until one is too late.
@@ -284,8 +268,7 @@ pub fn scan_departures(
 {
     let m = list.len() / 2;
     let mut g = h;
-    let mut i: usize = 0;
-    while i < m {
+    for i in 0..m {
         let d = departures::departure_row(list, i);
         if too_late(tables, p, at.has_freq, d, g.best) {
             return g;
@@ -309,7 +292,6 @@ pub fn scan_departures(
         if g.full {
             return g;
         }
-        i += 1;
     }
     g
 }

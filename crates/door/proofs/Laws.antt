@@ -1,9 +1,12 @@
 -- Laws of the questions at a door.
-use Prim.Native.Nat.{ℕ, zero, suc}
+use Prim.Native.Nat.{ℕ, zero, suc, ◌<◌}
 use mathlib.Core.Path.{◌≡◌, refl, sym, ap, ◌∙◌}
 use mathlib.Core.Bool.{Bool, true, false, ◌&&◌}
 use native.Mathlib.Omega.{arith}
-use Rattle.door.specs.Door.{ask, refusal, success, answer}
+use Rattle.std.specs.Prelude.{Result, Ok, Err}
+use Rattle.door.specs.declared.Refusal.{Refusal}
+use Rattle.door.specs.declared.Refusal.TheVariants.{Counts, Sizes, Runs, Numbers, Ranges, Order, Room, Queue, Settings, Screen}
+use Rattle.door.specs.Door.{ask, refusal, success, answer, number_of, code_of, answer_of}
 
 -- a no ends the asking, a yes hands it on
 pub ask_no : (n : ℕ) (b : Bool) (later : ℕ) → b ≡ false → n ≡ ask n b later
@@ -69,3 +72,30 @@ refused_is {v} {w} x e h = go v h ∙ ap (λ (n : ℕ). answer n x) e
 
 pub given_is : {v w x y : ℕ} → v ≡ w → v ≡ 0 → y ≡ x → success y ≡ answer w x
 given_is {v} {w} {x} {y} e z f = ap success f ∙ ap (λ (n : ℕ). answer n x) (sym z ∙ e)
+
+-- a refusal's number is not 0
+pub number_above : (q : Refusal) → 0 < number_of q
+number_above Counts = omega arith
+number_above Sizes = omega arith
+number_above Runs = omega arith
+number_above Numbers = omega arith
+number_above Ranges = omega arith
+number_above Order = omega arith
+number_above Room = omega arith
+number_above Queue = omega arith
+number_above Settings = omega arith
+number_above Screen = omega arith
+
+-- an outcome is Ok exactly where its code is 0
+pub code_ok : {A : Type 0} (r : Result A Refusal) → code_of r ≡ 0 → (a : A) × (r ≡ Ok a)
+code_ok (Ok a) h = (a, refl)
+code_ok (Err q) h = absurd (omega (arith, number_above q))
+
+-- an outcome whose code a verdict gave, and whose value is v where all is yes
+pub answer_is : (r : Result ℕ Refusal) (w v : ℕ) → code_of r ≡ w → ((a : ℕ) → r ≡ Ok a → a ≡ v) → answer_of r ≡ answer w v
+answer_is (Ok a) w v e f = ap success (f a refl) ∙ ap (λ n. answer n v) e
+answer_is (Err q) w v e f = go (number_of q) (number_above q) ∙ ap (λ n. answer n v) e
+  where
+    go : (n : ℕ) → 0 < n → refusal n ≡ answer n v
+    go zero h = absurd (omega arith)
+    go (suc n) h = refl

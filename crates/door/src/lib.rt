@@ -8,12 +8,67 @@
 // Assumes nothing.
 #![tactic(auto)]
 
-ghost use Rattle.std.specs.Prelude.{◌≡◌, ◌&&◌, ◌||◌};
-ghost use Rattle.door.specs.Door.{ask, refusal, success};
+ghost use Rattle.std.specs.Prelude.{◌≡◌, MatchResult, true, false};
+ghost use Rattle.door.specs.Door.{ask, refusal, success, number_of, code_of, answer_of};
 ghost use Rattle.door.specs.Settings.{default_settings, settings_ok, ranges_asked};
+
+use std::fmt;
 
 // The largest time, duration, headway or delay size, in seconds.
 pub const TIME_LIMIT: u32 = 1048575;
+
+// Why a call refuses: the first of its questions that is answered no. The questions are asked by their numbers, but that 14 comes after 1 and
+// 15 before all.
+#[derive(Clone, Copy, Debug, PartialEq, Eq)]
+pub enum Refusal {
+    Counts,
+    Sizes,
+    Runs,
+    Numbers,
+    Ranges,
+    Order,
+    Room,
+    Queue,
+    Settings,
+    Screen,
+}
+
+// The question's number, which a caller in C reads.
+impl From<Refusal> for u32 {
+    ghost from_gives = { λ q n. n ≡ number_of q };
+
+    fn from(question: Refusal) -> u32 {
+        match question {
+            Refusal::Counts => 1,
+            Refusal::Sizes => 2,
+            Refusal::Runs => 3,
+            Refusal::Numbers => 4,
+            Refusal::Ranges => 5,
+            Refusal::Order => 6,
+            Refusal::Room => 7,
+            Refusal::Queue => 8,
+            Refusal::Settings => 14,
+            Refusal::Screen => 15,
+        }
+    }
+}
+
+impl fmt::Display for Refusal {
+    fn fmt<W: fmt::Write>(&self, f: &mut fmt::Formatter<W>) -> fmt::Result {
+        f.write_str(match self {
+            Refusal::Counts => "a count is above its limit",
+            Refusal::Sizes => "a lent slice is not as long as its counts say",
+            Refusal::Runs => "a trip has no stop time, or a run lies outside its table",
+            Refusal::Numbers => "a number is not below its count, or a departure not at its stop",
+            Refusal::Ranges => "a time or code is out of its range",
+            Refusal::Order => "rows are not in order",
+            Refusal::Room => "there are more transfers than the area holds",
+            Refusal::Queue => "a round has more segments than the queue holds",
+            Refusal::Settings => "a setting is out of its range",
+            Refusal::Screen => "there is no such screen",
+        })
+    }
+}
 
 // An outcome: code 0 with a value, or the number of the first no with value 0.
 #[repr(C)]
@@ -36,49 +91,74 @@ pub struct Settings {
 }
 
 // The Rust's four numbers.
-pub fn default_settings() -> Settings
-    ensures { result ≡ default_settings }
-{
-    Settings {
-        transfer_time: 120,
-        line_scan: 64,
-        candidate_slack: 3600,
-        margin_cap: 21600,
+impl Default for Settings {
+    fn default() -> Settings
+        ensures { result ≡ default_settings }
+    {
+        Settings {
+            transfer_time: 120,
+            line_scan: 64,
+            candidate_slack: 3600,
+            margin_cap: 21600,
+        }
     }
 }
 
 // Question 14.
+#[tactic(auto, unfolding(crate::specs::Settings::settings_ok))]
 pub fn settings_ok(settings: Settings) -> bool
     ensures { result ≡ settings_ok settings }
 {
-    let tried = both(1 <= settings.line_scan, settings.line_scan <= 4096);
-    let transfers = both(settings.transfer_time <= 3600, tried);
-    let candidates = settings.candidate_slack <= 21600;
-    both(
-        transfers,
-        both(candidates, settings.margin_cap <= TIME_LIMIT),
-    )
+    settings.transfer_time <= 3600
+        && 1 <= settings.line_scan
+        && settings.line_scan <= 4096
+        && settings.candidate_slack <= 21600
+        && settings.margin_cap <= TIME_LIMIT
 }
 
-// Question n, then the later ones, which gave this number.
-fn ask(n: u32, yes: bool, later: u32) -> u32
-    ensures { result ≡ ask n yes later }
+// A question: a no refuses.
+pub fn ask(question: Refusal, yes: bool) -> Result<(), Refusal>
+    ensures { MatchResult result (λ _. yes ≡ true) (λ q. (q ≡ question) × (yes ≡ false)) }
 {
-    if yes { later } else { n }
+    if yes { Ok(()) } else { Err(question) }
 }
 
 // Questions 1 and 14: `counts` says whether all counts are within the limits.
-pub fn limits(counts: bool, settings: Settings) -> u32
-    ensures { result ≡ ask 1 counts (ask 14 (settings_ok settings) 0) }
+pub fn limits(counts: bool, settings: Settings) -> Result<(), Refusal>
+    ensures { code_of result ≡ ask 1 counts (ask 14 (settings_ok settings) 0) }
 {
-    ask(1, counts, ask(14, settings_ok(settings), 0))
+    ask(Refusal::Counts, counts)?;
+    ask(Refusal::Settings, settings_ok(settings))
 }
 
 // Questions 14 and 5, of a call that is handed numbers alone: `ranged` says whether every time and code is in its range.
-pub fn ranges(settings: Settings, ranged: bool) -> u32
-    ensures { result ≡ ranges_asked settings ranged }
+pub fn ranges(settings: Settings, ranged: bool) -> Result<(), Refusal>
+    ensures { code_of result ≡ ranges_asked settings ranged }
 {
-    ask(14, settings_ok(settings), ask(5, ranged, 0))
+    ask(Refusal::Settings, settings_ok(settings))?;
+    ask(Refusal::Ranges, ranged)
+}
+
+// What a caller in C reads of a call that hands back no value: 0, or the question's number.
+pub fn code(outcome: Result<(), Refusal>) -> u32
+    ensures { result ≡ code_of outcome }
+{
+    match outcome {
+        Ok(()) => 0,
+        Err(question) => u32::from(question),
+    }
+}
+
+// What a caller in C reads of a call that hands back one number.
+impl From<Result<u32, Refusal>> for Answer {
+    ghost from_gives = { λ r a. a ≡ answer_of r };
+
+    fn from(outcome: Result<u32, Refusal>) -> Answer {
+        match outcome {
+            Ok(value) => given(value),
+            Err(question) => refused(u32::from(question)),
+        }
+    }
 }
 
 pub fn refused(code: u32) -> Answer
@@ -97,18 +177,4 @@ pub fn given(value: u32) -> Answer
         code: 0,
         value: value,
     }
-}
-
-// Both yes. (A join of two tests in one call keeps a caller's branches apart.)
-pub fn both(a: bool, b: bool) -> bool
-    ensures { result ≡ a && b }
-{
-    if a { b } else { false }
-}
-
-// Either yes.
-pub fn either(a: bool, b: bool) -> bool
-    ensures { result ≡ a || b }
-{
-    if a { true } else { b }
 }

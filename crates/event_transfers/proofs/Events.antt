@@ -8,7 +8,7 @@ use native.Mathlib.Numerals.{add-one}
 use lib.ListN.{length, take, drop, length-append, length-take}
 use lib.Seq.{slice}
 use lib.Dec.{eqb}
-use Rattle.loops.specs.Count.{tab, tab_from, count}
+use Rattle.loops.specs.Count.{tab_from, count}
 use Rattle.loops.proofs.Count.{length_tab_from}
 use Rattle.sorts.proofs.Within.{part_slice}
 use Rattle.tables.specs.declared.Counts.{Counts}
@@ -92,13 +92,7 @@ pub event_is : (time e : ℕ) (l : List ℕ) (n r : ℕ) (a a' v v' : List ℕ) 
 unfolding lay_event
 event_is time e l n r a a' v v' p q = ap (area_walk r a') q ∙ ap (event_noted e (area_walk n a v)) p
 
--- the events of a trip: as they begin, one turn, the end
-pub events_start : (time e count n : ℕ) (f : ℕ → List ℕ) (w : AreaWalk) → count ≡ n → lay_events time e (tab f n) w ≡ lay_events time (e + 0) (tab_from f 0 (count - 0)) w
-events_start time e count n f w h =
-    let i : e ≡ e + 0 = omega arith in
-    let m : n ≡ count - 0 = omega arith in
-    ap₂ (λ (j k : ℕ). lay_events time j (tab_from f 0 k) w) i m
-
+-- the events of a trip: where one stands, one turn, the end
 pub event-at : (t : List ℕ) (c : Counts) (ti off e m n time count : ℕ) → Sane t c → TripAt c ti e m time → count ≡ count_of t c ti → off < count → n ≤ 65537 → EventAt t c ti off (e + off) n time
 event-at t c ti off e m n time count s a k h u =
     record { trip = a.trip; offset = omega arith; event = omega (arith, a.event, a.trip, s.counts.trips, s.counts.times, s.runs.run ti a.trip); few = u; short = a.short }
@@ -147,11 +141,6 @@ total_is time ls r a b v v' e =
     let q : r ≡ min (0 + length (flatten ls)) 65537 = ap (λ (w : AreaWalk). w.n) e ∙ events_n time 0 ls (area_walk 0 b v') (omega arith) in
     omega arith
 
-pub trips_start : (time trips : ℕ) (g : ℕ → List (List ℕ)) (w : AreaWalk) → lay_events time 0 (flatten (tab g trips)) w ≡ lay_events time 0 (flatten (tab_from g 0 (trips - 0))) w
-trips_start time trips g w =
-    let m : trips ≡ trips - 0 = omega arith in
-    ap (λ (k : ℕ). lay_events time 0 (flatten (tab_from g 0 k)) w) m
-
 -- HOW MANY AT MOST: drop-off is 1
 pub most_barred : (p : Prepared) (ti at n : ℕ) → n ≤ 65536 → eqb (time_of p.t at 5) 1 ≡ true → Most n (length (alight_keys p ti at)) n 0
 most_barred p ti at n u e = let z = ap length (barred_keys p ti at e) in record { grows = omega arith; few = omega arith; most = λ v. omega (arith, z) }
@@ -172,12 +161,6 @@ pub most_again : (f : ℕ → List ℕ) (n whole i count m m' : ℕ) → Most n 
     → Most n whole m' (length (flatten (tab_from f (i + 1) (count - (i + 1)))))
 most_again f n whole i count m m' a b h =
     record { grows = omega (arith, a.grows, b.grows); few = b.few; most = λ u. omega (arith, a.most (omega (arith, b.grows)), b.most u, tab_turn f i count h) }
-
-pub most_start : (f : ℕ → List ℕ) (n k count : ℕ) → count ≡ k → n ≤ 131072 → Most n (length (flatten (tab f k))) n (length (flatten (tab_from f 0 (count - 0))))
-most_start f n k count e h =
-    let z : k ≡ count - 0 = omega arith in
-    let q = ap (λ (k : ℕ). length (flatten (tab_from f 0 k))) z in
-    record { grows = omega arith; few = h; most = λ u. omega (arith, q) }
 
 pub most_left : (f : ℕ → List ℕ) (n whole i count m : ℕ) → Most n whole m (length (flatten (tab_from f i (count - i)))) → count ≤ i → Most n whole m 0
 unfolding flatten tab_from

@@ -6,12 +6,13 @@ use mathlib.Core.List.{List, [], ◌∷◌, ◌++◌, append-nil, flatten}
 use mathlib.Core.Logic.{⊎_elim}
 use native.Mathlib.Nat.{eq-or-lt_of_le}
 use native.Mathlib.Omega.{arith}
-use lib.ListN.{length, get_or, set, take, drop, length-append, length-take, length-drop, take-append-drop, drop_of_length-le}
-use lib.Seq.{get_or-set_other, get_or-set_same, get_or-take, get_or-drop, drop-drop}
+use lib.ListN.{length, get_or, take, drop, length-append, length-take, length-drop, take-append-drop, drop_of_length-le}
+use lib.Seq.{get_or-take, get_or-drop, drop-drop}
 use lib.Dec.{leb, eqb}
 use borrow.Author.Tests.{leb-true, leb-false, le-leb, lt-leb, eq-eqb, ne_eqb}
 use Rattle.loops.specs.Count.{one, tab}
 use Rattle.loops.specs.Order.{Halved}
+use Rattle.loops.proofs.Search.{split}
 use Rattle.sorts.specs.Sort.{hi}
 use Rattle.sorts.specs.Orders.{keep}
 use Rattle.departures.specs.Packed.{un_trip}
@@ -78,21 +79,7 @@ stretch_more v i left e s = record { some = omega arith; same = same; next = nex
         let z : i + 1 + left ≡ i + (left + 1) = omega arith in
         s.next (omega arith) (ap (λ (k : ℕ). line_x (get_or v k 0)) z ∙ q ∙ e)
 
--- from the last number to the first: the number before the i-th
-pub stretch_next : (v : List ℕ) (i left : ℕ) → 0 < i → (i < length v → Stretch v i left) → i - 1 + 1 < length v → Stretch v (i - 1 + 1) left
-stretch_next v i left h s u = let z : i - 1 + 1 ≡ i = omega arith in rw z (s (omega arith))
-
-pub lines_set : (v ends : List ℕ) (i left : ℕ) → 0 < i → i ≤ length ends → Stretch v (i - 1) left → ((j : ℕ) → i ≤ j → j < length v → Stretch v j (get_or ends j 0))
-    → (j : ℕ) → i - 1 ≤ j → j < length v → Stretch v j (get_or (set ends (i - 1) left) j 0)
-lines_set v ends i left h u s r j a b = ⊎_elim first later (eq-or-lt_of_le a)
-  where
-    first : i - 1 ≡ j → Stretch v j (get_or (set ends (i - 1) left) j 0)
-    first e = rw (sym e) (rw (get_or-set_same ends (i - 1) left 0 (omega arith)) s)
-
-    later : i - 1 < j → Stretch v j (get_or (set ends (i - 1) left) j 0)
-    later l = rw (get_or-set_other ends (i - 1) j left 0 (λ e. omega arith)) (r j (omega arith) b)
-
--- a part's
+-- how many, beside each number of a part
 pub lines_part : (v ends : List ℕ) (a n : ℕ) → LineEnds v ends → a + n ≤ length v → LineEnds (take n (drop a v)) (take n (drop a ends))
 lines_part v ends a n h u = record { size = omega (arith, size v, size ends, h.size); at = part }
   where
@@ -124,7 +111,7 @@ module _ (run : List ℕ) (k e : ℕ) (h : Keys run) (s : Stretch run k e) (u : 
       let z : k ≡ k + 0 = omega arith in
       ap line_x (get_or-drop k run i 0) ∙ s.same i (omega arith) (omega arith) ∙ ap (λ (m : ℕ). line_x (get_or run m 0)) z ∙ ap line_x (sym (get_or-drop k run 0 0))
 
-  pub ends_run : length run - k ≤ e → LineEnd (drop k run) (length run - k)
+  ends_run : length run - k ≤ e → LineEnd (drop k run) (length run - k)
   ends_run l =
       record {
         some = omega arith;
@@ -133,7 +120,7 @@ module _ (run : List ℕ) (k e : ℕ) (h : Keys run) (s : Stretch run k e) (u : 
         later = λ i p q. absurd (omega (arith, length-drop k run));
       }
 
-  pub ends_before : e < length run - k → LineEnd (drop k run) e
+  ends_before : e < length run - k → LineEnd (drop k run) e
   ends_before l =
       record {
         some = s.some;
@@ -152,6 +139,13 @@ module _ (run : List ℕ) (k e : ℕ) (h : Keys run) (s : Stretch run k e) (u : 
       past =
           ⊎_elim (λ (q : line_x (get_or run k 0) ≡ line_x (get_or run (k + e) 0)). absurd (s.next (omega arith) (sym q))) (λ (q : line_x (get_or run k 0) < line_x (get_or run (k + e) 0)). q)
           (eq-or-lt_of_le (line_le (get_or run k 0) (get_or run (k + e) 0) (h.rising.rising k (k + e) (omega arith) (omega arith))))
+
+  pub ends_min : (r : ℕ) → r ≡ min e (length run - k) → LineEnd (drop k run) r
+  ends_min r q =
+      ⊎_elim
+      (λ (l : e < length run - k). let z : r ≡ e = omega arith in rw z (ends_before l))
+      (λ (l : length run - k ≤ e). let z : r ≡ length run - k = omega arith in rw z (ends_run l))
+      (split e (length run - k))
 
 -- one line's departures
 pub group_none : (g : List ℕ) (ti w line p : ℕ) → line ≡ line_x (get_or g 0 0) → Group g → Halved (λ i. leb (line * 1048576 + w) (hi (get_or g i 0))) (length g) p p → length g ≤ p → to_group g ti w ≡ []

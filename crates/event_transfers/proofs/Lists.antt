@@ -140,26 +140,7 @@ leb_not a b = go (ltb a b) refl
     go true e = lt-leb b a (ltb-true a b e)
     go false e = le-leb b a (ltb-false a b e)
 
--- below or not, as a quotient
-pub below_is : (x key : ℕ) → x < 4294967296 → key ≤ 8589934592 → (1099511627775 + key - x) / 1099511627776 ≡ one (ltb x key)
-below_is x key h k = go (ltb x key) refl
-  where
-    go : (t : Bool) → ltb x key ≡ t → (1099511627775 + key - x) / 1099511627776 ≡ one t
-    go true e = let u = ltb-true x key e in omega arith
-    go false e = let u = ltb-false x key e in omega arith
-
-pub quotient_most : (x key : ℕ) → key ≤ 8589934592 → (1099511627775 + key - x) / 1099511627776 ≤ 1
-quotient_most x key k = omega arith
-
-pub at_most_once : (h d : ℕ) → d ≤ 1 → h * d ≤ h
-at_most_once h zero u = omega arith
-at_most_once h (suc zero) u = omega arith
-at_most_once h (suc (suc d)) u = absurd (omega arith)
-
--- all of them to begin with; none passes where the last does not
-pub halved_from : (f : ℕ → Bool) (n : ℕ) → Halved f n 0 (0 + n)
-halved_from f n = let z : 0 + n ≡ n = omega arith in rw z (halved_start f n)
-
+-- none passes where the last does not
 pub halved_none : (f : ℕ → Bool) (n : ℕ) → Stays f n → 0 < n → f (n - 1) ≡ false → Halved f n n n
 halved_none f n s u e =
     let q = halved_up f n 0 n (n - 1) s (halved_start f n) e (omega arith) in

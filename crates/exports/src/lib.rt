@@ -7,7 +7,7 @@
 // Place: the library's own crate.
 // Proves: each call's whole outcome is its crate's definition of it, for a screen of 0 to 63; the tally at exit, on every input.
 // Assumes nothing.
-#![tactic(auto)]
+#![tactic(auto, using(crate::proofs::Refused::gate))]
 
 ghost use Rattle.std.specs.Prelude.{◌≡◌};
 ghost use Rattle.tally.specs.Screen.{for_screen, tally_after};
@@ -97,12 +97,12 @@ pub extern "C" fn savoiky_cell_bitset_new(
     ensures counts { tally.new ≡ tally_after tally.old screen result.code }
 {
     if LAST_SCREEN < screen {
-        return CellSetAnswer {
-            code: 15,
-            set: CellBitSet::new(0),
-        };
+        return cell_set_call::answered(Err(door::Refusal::Screen), CellBitSet::new(0));
     }
-    let made = cell_set_call::create(settings, num_cells);
+    let made = cell_set_call::answered(
+        cell_set_call::create(settings, num_cells),
+        CellBitSet::new(0),
+    );
     tally::count_call(tally, screen, made.code);
     made
 }
@@ -121,9 +121,9 @@ pub extern "C" fn savoiky_cell_bitset_ensure_sized(
     ensures counts { tally.new ≡ tally_after tally.old screen result.code }
 {
     if LAST_SCREEN < screen {
-        return CellSetAnswer { code: 15, set: set };
+        return cell_set_call::answered(Err(door::Refusal::Screen), set);
     }
-    let sized = cell_set_call::resize(settings, set, num_cells);
+    let sized = cell_set_call::answered(cell_set_call::resize(settings, set, num_cells), set);
     tally::count_call(tally, screen, sized.code);
     sized
 }
@@ -141,9 +141,9 @@ pub extern "C" fn savoiky_cell_bitset_set_bit(
     ensures counts { tally.new ≡ tally_after tally.old screen result.code }
 {
     if LAST_SCREEN < screen {
-        return CellSetAnswer { code: 15, set: set };
+        return cell_set_call::answered(Err(door::Refusal::Screen), set);
     }
-    let changed = cell_set_call::set_bit(settings, set, cell);
+    let changed = cell_set_call::answered(cell_set_call::set_bit(settings, set, cell), set);
     tally::count_call(tally, screen, changed.code);
     changed
 }
@@ -161,9 +161,9 @@ pub extern "C" fn savoiky_cell_bitset_get_bit(
     ensures counts { tally.new ≡ tally_after tally.old screen result.code }
 {
     if LAST_SCREEN < screen {
-        return door::refused(15);
+        return Answer::from(Err(door::Refusal::Screen));
     }
-    let held = cell_set_call::get_bit(settings, set, cell);
+    let held = Answer::from(cell_set_call::get_bit(settings, set, cell));
     tally::count_call(tally, screen, held.code);
     held
 }
@@ -181,9 +181,9 @@ pub extern "C" fn savoiky_cell_bitset_intersects(
     ensures counts { tally.new ≡ tally_after tally.old screen result.code }
 {
     if LAST_SCREEN < screen {
-        return door::refused(15);
+        return Answer::from(Err(door::Refusal::Screen));
     }
-    let met = cell_set_call::intersects(settings, set, other);
+    let met = Answer::from(cell_set_call::intersects(settings, set, other));
     tally::count_call(tally, screen, met.code);
     met
 }
@@ -201,9 +201,9 @@ pub extern "C" fn savoiky_cell_bitset_union_with(
     ensures counts { tally.new ≡ tally_after tally.old screen result.code }
 {
     if LAST_SCREEN < screen {
-        return CellSetAnswer { code: 15, set: set };
+        return cell_set_call::answered(Err(door::Refusal::Screen), set);
     }
-    let united = cell_set_call::union_with(settings, set, other);
+    let united = cell_set_call::answered(cell_set_call::union_with(settings, set, other), set);
     tally::count_call(tally, screen, united.code);
     united
 }
@@ -220,9 +220,9 @@ pub extern "C" fn savoiky_cell_bitset_is_empty(
     ensures counts { tally.new ≡ tally_after tally.old screen result.code }
 {
     if LAST_SCREEN < screen {
-        return door::refused(15);
+        return Answer::from(Err(door::Refusal::Screen));
     }
-    let empty = cell_set_call::is_empty(settings, set);
+    let empty = Answer::from(cell_set_call::is_empty(settings, set));
     tally::count_call(tally, screen, empty.code);
     empty
 }
@@ -244,9 +244,14 @@ pub extern "C" fn savoiky_walk_duration(
     ensures counts { tally.new ≡ tally_after tally.old screen result.code }
 {
     if LAST_SCREEN < screen {
-        return door::refused(15);
+        return Answer::from(Err(door::Refusal::Screen));
     }
-    let walk = leaf_calls::walk_duration(settings, duration, pathway_mode, wheelchair);
+    let walk = Answer::from(leaf_calls::walk_duration(
+        settings,
+        duration,
+        pathway_mode,
+        wheelchair,
+    ));
     tally::count_call(tally, screen, walk.code);
     walk
 }
@@ -264,9 +269,9 @@ pub extern "C" fn savoiky_max_rounds(
     ensures counts { tally.new ≡ tally_after tally.old screen result.code }
 {
     if LAST_SCREEN < screen {
-        return door::refused(15);
+        return Answer::from(Err(door::Refusal::Screen));
     }
-    let rounds = leaf_calls::max_rounds(settings, wanted, transfers);
+    let rounds = Answer::from(leaf_calls::max_rounds(settings, wanted, transfers));
     tally::count_call(tally, screen, rounds.code);
     rounds
 }
@@ -292,9 +297,11 @@ pub extern "C" fn savoiky_freq_board(
     ensures counts { tally.new ≡ tally_after tally.old screen result.code }
 {
     if LAST_SCREEN < screen {
-        return frequency_call::no_board(15);
+        return FreqAnswer::from(Err(door::Refusal::Screen));
     }
-    let board = frequency_call::freq_board(settings, count, windows, base, dep, after);
+    let board = FreqAnswer::from(frequency_call::freq_board(
+        settings, count, windows, base, dep, after,
+    ));
     tally::count_call(tally, screen, board.code);
     board
 }
@@ -316,15 +323,15 @@ pub extern "C" fn savoiky_effective_departure(
     ensures counts { tally.new ≡ tally_after tally.old screen result.code }
 {
     if LAST_SCREEN < screen {
-        return door::refused(15);
+        return Answer::from(Err(door::Refusal::Screen));
     }
-    let departs = leaf_calls::effective_departure(
+    let departs = Answer::from(leaf_calls::effective_departure(
         settings,
         departure,
         trip_delay,
         flags,
         departure_delay,
-    );
+    ));
     tally::count_call(tally, screen, departs.code);
     departs
 }
@@ -347,16 +354,16 @@ pub extern "C" fn savoiky_effective_arrival(
     ensures counts { tally.new ≡ tally_after tally.old screen result.code }
 {
     if LAST_SCREEN < screen {
-        return door::refused(15);
+        return Answer::from(Err(door::Refusal::Screen));
     }
-    let arrives = leaf_calls::effective_arrival(
+    let arrives = Answer::from(leaf_calls::effective_arrival(
         settings,
         arrival,
         time_shift_s,
         trip_delay,
         flags,
         arrival_delay,
-    );
+    ));
     tally::count_call(tally, screen, arrives.code);
     arrives
 }
@@ -373,9 +380,9 @@ pub extern "C" fn savoiky_skipped(
     ensures counts { tally.new ≡ tally_after tally.old screen result.code }
 {
     if LAST_SCREEN < screen {
-        return door::refused(15);
+        return Answer::from(Err(door::Refusal::Screen));
     }
-    let skips = leaf_calls::skipped(settings, flags);
+    let skips = Answer::from(leaf_calls::skipped(settings, flags));
     tally::count_call(tally, screen, skips.code);
     skips
 }
@@ -399,16 +406,16 @@ pub extern "C" fn savoiky_margin(
     ensures counts { tally.new ≡ tally_after tally.old screen result.code }
 {
     if LAST_SCREEN < screen {
-        return door::refused(15);
+        return Answer::from(Err(door::Refusal::Screen));
     }
-    let margin = delay_call::margin(
+    let margin = Answer::from(delay_call::margin(
         settings,
         trips,
         delay_row_count,
         stop_row_count,
         delay_rows,
         stop_rows,
-    );
+    ));
     tally::count_call(tally, screen, margin.code);
     margin
 }
@@ -434,16 +441,9 @@ pub extern "C" fn savoiky_delay_at(
     ensures counts { tally.new ≡ tally_after tally.old screen result.code }
 {
     if LAST_SCREEN < screen {
-        return DelayAt {
-            code: 15,
-            known: 0,
-            trip_delay: 0,
-            flags: 0,
-            departure_delay: 0,
-            arrival_delay: 0,
-        };
+        return DelayAt::from(Err(door::Refusal::Screen));
     }
-    let delay = delay_call::delay_at(
+    let delay = DelayAt::from(delay_call::delay_at(
         settings,
         trips,
         delay_row_count,
@@ -452,7 +452,7 @@ pub extern "C" fn savoiky_delay_at(
         stop_rows,
         trip,
         sequence,
-    );
+    ));
     tally::count_call(tally, screen, delay.code);
     delay
 }
@@ -472,9 +472,9 @@ pub extern "C" fn savoiky_service_second(
     ensures counts { tally.new ≡ tally_after tally.old screen result.code }
 {
     if LAST_SCREEN < screen {
-        return door::refused(15);
+        return Answer::from(Err(door::Refusal::Screen));
     }
-    let reading = leaf_calls::service_second(settings, hour, minute, second);
+    let reading = Answer::from(leaf_calls::service_second(settings, hour, minute, second));
     tally::count_call(tally, screen, reading.code);
     reading
 }
@@ -518,9 +518,9 @@ pub extern "C" fn savoiky_label_store_access(
     ensures counts { tally.new ≡ tally_after tally.old screen result }
 {
     if LAST_SCREEN < screen {
-        return 15;
+        return door::code(Err(door::Refusal::Screen));
     }
-    let code = label_call::store_access(
+    let code = door::code(label_call::store_access(
         settings,
         stops,
         stop,
@@ -531,7 +531,7 @@ pub extern "C" fn savoiky_label_store_access(
         walk_distance,
         labels,
         label_distances,
-    );
+    ));
     tally::count_call(tally, screen, code);
     code
 }
@@ -563,9 +563,9 @@ pub extern "C" fn savoiky_label_store_transit(
     ensures counts { tally.new ≡ tally_after tally.old screen result }
 {
     if LAST_SCREEN < screen {
-        return 15;
+        return door::code(Err(door::Refusal::Screen));
     }
-    let code = label_call::store_transit(
+    let code = door::code(label_call::store_transit(
         settings,
         stops,
         stop,
@@ -579,7 +579,7 @@ pub extern "C" fn savoiky_label_store_transit(
         time_shift_s,
         labels,
         label_distances,
-    );
+    ));
     tally::count_call(tally, screen, code);
     code
 }
@@ -610,9 +610,9 @@ pub extern "C" fn savoiky_label_store_walk(
     ensures counts { tally.new ≡ tally_after tally.old screen result }
 {
     if LAST_SCREEN < screen {
-        return 15;
+        return door::code(Err(door::Refusal::Screen));
     }
-    let code = label_call::store_walk(
+    let code = door::code(label_call::store_walk(
         settings,
         stops,
         stop,
@@ -625,7 +625,7 @@ pub extern "C" fn savoiky_label_store_walk(
         prev_round,
         labels,
         label_distances,
-    );
+    ));
     tally::count_call(tally, screen, code);
     code
 }
@@ -647,9 +647,16 @@ pub extern "C" fn savoiky_label_load(
     ensures counts { tally.new ≡ tally_after tally.old screen result.code }
 {
     if LAST_SCREEN < screen {
-        return label_call::refused_label(15);
+        return LabelAnswer::from(Err(door::Refusal::Screen));
     }
-    let label = label_call::load(settings, stops, stop, row, labels, label_distances);
+    let label = LabelAnswer::from(label_call::load(
+        settings,
+        stops,
+        stop,
+        row,
+        labels,
+        label_distances,
+    ));
     tally::count_call(tally, screen, label.code);
     label
 }
@@ -695,12 +702,12 @@ pub extern "C" fn savoiky_sort_stop_departures(
     ensures counts { tally.new ≡ tally_after tally.old screen result }
 {
     if LAST_SCREEN < screen {
-        return 15;
+        return door::code(Err(door::Refusal::Screen));
     }
-    let code = sized_calls::sort_stop_departures(
+    let code = door::code(sized_calls::sort_stop_departures(
         settings, stops, trips, times, windows, edges, departures, tables, runs, rows, marks, work,
         other,
-    );
+    ));
     tally::count_call(tally, screen, code);
     code
 }
@@ -734,11 +741,11 @@ pub extern "C" fn savoiky_compute_line_groups(
     ensures counts { tally.new ≡ tally_after tally.old screen result.code }
 {
     if LAST_SCREEN < screen {
-        return door::refused(15);
+        return Answer::from(Err(door::Refusal::Screen));
     }
-    let grouped = sized_calls::compute_line_groups(
+    let grouped = Answer::from(sized_calls::compute_line_groups(
         settings, stops, trips, times, windows, edges, tables, lines, runs, entries, work, other,
-    );
+    ));
     tally::count_call(tally, screen, grouped.code);
     grouped
 }
@@ -772,9 +779,9 @@ pub extern "C" fn savoiky_line_layout(
     ensures counts { tally.new ≡ tally_after tally.old screen result }
 {
     if LAST_SCREEN < screen {
-        return 15;
+        return door::code(Err(door::Refusal::Screen));
     }
-    let code = sized_calls::line_layout(
+    let code = door::code(sized_calls::line_layout(
         settings,
         stops,
         trips,
@@ -788,7 +795,7 @@ pub extern "C" fn savoiky_line_layout(
         entries,
         positions,
         fifo,
-    );
+    ));
     tally::count_call(tally, screen, code);
     code
 }
@@ -825,9 +832,9 @@ pub extern "C" fn savoiky_compute_trip_transfers(
     ensures counts { tally.new ≡ tally_after tally.old screen result.code }
 {
     if LAST_SCREEN < screen {
-        return door::refused(15);
+        return Answer::from(Err(door::Refusal::Screen));
     }
-    let built = sized_calls::compute_trip_transfers(
+    let built = Answer::from(sized_calls::compute_trip_transfers(
         settings,
         stops,
         trips,
@@ -842,7 +849,7 @@ pub extern "C" fn savoiky_compute_trip_transfers(
         rows,
         area,
         transfer_runs,
-    );
+    ));
     tally::count_call(tally, screen, built.code);
     built
 }
@@ -859,9 +866,9 @@ pub extern "C" fn savoiky_work_size(
     ensures counts { tally.new ≡ tally_after tally.old screen result.code }
 {
     if LAST_SCREEN < screen {
-        return door::refused(15);
+        return Answer::from(Err(door::Refusal::Screen));
     }
-    let size = sized_calls::work_size(settings, sizes);
+    let size = Answer::from(sized_calls::work_size(settings, sizes));
     tally::count_call(tally, screen, size.code);
     size
 }
@@ -924,7 +931,7 @@ pub extern "C" fn savoiky_run_tbr(
 {
     if LAST_SCREEN < screen {
         return Reply {
-            code: 15,
+            code: u32::from(door::Refusal::Screen),
             total: 0,
             stop: 0,
             candidates: 0,
@@ -987,7 +994,7 @@ pub extern "C" fn savoiky_query(
 {
     if LAST_SCREEN < screen {
         return Reply {
-            code: 15,
+            code: u32::from(door::Refusal::Screen),
             total: 0,
             stop: 0,
             candidates: 0,

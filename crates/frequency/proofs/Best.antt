@@ -12,41 +12,40 @@ use Rattle.signed.specs.Signed.{bits_of}
 use Rattle.frequency.specs.declared.Headways.{Headways}
 use Rattle.frequency.specs.declared.Run.{Run}
 use Rattle.frequency.specs.declared.BoardedRun.{BoardedRun}
-use Rattle.frequency.specs.declared.FreqBoard.{FreqBoard}
-use Rattle.frequency.specs.declared.FreqBoard.TheVariants.{Nothing, Board}
+use Rattle.std.specs.Prelude.{Option, None, Some}
 use Rattle.frequency.specs.Gtfs.{Window, run_start, first_run, boarding_of, board_run, board_hit, earlier_of, board_next, earliest_freq_board, Nominal}
 use Rattle.frequency.specs.Found.{no_run, run_of, window_run, earlier_run, headways_by, Remains, board_of, Drawn}
 use Rattle.frequency.proofs.Runs.{found_says, wait_is, headways_are, remains}
 
-pub earlier_none : (x : FreqBoard) → x ≡ earlier_of x Nothing
-earlier_none Nothing = refl
-earlier_none (Board a) = refl
+pub earlier_none : (x : Option BoardedRun) → x ≡ earlier_of x None
+earlier_none None = refl
+earlier_none (Some a) = refl
 
 -- what both of two boardings have, the earlier one has
-pub earlier_keeps : (P : FreqBoard → Type 0) (x y : FreqBoard) → P x → P y → P (earlier_of x y)
-earlier_keeps P Nothing y p q = q
-earlier_keeps P (Board a) Nothing p q = p
-earlier_keeps P (Board a) (Board b) p q = go (leb a.departure b.departure)
+pub earlier_keeps : (P : Option BoardedRun → Type 0) (x y : Option BoardedRun) → P x → P y → P (earlier_of x y)
+earlier_keeps P None y p q = q
+earlier_keeps P (Some a) None p q = p
+earlier_keeps P (Some a) (Some b) p q = go (leb a.departure b.departure)
   where
-    go : (t : Bool) → P (cond t (Board a) (Board b))
+    go : (t : Bool) → P (cond t (Some a) (Some b))
     go true = p
     go false = q
 
-pub earlier_old : (a b : BoardedRun) → a.departure ≤ b.departure → Board a ≡ earlier_of (Board a) (Board b)
-earlier_old a b l = sym (ap (λ (t : Bool). cond t (Board a) (Board b)) (le-leb a.departure b.departure l))
+pub earlier_old : (a b : BoardedRun) → a.departure ≤ b.departure → Some a ≡ earlier_of (Some a) (Some b)
+earlier_old a b l = sym (ap (λ (t : Bool). cond t (Some a) (Some b)) (le-leb a.departure b.departure l))
 
-pub earlier_next : (a b : BoardedRun) → b.departure < a.departure → Board b ≡ earlier_of (Board a) (Board b)
-earlier_next a b l = sym (ap (λ (t : Bool). cond t (Board a) (Board b)) (lt-leb a.departure b.departure l))
+pub earlier_next : (a b : BoardedRun) → b.departure < a.departure → Some b ≡ earlier_of (Some a) (Some b)
+earlier_next a b l = sym (ap (λ (t : Bool). cond t (Some a) (Some b)) (lt-leb a.departure b.departure l))
 
 module _ (window : ℕ → Window) (base dep after : ℕ) where
-  abbrev boarding : Run → FreqBoard
-  boarding r = Board (board_run (window r.window) r.window base dep after r.run)
+  abbrev boarding : Run → Option BoardedRun
+  boarding r = Some (board_run (window r.window) r.window base dep after r.run)
 
   pub board_some : (r : Run) → r.start < 4294967295 → board_of window r base dep after ≡ boarding r
-  board_some r l = ap (λ (b : Bool). cond b (boarding r) Nothing) (lt-ltb r.start 4294967295 l)
+  board_some r l = ap (λ (b : Bool). cond b (boarding r) None) (lt-ltb r.start 4294967295 l)
 
-  pub board_none : (r : Run) → 4294967295 ≤ r.start → board_of window r base dep after ≡ Nothing
-  board_none r l = ap (λ (b : Bool). cond b (boarding r) Nothing) (le-ltb r.start 4294967295 l)
+  pub board_none : (r : Run) → 4294967295 ≤ r.start → board_of window r base dep after ≡ None
+  board_none r l = ap (λ (b : Bool). cond b (boarding r) None) (le-ltb r.start 4294967295 l)
 
 -- before the first window no run is found
 pub none_yet : (n : ℕ) (window : ℕ → Window) (base dep after : ℕ) (r : Run) → r ≡ no_run
@@ -66,7 +65,7 @@ module _ (n : ℕ) (window : ℕ → Window) (base dep after : ℕ) (nominal : N
   abbrev next : Run
   next = window_run w i base dep after
 
-  abbrev turn : FreqBoard → FreqBoard
+  abbrev turn : Option BoardedRun → Option BoardedRun
   turn = board_next window base dep after i
 
   -- a run that a search found starts before the largest time
@@ -81,7 +80,7 @@ module _ (n : ℕ) (window : ℕ → Window) (base dep after : ℕ) (nominal : N
       go miss e = record { among = λ l. absurd (omega arith); found = λ l. absurd (omega arith); starts = λ l. absurd (omega arith) }
 
   module _ (best : Run) (f : Drawn n window base dep after best) where
-    abbrev board : FreqBoard
+    abbrev board : Option BoardedRun
     board = board_of window best base dep after
 
     -- an earlier run takes the place of the best so far
@@ -91,10 +90,10 @@ module _ (n : ℕ) (window : ℕ → Window) (base dep after : ℕ) (nominal : N
         go : (x : Hit) → first_run w base dep after ≡ x → (run_of w i x).start < best.start → board_of window (run_of w i x) base dep after ≡ earlier_of board (board_hit w i base dep after x)
         go (hit k) e l = board_some window base dep after (run_of w i (hit k)) (omega (arith, early k e)) ∙ by (ltb best.start 4294967295) refl
           where
-            by : (b : Bool) → ltb best.start 4294967295 ≡ b → Board (board_run w i base dep after k) ≡ earlier_of (cond b (boarding window base dep after best) Nothing) (Board (board_run w i base dep after k))
+            by : (b : Bool) → ltb best.start 4294967295 ≡ b → Some (board_run w i base dep after k) ≡ earlier_of (cond b (boarding window base dep after best) None) (Some (board_run w i base dep after k))
             by true q = earlier_next _ _ (omega (arith, (found_says w base dep after k e).wanted, f.starts (ltb-true best.start 4294967295 q)))
             by false q = refl
-        go miss e l = ap (λ (x : FreqBoard). earlier_of x Nothing) (sym (board_none window base dep after best (omega arith)))
+        go miss e l = ap (λ (x : Option BoardedRun). earlier_of x None) (sym (board_none window base dep after best (omega arith)))
 
     -- one that is not earlier leaves it
     turn_old : best.start ≤ next.start → board ≡ turn board
@@ -103,7 +102,7 @@ module _ (n : ℕ) (window : ℕ → Window) (base dep after : ℕ) (nominal : N
         go : (x : Hit) → first_run w base dep after ≡ x → best.start ≤ (run_of w i x).start → board ≡ earlier_of board (board_hit w i base dep after x)
         go (hit k) e l =
             let s = board_some window base dep after best (omega (arith, early k e)) in
-            s ∙ earlier_old _ (board_run w i base dep after k) (omega (arith, f.starts (omega (arith, early k e)))) ∙ ap (λ (x : FreqBoard). earlier_of x (Board (board_run w i base dep after k))) (sym s)
+            s ∙ earlier_old _ (board_run w i base dep after k) (omega (arith, f.starts (omega (arith, early k e)))) ∙ ap (λ (x : Option BoardedRun). earlier_of x (Some (board_run w i base dep after k))) (sym s)
         go miss e l = earlier_none board
 
     turned : board_of window (earlier_run best next) base dep after ≡ turn board
@@ -121,7 +120,7 @@ module _ (n : ℕ) (window : ℕ → Window) (base dep after : ℕ) (nominal : N
         go false = f
 
     -- one turn of the loop, from the best run so far to the new one
-    pub again : (r best' : Run) (whole : FreqBoard) → r ≡ next → best' ≡ earlier_run best r → whole ≡ range (board_next window base dep after) i n board
+    pub again : (r best' : Run) (whole : Option BoardedRun) → r ≡ next → best' ≡ earlier_run best r → whole ≡ range (board_next window base dep after) i n board
         → (whole ≡ range (board_next window base dep after) (i + 1) n (board_of window best' base dep after)) × Drawn n window base dep after best'
     again r best' whole e b inv =
         let q : best' ≡ earlier_run best next = b ∙ ap (earlier_run best) e in
@@ -142,10 +141,10 @@ module _ (n : ℕ) (window : ℕ → Window) (base dep after : ℕ) (r : Run) (d
   waits_so = rw (d.starts l) (remains v base dep after r.window r.run (d.found l))
 
   pub told : (h : Headways) → h ≡ headways_by r.window r.run v.headway (ltb (v.start + dep) (after + base)) (r.start + dep - base - after)
-      → Board (boarding_of (r.start + dep - base) (bits_of (sub_ℕ r.start base)) h (r.start + dep - base - after)) ≡ board_of window r base dep after
+      → Some (boarding_of (r.start + dep - base) (bits_of (sub_ℕ r.start base)) h (r.start + dep - base - after)) ≡ board_of window r base dep after
   told h e =
-      ap (λ (t : ℕ). Board (boarding_of (t + dep - base) (bits_of (sub_ℕ t base)) h (t + dep - base - after))) (d.starts l)
-      ∙ ap₂ (λ (x : Headways) (y : ℕ). Board (boarding_of (run_start v r.run + dep - base) (bits_of (sub_ℕ (run_start v r.run) base)) x y))
+      ap (λ (t : ℕ). Some (boarding_of (t + dep - base) (bits_of (sub_ℕ t base)) h (t + dep - base - after))) (d.starts l)
+      ∙ ap₂ (λ (x : Headways) (y : ℕ). Some (boarding_of (run_start v r.run + dep - base) (bits_of (sub_ℕ (run_start v r.run) base)) x y))
       (e ∙ ap (λ (t : ℕ). headways_by r.window r.run v.headway (ltb (v.start + dep) (after + base)) (t + dep - base - after)) (d.starts l)
       ∙ headways_are v base dep after r.window r.run (d.found l))
       (sym (wait_is v base dep after r.run (d.found l)))

@@ -1,4 +1,4 @@
--- `earliest_freq_board` is the earliest boarding, in the first window of equals; Nothing only where no run can be boarded.
+-- `earliest_freq_board` is the earliest boarding, in the first window of equals; None only where no run can be boarded.
 -- What follows for the size of its numbers.
 use Prim.Native.Nat.{ℕ, suc, ◌+◌, ◌-◌, ◌<◌, ◌≤◌}
 use mathlib.Core.Path.{◌≡◌, refl, ap, ap₂, sym, ◌∙◌, subst}
@@ -15,8 +15,7 @@ use Rattle.loops.specs.Iter.{Hit, hit, miss}
 use Rattle.loops.proofs.Iter.{and_left, and_right, first_found, first_none, first_before, iter_keeps}
 use Rattle.loops.proofs.Search.{clash, split}
 use Rattle.frequency.specs.declared.BoardedRun.{BoardedRun}
-use Rattle.frequency.specs.declared.FreqBoard.{FreqBoard}
-use Rattle.frequency.specs.declared.FreqBoard.TheVariants.{Nothing, Board}
+use Rattle.std.specs.Prelude.{Option, None, Some}
 use Rattle.frequency.specs.Gtfs.{Window, run_start, is_run, leaves_not_before, is_boardable, first_run, board_run, board_hit, earlier_of, board_next, earliest_freq_board, Nominal}
 use Rattle.frequency.specs.Reading.{Boards, Earliest, Answers, none, earliest}
 use Rattle.frequency.proofs.Runs.{boardable_says, found_says, run_number}
@@ -68,7 +67,7 @@ module _ (window : ℕ → Window) (base dep after : ℕ) where
         (last_window n i k b)
 
     -- the earliest before it stays, where it has none that is earlier
-    stay : (a : BoardedRun) → Earliest n window base dep after a → ((k : ℕ) → Boards (suc n) window base dep after n k → a.departure + base ≤ run_start w k + dep) → Answers (suc n) window base dep after (Board a)
+    stay : (a : BoardedRun) → Earliest n window base dep after a → ((k : ℕ) → Boards (suc n) window base dep after n k → a.departure + base ≤ run_start w k + dep) → Answers (suc n) window base dep after (Some a)
     stay a s f =
         earliest
         (record {
@@ -80,9 +79,9 @@ module _ (window : ℕ → Window) (base dep after : ℕ) where
         })
 
     -- it has no run to board
-    keep : (x : FreqBoard) → first_run w base dep after ≡ miss → Answers n window base dep after x → Answers (suc n) window base dep after x
-    keep Nothing e (none p) = none (by_window p (λ k b. window_none (suc n) n k e b))
-    keep (Board a) e (earliest s) = stay a s (λ k b. absurd (window_none (suc n) n k e b))
+    keep : (x : Option BoardedRun) → first_run w base dep after ≡ miss → Answers n window base dep after x → Answers (suc n) window base dep after x
+    keep None e (none p) = none (by_window p (λ k b. window_none (suc n) n k e b))
+    keep (Some a) e (earliest s) = stay a s (λ k b. absurd (window_none (suc n) n k e b))
 
     -- it has: run m is its first
     module _ (m : ℕ) (e : first_run w base dep after ≡ hit m) where
@@ -100,7 +99,7 @@ module _ (window : ℕ → Window) (base dep after : ℕ) where
       new_runs = and_left (is_run w m) (leaves_not_before base dep after t) (first_found (is_boardable w base dep after) 0 (w.end - w.start - 0) m e)
 
       -- run m is earlier than all before it
-      replace : ((i k : ℕ) → Boards n window base dep after i k → t < run_start (window i) k) → Answers (suc n) window base dep after (Board new)
+      replace : ((i k : ℕ) → Boards n window base dep after i k → t < run_start (window i) k) → Answers (suc n) window base dep after (Some new)
       unfolding new
       replace f =
           earliest {b = new}
@@ -112,41 +111,41 @@ module _ (window : ℕ → Window) (base dep after : ℕ) where
             first = λ i k b l. omega (arith, new_departs, f i k (earlier_window n i k b l));
           })
 
-      found : (x : FreqBoard) → Answers n window base dep after x → Answers (suc n) window base dep after (earlier_of x (board_hit w n base dep after (hit m)))
+      found : (x : Option BoardedRun) → Answers n window base dep after x → Answers (suc n) window base dep after (earlier_of x (board_hit w n base dep after (hit m)))
       unfolding new
-      found Nothing (none p) = replace (λ i k b. absurd (p i k b))
-      found (Board a) (earliest s) = go (leb a.departure (t + dep - base)) refl
+      found None (none p) = replace (λ i k b. absurd (p i k b))
+      found (Some a) (earliest s) = go (leb a.departure (t + dep - base)) refl
         where
-          go : (b : Bool) → leb a.departure (t + dep - base) ≡ b → Answers (suc n) window base dep after (cond b (Board a) (Board new))
+          go : (b : Bool) → leb a.departure (t + dep - base) ≡ b → Answers (suc n) window base dep after (cond b (Some a) (Some new))
           go true q = stay a s (λ k b. omega (arith, leb-true a.departure (t + dep - base) q, new_departs, window_least (suc n) n m k e b))
           go false q = replace (λ i k b. omega (arith, leb-false a.departure (t + dep - base) q, s.least i k b, new_departs))
 
-    step : (x : FreqBoard) → Answers n window base dep after x → Answers (suc n) window base dep after (board_next window base dep after n x)
+    step : (x : Option BoardedRun) → Answers n window base dep after x → Answers (suc n) window base dep after (board_next window base dep after n x)
     step x s = go (first_run w base dep after) refl
       where
         go : (h : Hit) → first_run w base dep after ≡ h → Answers (suc n) window base dep after (earlier_of x (board_hit w n base dep after h))
         go (hit m) e = found m e x s
-        go miss e = subst (λ (y : FreqBoard). Answers (suc n) window base dep after y) (earlier_none x) (keep x e s)
+        go miss e = subst (λ (y : Option BoardedRun). Answers (suc n) window base dep after y) (earlier_none x) (keep x e s)
 
   -- what earliest_freq_board finds is the earliest boarding
   pub answers : (n : ℕ) → Answers n window base dep after (earliest_freq_board n window base dep after)
   unfolding earliest_freq_board
   answers n =
-      let none_before : Answers 0 window base dep after Nothing = none (λ i k b. absurd (omega (arith, b.among))) in
+      let none_before : Answers 0 window base dep after None = none (λ i k b. absurd (omega (arith, b.among))) in
       let z : 0 + (n - 0) ≡ n = omega arith in
-      rw z at (iter_keeps (λ m x. Answers m window base dep after x) (board_next window base dep after) 0 (n - 0) Nothing none_before (λ k x l u p. step k x p))
+      rw z at (iter_keeps (λ m x. Answers m window base dep after x) (board_next window base dep after) 0 (n - 0) None none_before (λ k x l u p. step k x p))
 
   -- it, taken apart
-  pub board_is : (n : ℕ) (b : BoardedRun) → earliest_freq_board n window base dep after ≡ Board b → Earliest n window base dep after b
-  board_is n b e = of (subst (λ (y : FreqBoard). Answers n window base dep after y) e (answers n))
+  pub board_is : (n : ℕ) (b : BoardedRun) → earliest_freq_board n window base dep after ≡ Some b → Earliest n window base dep after b
+  board_is n b e = of (subst (λ (y : Option BoardedRun). Answers n window base dep after y) e (answers n))
     where
-      of : Answers n window base dep after (Board b) → Earliest n window base dep after b
+      of : Answers n window base dep after (Some b) → Earliest n window base dep after b
       of (earliest s) = s
 
-  pub nothing_is : (n : ℕ) → earliest_freq_board n window base dep after ≡ Nothing → (i k : ℕ) → Boards n window base dep after i k → ⊥
-  nothing_is n e = of (subst (λ (y : FreqBoard). Answers n window base dep after y) e (answers n))
+  pub nothing_is : (n : ℕ) → earliest_freq_board n window base dep after ≡ None → (i k : ℕ) → Boards n window base dep after i k → ⊥
+  nothing_is n e = of (subst (λ (y : Option BoardedRun). Answers n window base dep after y) e (answers n))
     where
-      of : Answers n window base dep after Nothing → (i k : ℕ) → Boards n window base dep after i k → ⊥
+      of : Answers n window base dep after None → (i k : ℕ) → Boards n window base dep after i k → ⊥
       of (none p) = p
 
 -- the difference of two numbers up to l is no larger than l
@@ -158,7 +157,7 @@ size_sub l a b u v = go (ltb a b) refl
     go false e = omega arith
 
 -- What a query asks of the numbers.
-module _ (n : ℕ) (window : ℕ → Window) (base dep after : ℕ) (nominal : Nominal n window base dep after) (b : BoardedRun) (e : earliest_freq_board n window base dep after ≡ Board b) where
+module _ (n : ℕ) (window : ℕ → Window) (base dep after : ℕ) (nominal : Nominal n window base dep after) (b : BoardedRun) (e : earliest_freq_board n window base dep after ≡ Some b) where
   -- the run starts before the largest end
   pub start_bound : run_start (window b.headways.window) b.headways.run < 1048575
   start_bound =

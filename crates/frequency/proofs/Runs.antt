@@ -1,5 +1,5 @@
 -- The first run of a window that can be boarded, by division: one law for each way the answer comes about.
-use Prim.Native.Nat.{ℕ, zero, suc, ◌+◌, ◌*◌, ◌-◌, ◌/◌, ◌%◌, ◌<◌, ◌≤◌}
+use Prim.Native.Nat.{ℕ, zero, suc, ◌+◌, ◌*◌, ◌-◌, ◌/◌, ◌%◌, ◌<◌, ◌≤◌, min}
 use mathlib.Core.Path.{◌≡◌, refl, ap, ap₂, sym, ◌∙◌}
 use mathlib.Core.Bool.{Bool, true, false, cond, ◌&&◌, not}
 use mathlib.Core.Logic.{⊎_elim}
@@ -14,8 +14,20 @@ use Rattle.loops.proofs.Search.{clash, first_is, first_isnt, split}
 use Rattle.frequency.specs.declared.Headways.{Headways}
 use Rattle.frequency.specs.declared.Run.{Run}
 use Rattle.frequency.specs.Gtfs.{Window, run_start, is_run, leaves_not_before, is_boardable, first_run, need, headways_of, wait_of}
-use Rattle.frequency.specs.Found.{no_run, run_of, rounded_up, window_run, headways_by, Remains}
+use Rattle.frequency.specs.Found.{no_run, run_of, window_run, headways_by, Remains}
 use Rattle.frequency.proofs.Integers.{above_later, above_first, size_later}
+
+-- a quotient rounded up: one more where something is left
+abbrev pub rounded_up : (quotient remainder : ℕ) → ℕ
+rounded_up q r = cond (eqb r 0) q (q + 1)
+
+-- so the code rounds it up
+rounded_is : (q r : ℕ) → q + min 1 r ≡ rounded_up q r
+rounded_is q r = go (eqb r 0) refl
+  where
+    go : (t : Bool) → eqb r 0 ≡ t → q + min 1 r ≡ cond t q (q + 1)
+    go true e = let z = eqb-true r 0 e in omega arith
+    go false e = let z : r ≡ 0 → ⊥ = eqb-false r 0 e in omega arith
 
 -- k headways of h are enough for n seconds, and one less is not: n / h, rounded up
 pub record Covers (n h k : ℕ) : Type 0 where
@@ -34,6 +46,9 @@ covers_div n h p = go (eqb (n % h) 0) refl
 
 pub covers_by : (n h k : ℕ) → 0 < h → k ≡ rounded_up (n / h) (n % h) → Covers n h k
 covers_by n h k p e = rw e (covers_div n h p)
+
+pub covers_ceil : (n h k : ℕ) → 0 < h → k ≡ n / h + min 1 (n % h) → Covers n h k
+covers_ceil n h k p e = covers_by n h k p (e ∙ rounded_is (n / h) (n % h))
 
 covers_less : (n h k j : ℕ) → Covers n h k → j < k → j * h < n
 covers_less n h k j c l = omega (arith, mul-le-mul_right {m = suc j} {n = k} h l, suc-mul j h, c.least)

@@ -11,8 +11,7 @@ use Rattle.loops.specs.Iter.{Hit, hit, miss}
 use Rattle.loops.proofs.Iter.{iter_keeps}
 use Rattle.loops.proofs.Search.{clash, split}
 use Rattle.frequency.specs.declared.BoardedRun.{BoardedRun}
-use Rattle.frequency.specs.declared.FreqBoard.{FreqBoard}
-use Rattle.frequency.specs.declared.FreqBoard.TheVariants.{Nothing, Board}
+use Rattle.std.specs.Prelude.{Option, None, Some}
 use Rattle.frequency.specs.Gtfs.{Window, run_start, first_run, need, is_above, board_run, board_hit, board_next, earliest_freq_board}
 use Rattle.frequency.specs.Waits.{NeedAbove, NeedNotAbove, Waits}
 use Rattle.frequency.proofs.Integers.{sub_pos, plus_offset, above_later, above_first, size_later, need_size}
@@ -79,9 +78,9 @@ module _ (w : Window) (base dep after i k : ℕ) (e : first_run w base dep after
 
 module _ (window : ℕ → Window) (base dep after : ℕ) where
   -- a boarding that is found is one of a window's first run
-  data Chosen : FreqBoard → Type 0 where
-    nothing : Chosen Nothing
-    chosen : {b : BoardedRun} (i k : ℕ) → first_run (window i) base dep after ≡ hit k → b ≡ board_run (window i) i base dep after k → Chosen (Board b)
+  data Chosen : Option BoardedRun → Type 0 where
+    nothing : Chosen None
+    chosen : {b : BoardedRun} (i k : ℕ) → first_run (window i) base dep after ≡ hit k → b ≡ board_run (window i) i base dep after k → Chosen (Some b)
 
   window_chosen : (i : ℕ) (x : Hit) → first_run (window i) base dep after ≡ x → Chosen (board_hit (window i) i base dep after x)
   window_chosen i (hit k) e = chosen i k e refl
@@ -90,13 +89,13 @@ module _ (window : ℕ → Window) (base dep after : ℕ) where
   all_chosen : (n : ℕ) → Chosen (earliest_freq_board n window base dep after)
   unfolding earliest_freq_board
   all_chosen n =
-      iter_keeps (λ k x. Chosen x) (board_next window base dep after) 0 (n - 0) Nothing nothing
+      iter_keeps (λ k x. Chosen x) (board_next window base dep after) 0 (n - 0) None nothing
       (λ k x l u p. earlier_keeps Chosen x _ p (window_chosen k (first_run (window k) base dep after) refl))
 
   -- WHAT THE NUMBERS OF A BOARDING MEAN
-  pub board_waits : (n : ℕ) (b : BoardedRun) → earliest_freq_board n window base dep after ≡ Board b → Waits (window b.headways.window) base dep after b
+  pub board_waits : (n : ℕ) (b : BoardedRun) → earliest_freq_board n window base dep after ≡ Some b → Waits (window b.headways.window) base dep after b
   board_waits n b e = of (subst Chosen e (all_chosen n))
     where
-      of : Chosen (Board b) → Waits (window b.headways.window) base dep after b
+      of : Chosen (Some b) → Waits (window b.headways.window) base dep after b
       of (chosen i k f q) =
           subst (λ (x : BoardedRun). Waits (window x.headways.window) base dep after x) (sym q) (run_waits (window i) base dep after i k f)

@@ -1,11 +1,10 @@
 -- How the code hands on the run that a window's search found: by its start, its window and its number. Definitions only.
 -- Inner: nobody has to believe this.
-use Rattle.std.specs.Prelude.{ℕ, ◌+◌, ◌-◌, ◌<◌, ◌≤◌, ◌≡◌, Bool, true, cond, eqb, ltb}
+use Rattle.std.specs.Prelude.{ℕ, ◌-◌, ◌<◌, ◌≤◌, ◌≡◌, Bool, true, cond, eqb, ltb, Option, None, Some}
+use Rattle.frequency.specs.declared.BoardedRun.{BoardedRun}
 use Rattle.loops.specs.Iter.{Hit, hit, miss}
 use Rattle.frequency.specs.declared.Headways.{Headways}
 use Rattle.frequency.specs.declared.Run.{Run}
-use Rattle.frequency.specs.declared.FreqBoard.{FreqBoard}
-use Rattle.frequency.specs.declared.FreqBoard.TheVariants.{Nothing, Board}
 use Rattle.frequency.specs.Gtfs.{Window, run_start, first_run, board_run}
 
 -- no run: later than every run
@@ -15,10 +14,6 @@ no_run = record { start = 4294967295; window = 0; run = 0 }
 abbrev pub run_of : (w : Window) (window : ℕ) → Hit → Run
 run_of w i (hit k) = record { start = run_start w k; window = i; run = k }
 run_of w i miss = no_run
-
--- a quotient rounded up: one more where something is left
-abbrev pub rounded_up : (quotient remainder : ℕ) → ℕ
-rounded_up q r = cond (eqb r 0) q (q + 1)
 
 -- the first run of window i that can be boarded
 abbrev pub window_run : (w : Window) (window base dep after : ℕ) → Run
@@ -44,9 +39,9 @@ pub record Remains (run headway : ℕ) (above : Bool) (wait : ℕ) : Type 0 wher
   pub within : above ≡ true → 0 < wait → wait ≤ headway
 
 -- the boarding of a run
-abbrev pub board_of : (window : ℕ → Window) → Run → (base dep after : ℕ) → FreqBoard
+abbrev pub board_of : (window : ℕ → Window) → Run → (base dep after : ℕ) → Option BoardedRun
 board_of window r base dep after =
-    cond (ltb r.start 4294967295) (Board (board_run (window r.window) r.window base dep after r.run)) Nothing
+    cond (ltb r.start 4294967295) (Some (board_run (window r.window) r.window base dep after r.run)) None
 
 -- r is no run, or the first one of its window that can be boarded
 pub record Drawn (n : ℕ) (window : ℕ → Window) (base dep after : ℕ) (r : Run) : Type 0 where

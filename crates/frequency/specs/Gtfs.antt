@@ -4,15 +4,13 @@
 -- after its own start as the template does after its base, the template's first departure.
 -- GTFS asks for positive headways and windows that do not overlap; here both may fail. exact_times is not read.
 -- The definitions try the runs one by one, where the code divides.
-use Rattle.std.specs.Prelude.{ℕ, ◌+◌, ◌*◌, ◌-◌, ◌/◌, ◌%◌, ◌<◌, ◌≤◌, Bool, cond, ◌&&◌, not, List, eqb, ltb, leb, length, get_or, ℤ, pos, nat_abs, ◌-ℤ◌}
+use Rattle.std.specs.Prelude.{ℕ, ◌+◌, ◌*◌, ◌-◌, ◌/◌, ◌%◌, ◌<◌, ◌≤◌, Bool, cond, ◌&&◌, not, List, eqb, ltb, leb, length, get_or, ℤ, pos, nat_abs, ◌-ℤ◌, Option, None, Some}
 use Rattle.std.proofs.Math.IntN.{sub_ℕ}
 use Rattle.std.specs.Int.Signed.{le_z}
 use Rattle.loops.specs.Iter.{Hit, hit, miss, first_in, range}
 use Rattle.signed.specs.Signed.{bits_of}
 use Rattle.frequency.specs.declared.Headways.{Headways}
 use Rattle.frequency.specs.declared.BoardedRun.{BoardedRun}
-use Rattle.frequency.specs.declared.FreqBoard.{FreqBoard}
-use Rattle.frequency.specs.declared.FreqBoard.TheVariants.{Nothing, Board}
 
 -- start_time, end_time and headway_secs of a row of frequencies.txt, in service seconds
 pub record Window : Type 0 where
@@ -106,27 +104,27 @@ abbrev pub board_ordinary : (planned dep after : ℕ) → BoardedRun
 board_ordinary planned dep after = boarding_of dep (bits_of (sub_ℕ dep planned)) no_headways (dep - after)
 
 -- the boarding of the run that was found in window i, if one was
-abbrev pub board_hit : (w : Window) (window base dep after : ℕ) → Hit → FreqBoard
-board_hit w i base dep after (hit k) = Board (board_run w i base dep after k)
-board_hit w i base dep after miss = Nothing
+abbrev pub board_hit : (w : Window) (window base dep after : ℕ) → Hit → Option BoardedRun
+board_hit w i base dep after (hit k) = Some (board_run w i base dep after k)
+board_hit w i base dep after miss = None
 
 -- the earliest boarding of window i
-abbrev pub window_board : (w : Window) (number base dep after : ℕ) → FreqBoard
+abbrev pub window_board : (w : Window) (number base dep after : ℕ) → Option BoardedRun
 window_board w i base dep after = board_hit w i base dep after (first_run w base dep after)
 
 -- the one that departs earlier; equal ones keep the first
-abbrev pub earlier_of : FreqBoard → FreqBoard → FreqBoard
-earlier_of Nothing b = b
-earlier_of (Board a) Nothing = Board a
-earlier_of (Board a) (Board b) = cond (leb a.departure b.departure) (Board a) (Board b)
+abbrev pub earlier_of : Option BoardedRun → Option BoardedRun → Option BoardedRun
+earlier_of None b = b
+earlier_of (Some a) None = Some a
+earlier_of (Some a) (Some b) = cond (leb a.departure b.departure) (Some a) (Some b)
 
 -- window i is looked at, after the best of those before it
-abbrev pub board_next : (window : ℕ → Window) (base dep after i : ℕ) (best : FreqBoard) → FreqBoard
+abbrev pub board_next : (window : ℕ → Window) (base dep after i : ℕ) (best : Option BoardedRun) → Option BoardedRun
 board_next window base dep after i best = earlier_of best (window_board (window i) i base dep after)
 
 -- earliest_freq_board: over n windows, the earliest
-unfoldable pub earliest_freq_board : (n : ℕ) (window : ℕ → Window) (base dep after : ℕ) → FreqBoard
-earliest_freq_board n window base dep after = range (board_next window base dep after) 0 n Nothing
+unfoldable pub earliest_freq_board : (n : ℕ) (window : ℕ → Window) (base dep after : ℕ) → Option BoardedRun
+earliest_freq_board n window base dep after = range (board_next window base dep after) 0 n None
 
 -- What the inner call asks: at most 65,536 windows of times, and a template base that is a time. The other two are wider than at
 -- the door, as inside a query: the departure may be a delayed one, and the wanted time may follow long walks.

@@ -1,11 +1,9 @@
 -- What the earliest boarding is, in plain terms: no search and no order of looking stands here. `proofs/Reading` shows that
 -- `earliest_freq_board` is it. Definitions only.
-use Rattle.std.specs.Prelude.{ℕ, ◌+◌, ◌<◌, ◌≤◌, ◌≡◌, true}
+use Rattle.std.specs.Prelude.{ℕ, ◌+◌, ◌<◌, ◌≤◌, ◌≡◌, true, Option, None, Some}
 use Rattle.std.proofs.Math.IntN.{sub_ℕ}
 use Rattle.signed.specs.Signed.{bits_of}
 use Rattle.frequency.specs.declared.BoardedRun.{BoardedRun}
-use Rattle.frequency.specs.declared.FreqBoard.{FreqBoard}
-use Rattle.frequency.specs.declared.FreqBoard.TheVariants.{Nothing, Board}
 use Rattle.frequency.specs.Gtfs.{Window, run_start, is_run}
 
 -- run k of window i, one of the first n windows, leaves the boarding stop at the wanted time or later
@@ -27,6 +25,6 @@ pub record Earliest (n : ℕ) (window : ℕ → Window) (base dep after : ℕ) (
   pub first : (i k : ℕ) → Boards n window base dep after i k → i < b.headways.window → b.departure + base < run_start (window i) k + dep
 
 -- the answer is the earliest boarding, or there is none to board
-pub data Answers (n : ℕ) (window : ℕ → Window) (base dep after : ℕ) : FreqBoard → Type 0 where
-  none : ((i k : ℕ) → Boards n window base dep after i k → ⊥) → Answers n window base dep after Nothing
-  earliest : {b : BoardedRun} → Earliest n window base dep after b → Answers n window base dep after (Board b)
+pub data Answers (n : ℕ) (window : ℕ → Window) (base dep after : ℕ) : Option BoardedRun → Type 0 where
+  none : ((i k : ℕ) → Boards n window base dep after i k → ⊥) → Answers n window base dep after None
+  earliest : {b : BoardedRun} → Earliest n window base dep after b → Answers n window base dep after (Some b)

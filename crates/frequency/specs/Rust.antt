@@ -3,13 +3,11 @@
 -- An i64 is an integer here: sums and differences of three u32 numbers are far inside its range. So is the i32 shift: both its
 -- numbers are below 2 ^ 31 in the law. A u32 that saturates stops at 4,294,967,295.
 -- For a law: no contract rests on this.
-use Rattle.std.specs.Prelude.{ℕ, zero, suc, ◌+◌, ◌*◌, ◌-◌, ◌/◌, ◌%◌, min, cond, ◌&&◌, ◌||◌, eqb, ltb, leb, ℤ, pos, negsuc, ◌+ℤ◌, ◌-ℤ◌}
-use Rattle.std.proofs.Math.Option.{Option, none, some}
+use Rattle.std.specs.Prelude.{ℕ, zero, suc, ◌+◌, ◌*◌, ◌-◌, ◌/◌, ◌%◌, min, cond, ◌&&◌, ◌||◌, eqb, ltb, leb, ℤ, pos, negsuc, ◌+ℤ◌, ◌-ℤ◌, Option, None, Some}
+use Rattle.frequency.specs.declared.BoardedRun.{BoardedRun}
 use Rattle.std.specs.Int.Signed.{le_z}
 use Rattle.loops.specs.Iter.{range}
 use Rattle.signed.specs.Signed.{of_bits}
-use Rattle.frequency.specs.declared.FreqBoard.{FreqBoard}
-use Rattle.frequency.specs.declared.FreqBoard.TheVariants.{Nothing, Board}
 use Rattle.frequency.specs.Gtfs.{Window, board_offset}
 
 -- `x as u32` of an i64: its lowest 32 bits
@@ -48,31 +46,31 @@ first_try w t =
 
 -- the while loop: n more tries at most, the next at t. Its find: departure and shift.
 unfoldable pub tries : (w : Window) (base dep after left start : ℕ) → Option (ℕ × ℤ)
-tries w base dep after zero t = none
+tries w base dep after zero t = None
 tries w base dep after (suc n) t =
     cond (ltb t w.end)
     (cond (le_z (pos 0) (pos t +ℤ board_offset base dep) && leb after (as_u32 (pos t +ℤ board_offset base dep)))
-    (some (as_u32 (pos t +ℤ board_offset base dep), of_bits t -ℤ of_bits base))
+    (Some (as_u32 (pos t +ℤ board_offset base dep), of_bits t -ℤ of_bits base))
     (tries w base dep after n (saturating_add t w.headway)))
-    none
+    None
 
 -- one window
 abbrev pub rust_window : Window → ℕ → ℕ → ℕ → Option (ℕ × ℤ)
 rust_window w base dep after =
-    cond (eqb w.headway 0 || leb w.end w.start) none
-    (cond (le_z (pos w.end) (t_min w base dep after)) none
+    cond (eqb w.headway 0 || leb w.end w.start) None
+    (cond (le_z (pos w.end) (t_min w base dep after)) None
     (tries w base dep after max_tries (first_try w (t_min w base dep after))))
 
 -- `best` and a find: an earlier or equal best stays
 abbrev pub keep_best : Option (ℕ × ℤ) → Option (ℕ × ℤ) → Option (ℕ × ℤ)
-keep_best best none = best
-keep_best none (some f) = some f
-keep_best (some b) (some f) = cond (leb b.0 f.0) (some b) (some f)
+keep_best best None = best
+keep_best None (Some f) = Some f
+keep_best (Some b) (Some f) = cond (leb b.0 f.0) (Some b) (Some f)
 
 unfoldable pub rust_board : (n : ℕ) (window : ℕ → Window) (base dep after : ℕ) → Option (ℕ × ℤ)
-rust_board n window base dep after = range (λ i best. keep_best best (rust_window (window i) base dep after)) 0 n none
+rust_board n window base dep after = range (λ i best. keep_best best (rust_window (window i) base dep after)) 0 n None
 
 -- a boarding as the Rust returns it
-abbrev pub pair_of : FreqBoard → Option (ℕ × ℤ)
-pair_of Nothing = none
-pair_of (Board b) = some (b.departure, of_bits b.time_shift_s)
+abbrev pub pair_of : Option BoardedRun → Option (ℕ × ℤ)
+pair_of None = None
+pair_of (Some b) = Some (b.departure, of_bits b.time_shift_s)

@@ -12,14 +12,14 @@
 #![tactic(auto)]
 
 ghost use Rattle.std.specs.Prelude.{◌≡◌, ◌-◌, ◌≤◌, ◌<◌};
-ghost use Rattle.frequency.specs.Gtfs.{no_headways, boarding_of, board_ordinary};
+ghost use Rattle.frequency.specs.Gtfs.{boarding_of, board_ordinary};
 ghost use Rattle.frequency.specs.Gtfs.{window_count, window_from, window_in, earliest_freq_board, Nominal};
-ghost use Rattle.frequency.specs.Found.{no_run, rounded_up, window_run, earlier_run, headways_by, Remains, board_of, Drawn};
+ghost use Rattle.frequency.specs.Found.{window_run, earlier_run, headways_by, Remains, board_of, Drawn};
 
 // Where a boarded run stands among its trip's windows (document 02, T-02): the window, from 0 within the trip; n, the whole headways from
 // the window's start to the run, which is the run's number, from 0; quotient and remainder of need by the headway. All 0 where a
 // trip has no windows.
-#[derive(Clone, Copy)]
+#[derive(Clone, Copy, Default)]
 pub struct Headways {
     pub window: u32,
     pub run: u32,
@@ -37,14 +37,8 @@ pub struct BoardedRun {
     pub wait: u32,
 }
 
-// What a search for a boarding finds.
-#[derive(Clone, Copy)]
-pub enum FreqBoard {
-    Nothing,
-    Board(BoardedRun),
-}
-
 // A run by its start, with its window and its number there. A window that has none gives NO_RUN, which is later than every run.
+// (An Option of a run would carry a word more through the loop over the windows, which was measured as slower.)
 #[derive(Clone, Copy)]
 struct Run {
     start: u32,
@@ -52,42 +46,22 @@ struct Run {
     run: u32,
 }
 
-const NO_RUN: u32 = 4294967295;
-
-// No window, and no headways.
-fn no_headways() -> Headways
-    ensures { result ≡ no_headways }
-{
-    Headways {
-        window: 0,
-        run: 0,
-        quotient: 0,
-        remainder: 0,
-    }
-}
-
-// Later than every run.
-fn no_run() -> Run
-    ensures { result ≡ no_run }
-{
-    Run {
-        start: NO_RUN,
-        window: 0,
-        run: 0,
-    }
-}
+const NO_RUN: Run = Run {
+    start: u32::MAX,
+    window: 0,
+    run: 0,
+};
 
 // The one place where a boarding is made. The wait is from the wanted time `after` on.
 fn boarding_of(departure: u32, time_shift_s: u32, headways: Headways, after: u32) -> BoardedRun
     requires { after ≤ departure }
     ensures { result ≡ boarding_of departure time_shift_s headways (departure - after) }
 {
-    let wait = departure - after;
     BoardedRun {
-        departure: departure,
-        time_shift_s: time_shift_s,
-        headways: headways,
-        wait: wait,
+        departure,
+        time_shift_s,
+        headways,
+        wait: departure - after,
     }
 }
 
@@ -98,18 +72,8 @@ pub fn board_ordinary(planned: u32, dep: u32, after: u32) -> BoardedRun
     requires after_bound { after ≤ dep }
     ensures { result ≡ board_ordinary planned dep after }
 {
-    boarding_of(dep, signed::difference(dep, planned), no_headways(), after)
-}
-
-// A quotient rounded up: one more where something is left.
-fn rounded_up(quotient: u32, remainder: u32) -> u32
-    requires { quotient < 4294967295 }
-    ensures { result ≡ rounded_up quotient remainder }
-{
-    if remainder == 0 {
-        return quotient;
-    }
-    quotient + 1
+    let shift = signed::difference(dep, planned);
+    boarding_of(dep, shift, Headways::default(), after)
 }
 
 // The first run of a window that can be boarded, by division. Run 0 leaves the boarding stop `need` seconds too early, if it does.
@@ -126,36 +90,32 @@ fn first_run(
     requires base_bound { (base ≤ 1048575) × (dep < 4194304) × (after < 134217728) }
     ensures { result ≡ window_run (window_from start end headway) window base dep after }
 {
-    if headway == 0 {
-        return no_run();
-    }
-    if end <= start {
-        return no_run();
+    if headway == 0 || end <= start {
+        return NO_RUN;
     }
     let wanted = after + base;
     if end + dep <= wanted {
-        return no_run();
+        return NO_RUN;
     }
     if wanted <= start + dep {
         return Run {
-            start: start,
-            window: window,
+            start,
+            window,
             run: 0,
         };
     }
     let need = wanted - (start + dep);
-    let quotient = need / headway;
-    let remainder = need % headway;
-    let run = rounded_up(quotient, remainder);
+    let run = need.div_ceil(headway);
     let t = start + run * headway;
     if t < end {
-        return Run {
+        Run {
             start: t,
-            window: window,
-            run: run,
-        };
+            window,
+            run,
+        }
+    } else {
+        NO_RUN
     }
-    no_run()
 }
 
 // The first run of window i.
@@ -174,10 +134,7 @@ fn run_at(windows: &[u32], base: u32, dep: u32, after: u32, i: usize) -> Run
 fn earlier(kept: Run, next: Run) -> Run
     ensures { result ≡ earlier_run kept next }
 {
-    if next.start < kept.start {
-        return next;
-    }
-    kept
+    if next.start < kept.start { next } else { kept }
 }
 
 // Where a run stands, with quotient and remainder of need by the headway where need is above zero. They follow from n and the wait without
@@ -186,59 +143,48 @@ fn headways_of(run: Run, headway: u32, above: bool, wait: u32) -> Headways
     requires { Remains run.run headway above wait }
     ensures { result ≡ headways_by run.window run.run headway above wait }
 {
-    if !above {
-        return Headways {
-            window: run.window,
-            run: run.run,
-            quotient: 0,
-            remainder: 0,
-        };
-    }
-    if wait == 0 {
-        return Headways {
-            window: run.window,
-            run: run.run,
-            quotient: run.run,
-            remainder: 0,
-        };
-    }
+    let (quotient, remainder) = if !above {
+        (0, 0)
+    } else if wait == 0 {
+        (run.run, 0)
+    } else {
+        (run.run - 1, headway - wait)
+    };
     Headways {
         window: run.window,
         run: run.run,
-        quotient: run.run - 1,
-        remainder: headway - wait,
+        quotient,
+        remainder,
     }
 }
 
 // The run as it is boarded.
-fn board_at(windows: &[u32], run: Run, base: u32, dep: u32, after: u32) -> FreqBoard
+fn board_at(windows: &[u32], run: Run, base: u32, dep: u32, after: u32) -> Option<BoardedRun>
     requires nominal { Nominal (window_count windows.now) (window_in windows.now) base dep after }
     requires drawn { Drawn (window_count windows.now) (window_in windows.now) base dep after run }
     ensures { result ≡ board_of (window_in windows.now) run base dep after }
 {
-    if NO_RUN <= run.start {
-        return FreqBoard::Nothing;
+    if NO_RUN.start <= run.start {
+        return None;
     }
     let i = run.window as usize;
     let departure = run.start + dep - base;
     let shift = signed::difference(run.start, base);
     let above = windows[3 * i] + dep < after + base;
     let headways = headways_of(run, windows[3 * i + 2], above, departure - after);
-    FreqBoard::Board(boarding_of(departure, shift, headways, after))
+    Some(boarding_of(departure, shift, headways, after))
 }
 
 // The earliest boarding over a trip's windows: its own part of the windows' table, three words a row (start, end, headway).
 // base: the template's first departure; dep: its departure where one boards; after: the wanted time.
 // The earliest departure is that of the earliest run, as each run leaves the stop equally long after its start.
-pub fn earliest_freq_board(windows: &[u32], base: u32, dep: u32, after: u32) -> FreqBoard
+pub fn earliest_freq_board(windows: &[u32], base: u32, dep: u32, after: u32) -> Option<BoardedRun>
     requires { Nominal (window_count windows.now) (window_in windows.now) base dep after }
     ensures { result ≡ earliest_freq_board (window_count windows.now) (window_in windows.now) base dep after }
 {
-    let mut best = no_run();
-    let mut i: usize = 0;
-    while 3 * i + 2 < windows.len() {
+    let mut best = NO_RUN;
+    for i in 0..windows.len() / 3 {
         best = earlier(best, run_at(windows, base, dep, after, i));
-        i += 1;
     }
     board_at(windows, best, base, dep, after)
 }

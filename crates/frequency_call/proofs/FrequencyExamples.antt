@@ -9,8 +9,8 @@ use Rattle.loops.specs.Iter.{iter, every, first}
 use Rattle.door.specs.Settings.{default_settings, settings_ok}
 use Rattle.door.proofs.House.{no_trip_tried}
 use Rattle.frequency_call.specs.declared.FreqAnswer.{FreqAnswer}
-use Rattle.frequency.specs.declared.FreqBoard.{FreqBoard}
-use Rattle.frequency.specs.declared.FreqBoard.TheVariants.{Nothing, Board}
+use Rattle.std.specs.Prelude.{Option, None, Some}
+use Rattle.frequency.specs.declared.BoardedRun.{BoardedRun}
 use Rattle.frequency.specs.Gtfs.{window_in, first_run, board_ordinary, earliest_freq_board}
 use Rattle.frequency_call.specs.FrequencyCall.{freq_outcome}
 
@@ -108,19 +108,19 @@ settings-asked = refl
 
 -- INSIDE A QUERY the departure may be a delayed one and the wanted time late: a window 0 to 1,048,575 by 1,048,574, the template's base 0, the boarding
 -- stop left at 4,194,303. Wanted at 4,194,304 and at 5,242,877, the last second of a run. In a window of three runs the wanted time 134,217,727 is too late.
-pub board_numbers : FreqBoard → List ℕ
-board_numbers Nothing = []
-board_numbers (Board b) =
+pub board_numbers : Option BoardedRun → List ℕ
+board_numbers None = []
+board_numbers (Some b) =
     b.departure ∷ b.time_shift_s ∷ b.headways.window ∷ b.headways.run ∷ b.headways.quotient ∷ b.headways.remainder ∷ b.wait ∷ []
 
-pub wide_board : List ℕ → ℕ → ℕ → ℕ → FreqBoard
+pub wide_board : List ℕ → ℕ → ℕ → ℕ → Option BoardedRun
 wide_board ws = earliest_freq_board 1 (window_in ws)
 
 pub wide : same (board_numbers (wide_board (0 ∷ 1048575 ∷ 1048574 ∷ []) 0 4194303 4194304)) (5242877 ∷ 1048574 ∷ 0 ∷ 1 ∷ 0 ∷ 1 ∷ 1048573 ∷ [])
     && same (board_numbers (wide_board (0 ∷ 1048575 ∷ 1048574 ∷ []) 0 4194303 5242877)) (5242877 ∷ 1048574 ∷ 0 ∷ 1 ∷ 1 ∷ 0 ∷ 0 ∷ [])
     && same (board_numbers (wide_board (1048572 ∷ 1048575 ∷ 1 ∷ []) 0 4194303 134217727)) []
     -- a trip without windows, planned at 100, delayed by 20, wanted at 90
-    && same (board_numbers (Board (board_ordinary 100 120 90))) (120 ∷ 20 ∷ 0 ∷ 0 ∷ 0 ∷ 0 ∷ 30 ∷ [])
+    && same (board_numbers (Some (board_ordinary 100 120 90))) (120 ∷ 20 ∷ 0 ∷ 0 ∷ 0 ∷ 0 ∷ 30 ∷ [])
     ≡ true
 unfolding board_numbers wide_board same earliest_freq_board first_run iter first
 wide = refl

@@ -10,8 +10,8 @@ use Rattle.door.specs.Door.{ask}
 use Rattle.door.specs.Settings.{settings_ok}
 use Rattle.door.specs.declared.Settings.{Settings}
 use Rattle.door.proofs.Laws.{ask_yes, ask_later}
-use Rattle.frequency.specs.declared.FreqBoard.{FreqBoard}
-use Rattle.frequency.specs.declared.FreqBoard.TheVariants.{Nothing, Board}
+use Rattle.std.specs.Prelude.{Option, None, Some}
+use Rattle.frequency.specs.declared.BoardedRun.{BoardedRun}
 use Rattle.frequency.specs.Gtfs.{window_count, window_in, earliest_freq_board}
 use Rattle.frequency.specs.Reading.{Boards, Earliest}
 use Rattle.frequency.proofs.Reading.{board_is, nothing_is}
@@ -32,9 +32,9 @@ module _ (S : Settings) (count : ℕ) (ws : List ℕ) (base dep after : ℕ) whe
   told : FreqTold count ws base dep after (freq_outcome S count ws base dep after)
   told = go (freq_code S count ws base dep after) refl (earliest_freq_board (window_count ws) (window_in ws) base dep after) refl
     where
-      go : (n : ℕ) → freq_code S count ws base dep after ≡ n → (b : FreqBoard) → earliest_freq_board (window_count ws) (window_in ws) base dep after ≡ b
+      go : (n : ℕ) → freq_code S count ws base dep after ≡ n → (b : Option BoardedRun) → earliest_freq_board (window_count ws) (window_in ws) base dep after ≡ b
           → FreqTold count ws base dep after (freq_answer n b)
-      go zero e Nothing f =
+      go zero e None f =
           record {
             found_or_none = omega arith;
             zeros = λ z. refl;
@@ -42,7 +42,7 @@ module _ (S : Settings) (count : ℕ) (ws : List ℕ) (base dep after : ℕ) whe
             found = λ z. absurd (omega (arith, z));
             waiting = λ z. absurd (omega (arith, z));
           }
-      go zero e (Board b) f =
+      go zero e (Some b) f =
           record {
             found_or_none = omega arith;
             zeros = λ z. absurd (omega (arith, z));

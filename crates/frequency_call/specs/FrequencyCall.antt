@@ -1,12 +1,12 @@
 -- The call of frequency boarding: its questions (1, 14, 2 and 5) and what it answers. The boarding itself: `frequency` specs/Gtfs.
 -- Definitions only.
-use Rattle.std.specs.Prelude.{ℕ, zero, suc, ◌*◌, Bool, ◌&&◌, List, eqb, leb, length}
+use Rattle.std.specs.Prelude.{ℕ, zero, suc, ◌*◌, Bool, ◌&&◌, Option, None, Some, Result, Ok, Err, List, eqb, leb, length}
 use Rattle.loops.specs.Iter.{every_in}
-use Rattle.door.specs.Door.{ask, time_limit}
+use Rattle.door.specs.Door.{ask, time_limit, number_of}
 use Rattle.door.specs.Settings.{settings_ok}
 use Rattle.door.specs.declared.Settings.{Settings}
-use Rattle.frequency.specs.declared.FreqBoard.{FreqBoard}
-use Rattle.frequency.specs.declared.FreqBoard.TheVariants.{Nothing, Board}
+use Rattle.door.specs.declared.Refusal.{Refusal}
+use Rattle.frequency.specs.declared.BoardedRun.{BoardedRun}
 use Rattle.frequency_call.specs.declared.FreqAnswer.{FreqAnswer}
 use Rattle.frequency.specs.Gtfs.{Window, window_count, window_in, earliest_freq_board}
 
@@ -55,9 +55,9 @@ no_board n =
     }
 
 -- a boarding as the entry hands it out; that there is none is a success too
-abbrev pub board_answer : FreqBoard → FreqAnswer
-board_answer Nothing = no_board 0
-board_answer (Board b) =
+abbrev pub board_answer : Option BoardedRun → FreqAnswer
+board_answer None = no_board 0
+board_answer (Some b) =
     record {
       code = 0;
       found = 1;
@@ -70,8 +70,13 @@ board_answer (Board b) =
       wait = b.wait;
     }
 
+-- an outcome of the call, as a caller in C reads it
+abbrev pub freq_of : Result (Option BoardedRun) Refusal → FreqAnswer
+freq_of (Ok b) = board_answer b
+freq_of (Err q) = no_board (number_of q)
+
 -- what the entry answers whose questions gave this number, and whose boarding is b where all are yes
-abbrev pub freq_answer : ℕ → FreqBoard → FreqAnswer
+abbrev pub freq_answer : ℕ → Option BoardedRun → FreqAnswer
 freq_answer zero b = board_answer b
 freq_answer (suc n) b = no_board (suc n)
 

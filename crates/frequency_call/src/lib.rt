@@ -9,10 +9,10 @@
 
 ghost use Rattle.std.specs.Prelude.{◌≡◌, ◌<◌};
 ghost use Rattle.frequency.specs.Gtfs.{window_count, window_in};
-ghost use Rattle.frequency_call.specs.FrequencyCall.{are_times, window_in_range, windows_in_range, freq_in_range, freq_outcome, no_board};
+ghost use Rattle.frequency_call.specs.FrequencyCall.{are_times, window_in_range, windows_in_range, freq_in_range, no_board, freq_of, freq_outcome};
 
-use door::Settings;
-use frequency::FreqBoard;
+use door::{Refusal, Settings};
+use frequency::BoardedRun;
 
 // The most windows.
 const WINDOW_LIMIT: u32 = 65536;
@@ -38,7 +38,7 @@ pub fn no_board(code: u32) -> FreqAnswer
     ensures { result ≡ no_board code }
 {
     FreqAnswer {
-        code: code,
+        code,
         found: 0,
         departure: 0,
         time_shift_s: 0,
@@ -50,17 +50,34 @@ pub fn no_board(code: u32) -> FreqAnswer
     }
 }
 
+// What a caller in C reads of the call.
+impl From<Result<Option<BoardedRun>, Refusal>> for FreqAnswer {
+    ghost from_gives = { λ r a. a ≡ freq_of r };
+
+    fn from(outcome: Result<Option<BoardedRun>, Refusal>) -> FreqAnswer {
+        match outcome {
+            Ok(Some(b)) => FreqAnswer {
+                code: 0,
+                found: 1,
+                departure: b.departure,
+                time_shift_s: b.time_shift_s,
+                window: b.headways.window,
+                run: b.headways.run,
+                quotient: b.headways.quotient,
+                remainder: b.headways.remainder,
+                wait: b.wait,
+            },
+            Ok(None) => no_board(0),
+            Err(question) => no_board(u32::from(question)),
+        }
+    }
+}
+
 // Is each of the three a time in its range?
 fn are_times(a: u32, b: u32, c: u32) -> bool
     ensures { result ≡ are_times a b c }
 {
-    if door::TIME_LIMIT < a {
-        return false;
-    }
-    if door::TIME_LIMIT < b {
-        return false;
-    }
-    c <= door::TIME_LIMIT
+    a <= door::TIME_LIMIT && b <= door::TIME_LIMIT && c <= door::TIME_LIMIT
 }
 
 // The start, the end and the headway of window i?
@@ -75,27 +92,17 @@ fn window_in_range(windows: &[u32], i: usize) -> bool
 fn windows_in_range(windows: &[u32]) -> bool
     ensures { result ≡ windows_in_range windows.now }
 {
-    let mut i: usize = 0;
-    while 3 * i + 2 < windows.len() {
-        if !window_in_range(windows, i) {
-            return false;
-        }
-        i += 1;
-    }
-    true
+    (0..windows.len() / 3).all(|i| window_in_range(windows, i))
 }
 
 // Question 5: is every time in its range?
 fn freq_in_range(windows: &[u32], base: u32, dep: u32, after: u32) -> bool
     ensures { result ≡ freq_in_range windows.now base dep after }
 {
-    if !are_times(base, dep, after) {
-        return false;
-    }
-    windows_in_range(windows)
+    are_times(base, dep, after) && windows_in_range(windows)
 }
 
-// Frequency boarding with its questions: 1 counts, 14 settings, 2 lengths, 5 times.
+// Frequency boarding with its questions: 1 counts, 14 settings, 2 lengths, 5 times. None: no run can be boarded.
 pub fn freq_board(
     settings: Settings,
     count: u32,
@@ -103,31 +110,11 @@ pub fn freq_board(
     base: u32,
     dep: u32,
     after: u32,
-) -> FreqAnswer
-    ensures { result ≡ freq_outcome settings count windows.now base dep after }
+) -> Result<Option<BoardedRun>, Refusal>
+    ensures { freq_of result ≡ freq_outcome settings count windows.now base dep after }
 {
-    let v = door::limits(count <= WINDOW_LIMIT, settings);
-    if v != 0 {
-        return no_board(v);
-    }
-    if windows.len() != 3 * (count as usize) {
-        return no_board(2);
-    }
-    if !freq_in_range(windows, base, dep, after) {
-        return no_board(5);
-    }
-    let FreqBoard::Board(b) = frequency::earliest_freq_board(windows, base, dep, after) else {
-        return no_board(0);
-    };
-    FreqAnswer {
-        code: 0,
-        found: 1,
-        departure: b.departure,
-        time_shift_s: b.time_shift_s,
-        window: b.headways.window,
-        run: b.headways.run,
-        quotient: b.headways.quotient,
-        remainder: b.headways.remainder,
-        wait: b.wait,
-    }
+    door::limits(count <= WINDOW_LIMIT, settings)?;
+    door::ask(Refusal::Sizes, windows.len() == 3 * (count as usize))?;
+    door::ask(Refusal::Ranges, freq_in_range(windows, base, dep, after))?;
+    Ok(frequency::earliest_freq_board(windows, base, dep, after))
 }

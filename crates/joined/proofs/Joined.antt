@@ -6,7 +6,7 @@ use mathlib.Core.Logic.{◌⊎◌, inl, inr, ⊎_elim}
 use mathlib.Core.Bool.{Bool, true, false, cond, ◌&&◌, ◌||◌, not}
 use mathlib.Core.List.Memᴰ
 use mathlib.Core.List.{List, [], ◌∷◌, ◌++◌, Memᴰ}
-use mathlib.Core.Option.{Option, none, some}
+use Rattle.std.specs.Prelude.{Option, None, Some}
 use native.Mathlib.Nat.{le_trans}
 use native.Mathlib.Omega.{arith}
 use lib.ListN.{length, get_or, set, length-set, length-replicate}
@@ -16,8 +16,6 @@ use borrow.Author.Tests.{ltb-true, ltb-false, eqb-true, eqb-false}
 use Rattle.loops.specs.Iter.{Hit}
 use Rattle.walk_time.proofs.Laws.{rounds_most}
 use Rattle.frequency.specs.declared.BoardedRun.{BoardedRun}
-use Rattle.frequency.specs.declared.FreqBoard.{FreqBoard}
-use Rattle.frequency.specs.declared.FreqBoard.TheVariants.{Nothing, Board}
 use Rattle.frequency.specs.Gtfs.{board_ordinary, earliest_freq_board}
 use Rattle.frequency.proofs.Reading.{board_is}
 use Rattle.label.specs.declared.Label.{Label}
@@ -72,31 +70,31 @@ module _ (T : Tables) (Q : Query) where
   Ready ls row g = BoardedBy T Q ls row g.stop g.trip g.offset g.shift
 
   -- a boarding departs no sooner than a time
-  data Since (after : ℕ) : FreqBoard → Type 0 where
-    no_boarding : Since after Nothing
-    since : {b : BoardedRun} → after ≤ b.departure → Since after (Board b)
+  data Since (after : ℕ) : Option BoardedRun → Type 0 where
+    no_boarding : Since after None
+    since : {b : BoardedRun} → after ≤ b.departure → Since after (Some b)
 
   -- a trip is boarded no sooner than was asked
-  pub boards_after : (t o after : ℕ) (b : BoardedRun) → board_at T Q (delay_of Q t) t o after ≡ Board b → after ≤ b.departure
+  pub boards_after : (t o after : ℕ) (b : BoardedRun) → board_at T Q (delay_of Q t) t o after ≡ Some b → after ≤ b.departure
   unfolding board_at
   boards_after t o after b f = of (subst (Since after) f (go (no_windows T t) (ltb dep after) refl))
     where
       dep : ℕ
       dep = departure_now T Q (delay_of Q t) t o
 
-      of : Since after (Board b) → after ≤ b.departure
+      of : Since after (Some b) → after ≤ b.departure
       of (since h) = h
 
-      frequent : (y : FreqBoard) → earliest_freq_board (T.timetable.trip t).windows (trip_window T t) (departure T t 0) dep after ≡ y → Since after y
-      frequent Nothing e = no_boarding
-      frequent (Board c) e =
+      frequent : (y : Option BoardedRun) → earliest_freq_board (T.timetable.trip t).windows (trip_window T t) (departure T t 0) dep after ≡ y → Since after y
+      frequent None e = no_boarding
+      frequent (Some c) e =
           let E = board_is (trip_window T t) (departure T t 0) dep after (T.timetable.trip t).windows c e in
           since {b = c} (omega (arith, E.departs, E.boards.wanted))
 
       go : (x y : Bool) → ltb dep after ≡ y → Since after (elim x [
         | true ↦ elim y [
-          | true ↦ Nothing
-          | false ↦ Board (board_ordinary (departure T t o) dep after)
+          | true ↦ None
+          | false ↦ Some (board_ordinary (departure T t o) dep after)
         ]
         | false ↦ earliest_freq_board (T.timetable.trip t).windows (trip_window T t) (departure T t 0) dep after
       ])
@@ -400,11 +398,11 @@ module _ (T : Tables) (Q : Query) where
           go : ((c : Arrivals) → On c → On (take_transfers T Q stamp v x es c)) → (h : Bool) (z : Option (ℕ × BoardedRun)) → Found T Q e.offset (v + e.time) z
               → On (elim h [
                 | false ↦ take_transfers T Q stamp v x es b
-                | true ↦ elim z [ none ↦ take_transfers T Q stamp v x es b | some y ↦ take_transfers T Q stamp v x es (next y.0 y.1) ]
+                | true ↦ elim z [ None ↦ take_transfers T Q stamp v x es b | Some y ↦ take_transfers T Q stamp v x es (next y.0 y.1) ]
               ])
           go on false z F = on b O
-          go on true none F = on b O
-          go on true (some y) (found {t = t} {b = c} B f) =
+          go on true None F = on b O
+          go on true (Some y) (found {t = t} {b = c} B f) =
               let s = stop_at T t e.offset in
               let n = (boards_soon T Q D t e.offset B.trip B.inside B.after c B.boards).departs in
               on (next t c)
@@ -468,9 +466,9 @@ module _ (T : Tables) (Q : Query) where
           go false true on = on next (relax_on (edge_to T e) w l refl b walked O)
 
     -- how a listed departure is boarded, if it is: as the boarding from `after` on
-    data Takes (t o after : ℕ) : FreqBoard → Type 0 where
-      passed : Takes t o after Nothing
-      taken : {y : BoardedRun} → board_at T Q (delay_of Q t) t o after ≡ Board y → Takes t o after (Board y)
+    data Takes (t o after : ℕ) : Option BoardedRun → Type 0 where
+      passed : Takes t o after None
+      taken : {y : BoardedRun} → board_at T Q (delay_of Q t) t o after ≡ Some y → Takes t o after (Some y)
 
     boarding_takes : (stamp after t o : ℕ) (s : State) → Takes t o after (boarding T Q stamp after (delay_of Q t) t o s)
     unfolding boarding
@@ -478,24 +476,24 @@ module _ (T : Tables) (Q : Query) where
         go (((not (permitted T Q t) || pruned T Q (delay_of Q t) t o s.boardings) || no_pickup T t o) || skipped T Q (delay_of Q t) t o)
         (board_at T Q (delay_of Q t) t o after) refl
       where
-        last : (x : Bool) (y : BoardedRun) → Takes t o after (Board y) → Takes t o after (elim x [ true ↦ Nothing | false ↦ Board y ])
+        last : (x : Bool) (y : BoardedRun) → Takes t o after (Some y) → Takes t o after (elim x [ true ↦ None | false ↦ Some y ])
         last true y k = passed
         last false y k = k
 
-        go : (x : Bool) (y : FreqBoard) → board_at T Q (delay_of Q t) t o after ≡ y
+        go : (x : Bool) (y : Option BoardedRun) → board_at T Q (delay_of Q t) t o after ≡ y
             → Takes t o after (elim x [
-              | true ↦ Nothing
+              | true ↦ None
               | false ↦ elim y [
-                | Nothing ↦ Nothing
-                | Board b ↦ elim (leb s.arrivals.best b.departure || passed_over T Q stamp t o b.departure s.boardings) [
-                  | true ↦ Nothing
-                  | false ↦ Board b
+                | None ↦ None
+                | Some b ↦ elim (leb s.arrivals.best b.departure || passed_over T Q stamp t o b.departure s.boardings) [
+                  | true ↦ None
+                  | false ↦ Some b
                 ]
               ]
             ])
         go true y e = passed
-        go false Nothing e = passed
-        go false (Board b) e = last (leb s.arrivals.best b.departure || passed_over T Q stamp t o b.departure s.boardings) b (taken e)
+        go false None e = passed
+        go false (Some b) e = last (leb s.arrivals.best b.departure || passed_over T Q stamp t o b.departure s.boardings) b (taken e)
 
     -- a stop with listed departures is one of the timetable's
     lists_in : (x : ℕ) (d : DepartureRow) → Memᴰ d (departures_at T x) → x < stops T
@@ -529,19 +527,19 @@ module _ (T : Tables) (Q : Query) where
                 boardings = board T Q r stamp (delay_of Q d.trip) d.trip d.offset b.departure s.boardings;
               }
 
-          go : (y : Bool) (z : FreqBoard) → Takes d.trip d.offset after z
+          go : (y : Bool) (z : Option BoardedRun) → Takes d.trip d.offset after z
               → ((z : State) → On D stamp (omega arith) top a z.arrivals
               → On D stamp (omega arith) top a (scan_departures T Q flagged has_freq r stamp x after ds z).arrivals)
               → On D stamp (omega arith) top a (elim y as (λ w. State) [
                 | true ↦ s
                 | false ↦ elim z [
-                  | Nothing ↦ scan_departures T Q flagged has_freq r stamp x after ds s
-                  | Board b ↦ scan_departures T Q flagged has_freq r stamp x after ds (next b)
+                  | None ↦ scan_departures T Q flagged has_freq r stamp x after ds s
+                  | Some b ↦ scan_departures T Q flagged has_freq r stamp x after ds (next b)
                 ]
               ]).arrivals
           go true z k on = O
-          go false Nothing k on = on s O
-          go false (Board b) (taken e) on =
+          go false None k on = on s O
+          go false (Some b) (taken e) on =
               on (next b)
               (scan_on D stamp (omega arith) top a flagged (delay_of Q d.trip) b.time_shift_s d.trip x d.offset
               (listed (record {

@@ -5,9 +5,8 @@
 -- earlier time, where its departures are scanned later in the same round; it may even be the ride's own label, where a trip whose times fall
 -- comes back to the stop before it left.
 -- Assumes nothing; proofs/Joined proves it of every admitted answer. Definitions only.
-use Rattle.std.specs.Prelude.{ℕ, suc, ◌+◌, ◌≤◌, ◌<◌, ◌≡◌, List}
+use Rattle.std.specs.Prelude.{ℕ, suc, ◌+◌, ◌≤◌, ◌<◌, ◌≡◌, List, Some}
 use Rattle.frequency.specs.declared.BoardedRun.{BoardedRun}
-use Rattle.frequency.specs.declared.FreqBoard.TheVariants.{Board}
 use Rattle.label.specs.declared.Label.{Label}
 use Rattle.label.specs.declared.Label.TheVariants.{Transit}
 use Rattle.model.specs.Tables.{Tables, Query, change_before, stops}
@@ -31,7 +30,7 @@ pub record BoardedFrom (T : Tables) (Q : Query) (labels : List Label) (row x t o
   pub after : ℕ
   pub reaches : InTime labels row x (change_before Q r) after
   pub boarding : BoardedRun
-  pub boards : board_at T Q (delay_of Q t) t o after ≡ Board boarding
+  pub boards : board_at T Q (delay_of Q t) t o after ≡ Some boarding
   pub shift_is : shift ≡ boarding.time_shift_s
   pub departs : after ≤ boarding.departure
 
@@ -45,7 +44,7 @@ pub record Joined (T : Tables) (Q : Query) (labels : List Label) : Type 0 where
 pub record BoardedBy (T : Tables) (Q : Query) (labels : List Label) (row x t o shift : ℕ) : Type 0 where
   pub after : ℕ
   pub boarding : BoardedRun
-  pub boards : board_at T Q (delay_of Q t) t o after ≡ Board boarding
+  pub boards : board_at T Q (delay_of Q t) t o after ≡ Some boarding
   pub shift_is : shift ≡ boarding.time_shift_s
   pub reaches : InTime labels row x 0 boarding.departure
 

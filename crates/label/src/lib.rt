@@ -44,7 +44,7 @@ pub enum Label {
 
 // A label as the tables hold it: the kind, its fields in their order, unused ones 0, and the distance.
 #[repr(C)]
-#[derive(Clone, Copy)]
+#[derive(Clone, Copy, Default)]
 pub struct LabelRow {
     pub kind: u32,
     pub word1: u32,
@@ -57,157 +57,102 @@ pub struct LabelRow {
     pub distance: f64,
 }
 
-// The row of a label, a function for each kind.
-pub fn empty_row() -> LabelRow
-    ensures { result ≡ row_of Label.Empty }
-{
-    LabelRow {
-        kind: 0,
-        word1: 0,
-        word2: 0,
-        word3: 0,
-        word4: 0,
-        word5: 0,
-        word6: 0,
-        word7: 0,
-        distance: 0.0,
-    }
-}
-
-fn access_row(stop_idx: u32, arrival_s: u32, walk_duration: u32, walk_distance: f64) -> LabelRow
-    ensures { result ≡ row_of (Label.Access stop_idx arrival_s walk_duration walk_distance) }
-{
-    LabelRow {
-        kind: 1,
-        word1: stop_idx,
-        word2: arrival_s,
-        word3: walk_duration,
-        word4: 0,
-        word5: 0,
-        word6: 0,
-        word7: 0,
-        distance: walk_distance,
-    }
-}
-
-fn transit_row(
-    arrival_s: u32,
-    trip_idx: u32,
-    board_stop: u32,
-    board_off: u32,
-    alight_off: u32,
-    prev_round: u32,
-    time_shift_s: u32,
-) -> LabelRow
-    ensures { result
-        ≡ row_of (Label.Transit arrival_s trip_idx board_stop board_off alight_off prev_round time_shift_s) }
-{
-    LabelRow {
-        kind: 2,
-        word1: arrival_s,
-        word2: trip_idx,
-        word3: board_stop,
-        word4: board_off,
-        word5: alight_off,
-        word6: prev_round,
-        word7: time_shift_s,
-        distance: 0.0,
-    }
-}
-
-fn walk_row(
-    arrival_s: u32,
-    from_stop: u32,
-    to_stop: u32,
-    duration_s: u32,
-    distance_m: f64,
-    prev_round: u32,
-) -> LabelRow
-    ensures { result ≡ row_of (Label.Walk arrival_s from_stop to_stop duration_s distance_m prev_round) }
-{
-    LabelRow {
-        kind: 3,
-        word1: arrival_s,
-        word2: from_stop,
-        word3: to_stop,
-        word4: duration_s,
-        word5: prev_round,
-        word6: 0,
-        word7: 0,
-        distance: distance_m,
-    }
-}
-
 // A label's row.
-pub fn row_of(label: Label) -> LabelRow
-    ensures { result ≡ row_of label }
-{
-    match label {
-        Label::Empty => empty_row(),
-        Label::Access {
-            stop_idx,
-            arrival_s,
-            walk_duration,
-            walk_distance,
-        } => access_row(stop_idx, arrival_s, walk_duration, walk_distance),
-        Label::Transit {
-            arrival_s,
-            trip_idx,
-            board_stop: from,
-            board_off: on,
-            alight_off: off,
-            prev_round,
-            time_shift_s,
-        } => transit_row(arrival_s, trip_idx, from, on, off, prev_round, time_shift_s),
-        Label::Walk {
-            arrival_s,
-            from_stop: from,
-            to_stop: to,
-            duration_s,
-            distance_m,
-            prev_round,
-        } => walk_row(arrival_s, from, to, duration_s, distance_m, prev_round),
+impl From<Label> for LabelRow {
+    ghost from_gives = { λ x r. r ≡ row_of x };
+
+    fn from(label: Label) -> LabelRow {
+        match label {
+            Label::Empty => LabelRow::default(),
+            Label::Access {
+                stop_idx,
+                arrival_s,
+                walk_duration,
+                walk_distance,
+            } => LabelRow {
+                kind: 1,
+                word1: stop_idx,
+                word2: arrival_s,
+                word3: walk_duration,
+                distance: walk_distance,
+                ..LabelRow::default()
+            },
+            Label::Transit {
+                arrival_s,
+                trip_idx,
+                board_stop,
+                board_off,
+                alight_off,
+                prev_round,
+                time_shift_s,
+            } => LabelRow {
+                kind: 2,
+                word1: arrival_s,
+                word2: trip_idx,
+                word3: board_stop,
+                word4: board_off,
+                word5: alight_off,
+                word6: prev_round,
+                word7: time_shift_s,
+                ..LabelRow::default()
+            },
+            Label::Walk {
+                arrival_s,
+                from_stop,
+                to_stop,
+                duration_s,
+                distance_m,
+                prev_round,
+            } => LabelRow {
+                kind: 3,
+                word1: arrival_s,
+                word2: from_stop,
+                word3: to_stop,
+                word4: duration_s,
+                word5: prev_round,
+                distance: distance_m,
+                ..LabelRow::default()
+            },
+        }
     }
 }
 
 // A row's label, by its kind.
-pub fn label_of(r: LabelRow) -> Label
-    ensures { result ≡ label_of r }
-{
-    let kind = r.kind;
-    if kind == 1 {
-        return Label::Access {
-            stop_idx: r.word1,
-            arrival_s: r.word2,
-            walk_duration: r.word3,
-            walk_distance: r.distance,
-        };
+impl From<LabelRow> for Label {
+    ghost from_gives = { λ r x. x ≡ label_of r };
+
+    fn from(r: LabelRow) -> Label {
+        match r.kind {
+            1 => Label::Access {
+                stop_idx: r.word1,
+                arrival_s: r.word2,
+                walk_duration: r.word3,
+                walk_distance: r.distance,
+            },
+            2 => Label::Transit {
+                arrival_s: r.word1,
+                trip_idx: r.word2,
+                board_stop: r.word3,
+                board_off: r.word4,
+                alight_off: r.word5,
+                prev_round: r.word6,
+                time_shift_s: r.word7,
+            },
+            3 => Label::Walk {
+                arrival_s: r.word1,
+                from_stop: r.word2,
+                to_stop: r.word3,
+                duration_s: r.word4,
+                distance_m: r.distance,
+                prev_round: r.word5,
+            },
+            _ => Label::Empty,
+        }
     }
-    if kind == 2 {
-        return Label::Transit {
-            arrival_s: r.word1,
-            trip_idx: r.word2,
-            board_stop: r.word3,
-            board_off: r.word4,
-            alight_off: r.word5,
-            prev_round: r.word6,
-            time_shift_s: r.word7,
-        };
-    }
-    if kind == 3 {
-        return Label::Walk {
-            arrival_s: r.word1,
-            from_stop: r.word2,
-            to_stop: r.word3,
-            duration_s: r.word4,
-            distance_m: r.distance,
-            prev_round: r.word5,
-        };
-    }
-    Label::Empty
 }
 
 // A row is put at a record.
+#[tactic(auto, using(crate::proofs::Laws::eight), unfolding(crate::specs::Table::put_words, crate::specs::Table::put_distance))]
 fn put_row(r: LabelRow, labels: &mut [u32], label_distances: &mut [f64], record: usize)
     requires { InTable labels.old label_distances.old «record» }
     ensures labels_new { labels.new ≡ put_words r labels.old «record» }
@@ -250,15 +195,16 @@ pub fn store_label(label: Label, labels: &mut [u32], label_distances: &mut [f64]
     ensures labels_new { labels.new ≡ put_words (row_of label) labels.old «record» }
     ensures label_distances_new { label_distances.new ≡ put_distance (row_of label) label_distances.old «record» }
 {
-    put_row(row_of(label), labels, label_distances, record);
+    put_row(LabelRow::from(label), labels, label_distances, record);
 }
 
 // The label of a record.
+#[tactic(auto, unfolding(crate::specs::Table::loaded))]
 pub fn load_label(labels: &[u32], label_distances: &[f64], record: usize) -> Label
     requires { InTable labels.now label_distances.now «record» }
     ensures { result ≡ loaded labels.now label_distances.now «record» }
 {
-    label_of(get_row(labels, label_distances, record))
+    Label::from(get_row(labels, label_distances, record))
 }
 
 // The record of a stop's row.
@@ -266,15 +212,4 @@ pub fn record_of(stop: u32, row: u32) -> usize
     ensures { result ≡ record_of stop row }
 {
     13 * (stop as usize) + (row as usize)
-}
-
-// All distances become +0.0.
-pub fn zero_distances(label_distances: &mut [f64])
-    ensures { label_distances.new ≡ replicate (length label_distances.old) no_distance }
-{
-    let mut i: usize = 0;
-    while i < label_distances.len() {
-        label_distances[i] = 0.0;
-        i += 1;
-    }
 }

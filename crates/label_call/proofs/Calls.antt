@@ -46,6 +46,11 @@ module _ (S : Settings) (stops stop row : ℕ) (l : List ℕ) (d : List Float) w
       table_record stops stop row l d (eqb-true _ _ lengths.0) (eqb-true _ _ lengths.1)
       (ltb-true _ _ (ask_yes 3 (ltb stop stops) l5 e4)) (leb-true _ _ (ask_yes 4 (leb row 12) 0 (ask_later 3 (ltb stop stops) l5 e4)))
 
+  -- also where question 4 asks more than of the stop
+  pub in_table_too : (known more : Bool) → known ≡ (ltb stop stops && more) → place_code S known stops row (length l) (length d) ≡ 0 → InTable l d (record_of stop row)
+  in_table_too known more k e =
+      in_table (one_asked S (ltb stop stops) more stops row (length l) (length d) (ap (λ (b : Bool). place_code S b stops row (length l) (length d)) (sym k) ∙ e))
+
   -- a store's questions ask more than a load's
   pub load_admitted : (x : Label) → store_code S x stops stop row (length l) (length d) ≡ 0 → load_code S stops stop row (length l) (length d) ≡ 0
   load_admitted x e = one_asked S (ltb stop stops) (stops_below x stops) stops row (length l) (length d) e
@@ -97,6 +102,11 @@ module _ (S : Settings) (stops stop row : ℕ) (l : List ℕ) (d : List Float) w
     unfolding loaded
     load_made r e h =
         ap (λ (s : LabelRow). given_label (label_of s)) e ∙ at_place true (sym (ap (λ (s : LabelRow). leb s.kind 3) e) ∙ le-leb _ _ h)
+
+-- what a store's answer is made of, and a load's
+pub ruleset store_steps = (store_asked, store_refused, store_made)
+
+pub ruleset load_steps = (in_table, load_refused, load_no_kind, load_made)
 
 -- a stored label's kind is one
 kind_small : (x : Label) → (row_of x).kind ≤ 3

@@ -1,9 +1,11 @@
 -- What the calls answer, and what the slices hold then. Definitions only.
-use Rattle.std.specs.Prelude.{ℕ, zero, suc, Bool, true, ◌&&◌, List, length, leb, ltb, Float}
-use Rattle.door.specs.Door.{ask}
+use Rattle.std.specs.Prelude.{ℕ, zero, suc, Bool, true, ◌&&◌, Result, Ok, Err, List, length, leb, ltb, Float}
+use Rattle.door.specs.Door.{ask, number_of}
 use Rattle.door.specs.Settings.{settings_ok}
 use Rattle.door.specs.declared.Settings.{Settings}
+use Rattle.door.specs.declared.Refusal.{Refusal}
 use Rattle.label.specs.declared.Label.{Label}
+use Rattle.label.specs.declared.LabelRow.{LabelRow}
 use Rattle.label.specs.declared.Label.TheVariants.{Empty, Access, Transit, Walk}
 use Rattle.label_call.specs.declared.LabelAnswer.{LabelAnswer}
 use Rattle.label.specs.Label.{row_of}
@@ -51,6 +53,11 @@ store_outcome S x stops stop row l d = label_settle (store_code S x stops stop r
 -- a refused load gives an empty row
 abbrev pub refused_label : ℕ → LabelAnswer
 refused_label n = record { code = n; row = row_of Empty }
+
+-- a load's outcome, as a caller in C reads it
+abbrev pub label_of_outcome : Result LabelRow Refusal → LabelAnswer
+label_of_outcome (Ok r) = record { code = 0; row = r }
+label_of_outcome (Err q) = refused_label (number_of q)
 
 abbrev pub given_label : Label → LabelAnswer
 given_label x = record { code = 0; row = row_of x }

@@ -7,13 +7,14 @@
 #![tactic(auto)]
 
 ghost use Rattle.std.specs.Prelude.{◌≡◌};
+ghost use Rattle.door.specs.Door.{code_of};
 ghost use Rattle.label.specs.Table.{lengths_right};
-ghost use Rattle.label_call.specs.Calls.{stops_below, place_code, label_outcome, store_outcome, refused_label, load_answer};
+ghost use Rattle.label_call.specs.Calls.{stops_below, place_code, label_outcome, store_outcome, refused_label, label_of_outcome, load_answer};
 
-use door::Settings;
+use door::{Refusal, Settings};
 use label::{Label, LabelRow};
 
-// What `load` answers: code 0 with the row, or the number of the first no with an empty row.
+// What a caller in C reads of `load`: code 0 with the row, or the number of the first no with an empty row.
 #[repr(C)]
 #[derive(Clone, Copy)]
 pub struct LabelAnswer {
@@ -21,32 +22,41 @@ pub struct LabelAnswer {
     pub row: LabelRow,
 }
 
+impl From<Result<LabelRow, Refusal>> for LabelAnswer {
+    ghost from_gives = { λ r a. a ≡ label_of_outcome r };
+
+    fn from(outcome: Result<LabelRow, Refusal>) -> LabelAnswer {
+        match outcome {
+            Ok(row) => LabelAnswer { code: 0, row },
+            Err(question) => refused_label(u32::from(question)),
+        }
+    }
+}
+
 // Has each slice a place for every record of the stops, and no more?
 fn lengths_right(stops: u32, words: usize, numbers: usize) -> bool
     ensures { result ≡ lengths_right stops words numbers }
 {
     let records = (stops as usize) * 13;
-    door::both(words == records * 8, numbers == records)
+    words == records * 8 && numbers == records
 }
 
 // Questions 1, 14, 2, 4 and 5 about a stop's row, in slices of these lengths; `below` says whether the stop numbers are below the count.
-fn place(settings: Settings, below: bool, stops: u32, row: u32, words: usize, numbers: usize) -> u32
-    ensures { result ≡ place_code settings below stops row words numbers }
+#[tactic(auto, unfolding(crate::specs::Calls::place_code), using(door::proofs::Laws::not_within))]
+fn place(
+    settings: Settings,
+    below: bool,
+    stops: u32,
+    row: u32,
+    words: usize,
+    numbers: usize,
+) -> Result<(), Refusal>
+    ensures { code_of result ≡ place_code settings below stops row words numbers }
 {
-    let v = door::limits(stops <= 4096, settings);
-    if v != 0 {
-        return v;
-    }
-    if !lengths_right(stops, words, numbers) {
-        return 2;
-    }
-    if !below {
-        return 4;
-    }
-    if 12 < row {
-        return 5;
-    }
-    0
+    door::limits(stops <= 4096, settings)?;
+    door::ask(Refusal::Sizes, lengths_right(stops, words, numbers))?;
+    door::ask(Refusal::Numbers, below)?;
+    door::ask(Refusal::Ranges, row <= 12)
 }
 
 // A label is stored at its stop's row, or refused, and then nothing is written. `below` says whether the stop numbers in it are below
@@ -60,28 +70,25 @@ fn store(
     row: u32,
     labels: &mut [u32],
     label_distances: &mut [f64],
-) -> u32
+) -> Result<(), Refusal>
     requires { below ≡ stops_below label stops }
-    ensures { label_outcome result labels.new label_distances.new
+    ensures { label_outcome (code_of result) labels.new label_distances.new
         ≡ store_outcome settings label stops stop row labels.old label_distances.old }
 {
-    let known = door::both(stop < stops, below);
-    let code = place(
+    let known = stop < stops && below;
+    place(
         settings,
         known,
         stops,
         row,
         labels.len(),
         label_distances.len(),
-    );
-    if code != 0 {
-        return code;
-    }
+    )?;
     label::store_label(label, labels, label_distances, label::record_of(stop, row));
-    0
+    Ok(())
 }
 
-// An access label is stored; the code is the answer. Question 4 is also of its stop.
+// An access label is stored. Question 4 is also of its stop.
 pub fn store_access(
     settings: Settings,
     stops: u32,
@@ -93,8 +100,8 @@ pub fn store_access(
     walk_distance: f64,
     labels: &mut [u32],
     label_distances: &mut [f64],
-) -> u32
-    ensures { label_outcome result labels.new label_distances.new
+) -> Result<(), Refusal>
+    ensures { label_outcome (code_of result) labels.new label_distances.new
         ≡ store_outcome settings (Label.Access stop_idx arrival_s walk_duration walk_distance) stops stop row labels.old
         label_distances.old }
 {
@@ -116,7 +123,7 @@ pub fn store_access(
     )
 }
 
-// A ride's label is stored; the code is the answer. Question 4 is also of the stop where it was boarded.
+// A ride's label is stored. Question 4 is also of the stop where it was boarded.
 pub fn store_transit(
     settings: Settings,
     stops: u32,
@@ -131,8 +138,8 @@ pub fn store_transit(
     time_shift_s: u32,
     labels: &mut [u32],
     label_distances: &mut [f64],
-) -> u32
-    ensures { label_outcome result labels.new label_distances.new
+) -> Result<(), Refusal>
+    ensures { label_outcome (code_of result) labels.new label_distances.new
         ≡ store_outcome settings
         (Label.Transit arrival_s trip_idx board_stop board_off alight_off prev_round time_shift_s)
         stops stop row labels.old label_distances.old }
@@ -158,7 +165,7 @@ pub fn store_transit(
     )
 }
 
-// A walk's label is stored; the code is the answer. Question 4 is also of both its stops.
+// A walk's label is stored. Question 4 is also of both its stops.
 pub fn store_walk(
     settings: Settings,
     stops: u32,
@@ -172,8 +179,8 @@ pub fn store_walk(
     prev_round: u32,
     labels: &mut [u32],
     label_distances: &mut [f64],
-) -> u32
-    ensures { label_outcome result labels.new label_distances.new
+) -> Result<(), Refusal>
+    ensures { label_outcome (code_of result) labels.new label_distances.new
         ≡ store_outcome settings (Label.Walk arrival_s from_stop to_stop duration_s distance_m prev_round)
         stops stop row labels.old label_distances.old }
 {
@@ -185,7 +192,7 @@ pub fn store_walk(
         distance_m,
         prev_round,
     };
-    let below = door::both(from_stop < stops, to_stop < stops);
+    let below = from_stop < stops && to_stop < stops;
     store(
         settings,
         label,
@@ -201,11 +208,12 @@ pub fn store_walk(
 pub fn refused_label(code: u32) -> LabelAnswer
     ensures { result ≡ refused_label code }
 {
-    let row = label::empty_row();
+    let row = LabelRow::default();
     LabelAnswer { code, row }
 }
 
-// The label at a stop's row, as a row; 5 also for a kind above 3.
+// The label at a stop's row, as a row; question 5 is also of its kind.
+#[tactic(auto, using(crate::proofs::Calls::load_steps))]
 pub fn load(
     settings: Settings,
     stops: u32,
@@ -213,28 +221,19 @@ pub fn load(
     row: u32,
     labels: &[u32],
     label_distances: &[f64],
-) -> LabelAnswer
-    ensures { result ≡ load_answer settings stops stop row labels.now label_distances.now }
+) -> Result<LabelRow, Refusal>
+    ensures { label_of_outcome result ≡ load_answer settings stops stop row labels.now label_distances.now }
 {
-    let code = place(
+    place(
         settings,
         stop < stops,
         stops,
         row,
         labels.len(),
         label_distances.len(),
-    );
-    if code != 0 {
-        return refused_label(code);
-    }
+    )?;
     let record = label::record_of(stop, row);
     let r = label::get_row(labels, label_distances, record);
-    if 3 < r.kind {
-        return refused_label(5);
-    }
-    let found = label::row_of(label::label_of(r));
-    LabelAnswer {
-        code: 0,
-        row: found,
-    }
+    door::ask(Refusal::Ranges, r.kind <= 3)?;
+    Ok(LabelRow::from(Label::from(r)))
 }

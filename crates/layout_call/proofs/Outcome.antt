@@ -1,4 +1,4 @@
--- What a yes to each question of the call gives, and what the call answers by its questions.
+-- What a yes to each question of the call gives.
 use Prim.Native.Nat.{ℕ, zero, suc, ◌*◌, ◌≤◌}
 use mathlib.Core.Path.{◌≡◌, refl, ◌∙◌, sym, ap, ap₂}
 use mathlib.Core.Bool.{true, ◌&&◌}
@@ -32,23 +32,19 @@ limits_yes c lines n h =
     record { counts = counts_yes c x.one; few_lines = leb-true _ _ y.one; few_entries = leb-true _ _ y.two }
 
 -- 2
-pub record Sizes (t : List ℕ) (c : Counts) (lines n runs entries positions fifo : ℕ) : Type 0 where
-  pub slices : SlicesOk t c
+pub record Sizes (c : Counts) (lines n runs entries positions fifo : ℕ) : Type 0 where
   pub runs_is : runs ≡ lines * 2
   pub entries_is : entries ≡ n
   pub positions_is : positions ≡ c.trips
   pub fifo_is : fifo ≡ lines
 
-pub sizes_yes : (t : List ℕ) (c : Counts) (lines n runs entries positions fifo : ℕ) → slices_ok t c && layout_sizes_ok c lines n runs entries positions fifo ≡ true
-    → Sizes t c lines n runs entries positions fifo
+pub sizes_yes : (c : Counts) (lines n runs entries positions fifo : ℕ) → layout_sizes_ok c lines n runs entries positions fifo ≡ true → Sizes c lines n runs entries positions fifo
 unfolding layout_sizes_ok
-sizes_yes t c lines n runs entries positions fifo h =
-    let x = two (slices_ok t c) (layout_sizes_ok c lines n runs entries positions fifo) h in
-    let y = two (eqb runs (lines * 2) && eqb entries n) (eqb positions c.trips && eqb fifo lines) x.two in
+sizes_yes c lines n runs entries positions fifo h =
+    let y = two (eqb runs (lines * 2) && eqb entries n) (eqb positions c.trips && eqb fifo lines) h in
     let a = two (eqb runs (lines * 2)) (eqb entries n) y.one in
     let b = two (eqb positions c.trips) (eqb fifo lines) y.two in
     record {
-      slices = slices_yes t c x.one;
       runs_is = eqb-true _ _ a.one;
       entries_is = eqb-true _ _ a.two;
       positions_is = eqb-true _ _ b.one;
@@ -78,19 +74,11 @@ admitted S t c lines n runs entries s h =
     let q4 = two (numbers_ok t c) (entries_ok c entries n) (ask_yes 3 (numbers_ok t c && entries_ok c entries n) r5 h4) in
     let e5 = ask_yes 4 (ranges_ok t c) r6 h5 in
     let l = limits_yes c lines n e1 in
-    let z = sizes_yes t c lines n (length runs) (length entries) (length s.positions) (length s.fifo) e2 in
+    let q2 = two (slices_ok t c) sizes e2 in
+    let z = sizes_yes c lines n (length runs) (length entries) (length s.positions) (length s.fifo) q2.two in
     record {
-      sane = sane t c (and_left (counts_ok c) (leb lines 4096 && leb n 4096) e1) (and_left (slices_ok t c) sizes e2) q3.one q4.one e5;
+      sane = sane t c (and_left (counts_ok c) (leb lines 4096 && leb n 4096) e1) q2.one q3.one q4.one e5;
       listed = lines_listed c lines n runs entries l.few_lines l.few_entries z.runs_is z.entries_is q3.two q4.two;
       positions = z.positions_is;
       fifo = z.fifo_is;
     }
-
--- what the call answers and leaves, by what the questions gave
-module _ (t : List ℕ) (c : Counts) (lines : ℕ) (runs entries : List ℕ) (s : LayoutAreas) where
-  pub refused : (v w : ℕ) → v ≡ w → (v ≡ 0 → ⊥) → layout_outcome_of v s ≡ layout_settle w t c lines runs entries s
-  refused zero w e h = absurd (h refl)
-  refused (suc n) w e h = ap (λ (v : ℕ). layout_settle v t c lines runs entries s) e
-
-  pub answered : (v w : ℕ) (x : LayoutAreas) → v ≡ w → v ≡ 0 → x ≡ layout_made t c lines runs entries → layout_outcome_of v x ≡ layout_settle w t c lines runs entries s
-  answered v w x e z h = ap₂ layout_outcome_of z h ∙ ap (λ (k : ℕ). layout_settle k t c lines runs entries s) (sym z ∙ e)

@@ -6,13 +6,15 @@
 #![tactic(auto)]
 
 ghost use Rattle.std.specs.Prelude.{◌≡◌, ◌≤◌, length};
+ghost use Rattle.door.specs.Door.{code_of};
 ghost use Rattle.layout_call.specs.Call.{layout_areas, layout_sizes_ok, layout_verdict, layout_made, layout_outcome, layout_outcome_of};
 ghost use Rattle.layout_call.specs.Call.{LayoutAdmitted};
 
-use door::Settings;
+use door::{Refusal, Settings};
 use tables::Counts;
 
 // Question 2: is each slice as long as the counts say?
+#[tactic(auto, unfolding(crate::specs::Call::layout_sizes_ok))]
 fn sizes_ok(
     c: Counts,
     lines: usize,
@@ -25,11 +27,12 @@ fn sizes_ok(
     requires { lines ≤ 4096 }
     ensures { result ≡ layout_sizes_ok c lines n runs entries positions fifo }
 {
-    let a = door::both(runs == lines * 2, entries == n);
-    door::both(a, door::both(positions == c.trips, fifo == lines))
+    runs == lines * 2 && entries == n && positions == c.trips && fifo == lines
 }
 
-// The questions: the number of the first that is answered no, or 0.
+// The questions, in order: the first no refuses. One pass asks 4 and 5 of each row of the timetable; only where it finds a no are they asked
+// one by one.
+#[tactic(auto, unfolding(crate::specs::Call::layout_verdict), using(tables::proofs::Yes::counts_yes, tables::proofs::Yes::slices_yes, crate::proofs::Outcome::sizes_yes))]
 fn questions(
     settings: Settings,
     tables: &[u32],
@@ -40,34 +43,21 @@ fn questions(
     entries: &[u32],
     positions: usize,
     fifo: usize,
-) -> u32
-    ensures { result ≡ layout_verdict settings tables.now c lines n runs.now entries.now
+) -> Result<(), Refusal>
+    ensures { code_of result ≡ layout_verdict settings tables.now c lines n runs.now entries.now
         (layout_sizes_ok c lines n (length runs.now) (length entries.now) positions fifo) }
 {
-    let few = door::both(lines <= 4096, n <= 4096);
-    let no = door::limits(door::both(tables::counts_ok(c), few), settings);
-    if no != 0 {
-        return no;
-    }
+    door::limits(tables::counts_ok(c) && lines <= 4096 && n <= 4096, settings)?;
     let sized = sizes_ok(c, lines, n, runs.len(), entries.len(), positions, fifo);
-    if !door::both(tables::slices_ok(tables, c), sized) {
-        return 2;
-    }
+    door::ask(Refusal::Sizes, tables::slices_ok(tables, c) && sized)?;
     let within = line_layout::line_runs_ok(runs, lines, n);
-    if !door::both(tables::runs_ok(tables, c), within) {
-        return 3;
-    }
+    door::ask(Refusal::Runs, tables::runs_ok(tables, c) && within)?;
     let known = line_layout::entries_ok(c, entries, n);
-    if door::both(known, tables::rows_ok(tables, c)) {
-        if tables::order_ok(tables, c) {
-            return 0;
-        }
-        return 6;
+    if !(known && tables::rows_ok(tables, c)) {
+        door::ask(Refusal::Numbers, tables::numbers_ok(tables, c) && known)?;
+        return Err(Refusal::Ranges);
     }
-    if !door::both(tables::numbers_ok(tables, c), known) {
-        return 4;
-    }
-    5
+    door::ask(Refusal::Order, tables::order_ok(tables, c))
 }
 
 // What an admitted call writes.
@@ -89,8 +79,7 @@ fn lay_out(
 }
 
 // Positions and FIFO flags. `runs` are pairs (first entry, count), one a line; `entries` are trip numbers; `positions` takes
-// one number a trip, `fifo` one a line, 1 or 0. The answer is the number of the first question that is answered no, or 0. A
-// refusal leaves both slices as they came.
+// one number a trip, `fifo` one a line, 1 or 0. A refusal leaves both slices as they came.
 pub fn line_layout(
     settings: Settings,
     tables: &[u32],
@@ -101,12 +90,12 @@ pub fn line_layout(
     entries: &[u32],
     positions: &mut [u32],
     fifo: &mut [u32],
-) -> u32
-    ensures { layout_outcome_of result (layout_areas positions.new fifo.new)
+) -> Result<(), Refusal>
+    ensures { layout_outcome_of (code_of result) (layout_areas positions.new fifo.new)
         ≡ layout_outcome settings tables.now c lines entry_count runs.now entries.now
         (layout_areas positions.old fifo.old) }
 {
-    let v = questions(
+    questions(
         settings,
         tables,
         c,
@@ -116,10 +105,7 @@ pub fn line_layout(
         entries,
         positions.len(),
         fifo.len(),
-    );
-    if v != 0 {
-        return v;
-    }
+    )?;
     lay_out(tables, c, lines, runs, entries, positions, fifo);
-    v
+    Ok(())
 }

@@ -10,21 +10,23 @@
 #![tactic(auto)]
 
 ghost use Rattle.std.specs.Prelude.{◌≡◌, true};
+ghost use Rattle.door.specs.Door.{answer_of};
 ghost use Rattle.leaf_calls.specs.ClockCall.{clock_in_range, reading, service_second};
 ghost use Rattle.leaf_calls.specs.StopDelayCall.{time_in_range, departure_outcome, arrival_outcome, skipped_outcome};
 ghost use Rattle.leaf_calls.specs.WalkCall.{walk_in_range, walk_duration, rounds_answer};
 
-use door::{Answer, Settings};
+use door::{Refusal, Settings};
 use stop_delay::StopDelay;
 
 // Is this a clock reading?
 fn clock_in_range(hour: u32, minute: u32, second: u32) -> bool
     ensures { result ≡ clock_in_range hour minute second }
 {
-    door::both(door::both(hour <= 47, minute <= 59), second <= 59)
+    hour <= 47 && minute <= 59 && second <= 59
 }
 
 // The seconds of a clock reading.
+#[tactic(auto, using(crate::proofs::Clock::ranges))]
 fn reading(hour: u32, minute: u32, second: u32) -> u32
     requires { clock_in_range hour minute second ≡ true }
     ensures { result ≡ reading hour minute second }
@@ -32,24 +34,25 @@ fn reading(hour: u32, minute: u32, second: u32) -> u32
     3600 * hour + 60 * minute + second
 }
 
-// The service second of a clock reading; 5 if it is none.
-pub fn service_second(settings: Settings, hour: u32, minute: u32, second: u32) -> Answer
-    ensures { result ≡ service_second settings hour minute second }
+// The service second of a clock reading; refused by question 5 if it is none.
+pub fn service_second(
+    settings: Settings,
+    hour: u32,
+    minute: u32,
+    second: u32,
+) -> Result<u32, Refusal>
+    ensures { answer_of result ≡ service_second settings hour minute second }
 {
-    let v = door::ranges(settings, clock_in_range(hour, minute, second));
-    if v != 0 {
-        return door::refused(v);
-    }
-    door::given(reading(hour, minute, second))
+    door::ranges(settings, clock_in_range(hour, minute, second))?;
+    Ok(reading(hour, minute, second))
 }
 
 // Question 5 of an effective time.
 fn time_in_range(time: u32, flags: u32, trip_delay: u32, own: u32) -> bool
     ensures { result ≡ time_in_range time flags trip_delay own }
 {
-    let codes = door::both(time <= door::TIME_LIMIT, flags <= 7);
-    let sizes = door::both(stop_delay::size_ok(trip_delay), stop_delay::size_ok(own));
-    door::both(codes, sizes)
+    (time <= door::TIME_LIMIT && flags <= 7)
+        && (stop_delay::size_ok(trip_delay) && stop_delay::size_ok(own))
 }
 
 // Questions 14 and 5, then the effective departure.
@@ -59,23 +62,20 @@ pub fn effective_departure(
     trip_delay: u32,
     flags: u32,
     departure_delay: u32,
-) -> door::Answer
-    ensures { result ≡ departure_outcome settings departure trip_delay flags departure_delay }
+) -> Result<u32, Refusal>
+    ensures { answer_of result ≡ departure_outcome settings departure trip_delay flags departure_delay }
 {
-    let v = door::ranges(
+    door::ranges(
         settings,
         time_in_range(departure, flags, trip_delay, departure_delay),
-    );
-    if v != 0 {
-        return door::refused(v);
-    }
+    )?;
     let d = StopDelay {
-        trip_delay: trip_delay,
-        flags: flags,
-        departure_delay: departure_delay,
+        trip_delay,
+        flags,
+        departure_delay,
         arrival_delay: 0,
     };
-    door::given(stop_delay::rt_effective_dep_s(departure, d))
+    Ok(stop_delay::rt_effective_dep_s(departure, d))
 }
 
 // Questions 14 and 5, then the effective arrival.
@@ -86,78 +86,56 @@ pub fn effective_arrival(
     trip_delay: u32,
     flags: u32,
     arrival_delay: u32,
-) -> door::Answer
-    ensures { result ≡ arrival_outcome settings arrival time_shift_s trip_delay flags arrival_delay }
+) -> Result<u32, Refusal>
+    ensures { answer_of result ≡ arrival_outcome settings arrival time_shift_s trip_delay flags arrival_delay }
 {
     let ranged = time_in_range(arrival, flags, trip_delay, arrival_delay);
-    let v = door::ranges(
-        settings,
-        door::both(ranged, stop_delay::size_ok(time_shift_s)),
-    );
-    if v != 0 {
-        return door::refused(v);
-    }
+    door::ranges(settings, ranged && stop_delay::size_ok(time_shift_s))?;
     let d = StopDelay {
-        trip_delay: trip_delay,
-        flags: flags,
+        trip_delay,
+        flags,
         departure_delay: 0,
-        arrival_delay: arrival_delay,
+        arrival_delay,
     };
-    door::given(stop_delay::rt_effective_arr_s(arrival, time_shift_s, d))
+    Ok(stop_delay::rt_effective_arr_s(arrival, time_shift_s, d))
 }
 
 // Questions 14 and 5, then 1 if the stop is skipped, else 0.
-pub fn skipped(settings: Settings, flags: u32) -> door::Answer
-    ensures { result ≡ skipped_outcome settings flags }
+pub fn skipped(settings: Settings, flags: u32) -> Result<u32, Refusal>
+    ensures { answer_of result ≡ skipped_outcome settings flags }
 {
-    let v = door::ranges(settings, flags <= 7);
-    if v != 0 {
-        return door::refused(v);
-    }
+    door::ranges(settings, flags <= 7)?;
     let d = StopDelay {
-        trip_delay: 0,
-        flags: flags,
-        departure_delay: 0,
-        arrival_delay: 0,
+        flags,
+        ..stop_delay::no_delay()
     };
-    if stop_delay::is_skipped(d) {
-        return door::given(1);
-    }
-    door::given(0)
+    Ok(u32::from(stop_delay::is_skipped(d)))
 }
 
 // Question 5 of a walk.
 fn walk_in_range(duration: u32, pathway_mode: u32, wheelchair: u32) -> bool
     ensures { result ≡ walk_in_range duration pathway_mode wheelchair }
 {
-    door::both(
-        door::both(duration <= door::TIME_LIMIT, pathway_mode <= 7),
-        wheelchair <= 1,
-    )
+    duration <= door::TIME_LIMIT && pathway_mode <= 7 && wheelchair <= 1
 }
 
-// The duration of a walk in a query; 5 if a number is out of its range.
+// The duration of a walk in a query; refused by question 5 if a number is out of its range.
 pub fn walk_duration(
     settings: Settings,
     duration: u32,
     pathway_mode: u32,
     wheelchair: u32,
-) -> Answer
-    ensures { result ≡ walk_duration settings duration pathway_mode wheelchair }
+) -> Result<u32, Refusal>
+    ensures { answer_of result ≡ walk_duration settings duration pathway_mode wheelchair }
 {
-    let v = door::ranges(settings, walk_in_range(duration, pathway_mode, wheelchair));
-    if v != 0 {
-        return door::refused(v);
-    }
-    door::given(walk_time::effective_duration_s(duration, pathway_mode, wheelchair == 1))
+    door::ranges(settings, walk_in_range(duration, pathway_mode, wheelchair))?;
+    Ok(walk_time::effective_duration_s(duration, pathway_mode, wheelchair == 1))
 }
 
 // The rounds of a query, behind question 14.
-pub fn max_rounds(settings: Settings, wanted: u32, transfers: u32) -> Answer
-    ensures { result ≡ rounds_answer settings wanted transfers }
+pub fn max_rounds(settings: Settings, wanted: u32, transfers: u32) -> Result<u32, Refusal>
+    ensures { answer_of result ≡ rounds_answer settings wanted transfers }
 {
-    if !door::settings_ok(settings) {
-        return door::refused(14);
-    }
-    door::given(walk_time::tbr_max_rounds(wanted, transfers))
+    door::ask(Refusal::Settings, door::settings_ok(settings))?;
+    Ok(walk_time::tbr_max_rounds(wanted, transfers))
 }

@@ -4,7 +4,8 @@ use mathlib.Core.Path.{◌≡◌, refl, ◌∙◌, sym, ap}
 use mathlib.Core.Bool.{Bool, true, false}
 use mathlib.Core.List.{List}
 use native.Mathlib.Numerals.{add-one}
-use lib.ListN.{length, get_or, set, length-set}
+use native.Mathlib.Omega.{arith}
+use lib.ListN.{length, get_or, set, length-set, replicate, length-replicate, get_or-replicate}
 use lib.Seq.{get_or-set_same, get_or-set_other}
 use lib.Dec.{eqb}
 use borrow.Author.Tests.{eqb-true, eqb-false, eq-eqb, ne_eqb}
@@ -28,6 +29,11 @@ set_tab f g n i v u e h = tab_is g n (set (tab f n) i v) (length-set (tab f n) i
     go k x false q =
         let r = eqb-false k i q in
         get_or-set_other (tab f n) i k v 0 r ∙ get_d_tab f n k 0 x ∙ sym (h k r)
+
+-- as if no trip were listed
+pub all_unlisted : (s : List ℕ) (n m : ℕ) → s ≡ replicate n unlisted → n ≡ m → s ≡ tab (λ a. unlisted) m
+all_unlisted s n m e f =
+    tab_is (λ a. unlisted) m s (ap length e ∙ length-replicate n unlisted ∙ f) (λ k u. ap (λ (l : List ℕ). get_or l k 0) e ∙ get_or-replicate n k unlisted 0 (omega arith))
 
 -- a run as it begins, and one place on
 pub placed_none : (entries : List ℕ) (first : ℕ) (s : List ℕ) (n : ℕ) → length s ≡ n → s ≡ tab (placed (trips_in entries (run first 0)) s) n

@@ -9,8 +9,8 @@
 // Assumes nothing.
 #![tactic(auto)]
 
-ghost use Rattle.std.specs.Prelude.{◌≡◌, ◌+◌, ◌*◌, ◌-◌, ◌≤◌, ◌<◌, eqb, length, get_or, set};
-ghost use Rattle.loops.specs.Count.{tab, one};
+ghost use Rattle.std.specs.Prelude.{◌≡◌, ◌+◌, ◌*◌, ◌-◌, ◌≤◌, ◌<◌, eqb, length, get_or};
+ghost use Rattle.loops.specs.Count.{tab};
 ghost use Rattle.loops.specs.Iter.{every_in};
 ghost use Rattle.tables.specs.Tables.{windows_of, stop_time_at};
 ghost use Rattle.tables.specs.Timetable.{timetable};
@@ -35,12 +35,13 @@ fn line_run(runs: &[u32], l: usize) -> LineRun
     ensures count { result.count < 4294967296 }
 {
     LineRun {
-        first: words::field(runs, l * 2),
-        count: words::field(runs, l * 2 + 1),
+        first: runs[l * 2] as usize,
+        count: runs[l * 2 + 1] as usize,
     }
 }
 
 // Question 3 of one line: does its run lie in the n entries?
+#[tactic(auto, unfolding(crate::specs::Listed::line_run_in))]
 fn run_in(r: LineRun, n: usize) -> bool
     requires first_bound { r.first < 4294967296 }
     requires count_bound { r.count < 4294967296 }
@@ -54,14 +55,7 @@ pub fn line_runs_ok(runs: &[u32], lines: usize, n: usize) -> bool
     requires { length runs.now ≡ lines * 2 }
     ensures { result ≡ line_runs_ok runs.now lines n }
 {
-    let mut l: usize = 0;
-    while l < lines {
-        if !run_in(line_run(runs, l), n) {
-            return false;
-        }
-        l += 1;
-    }
-    true
+    (0..lines).all(|l| run_in(line_run(runs, l), n))
 }
 
 // Question 4 of every entry: is its trip below the count?
@@ -69,52 +63,18 @@ pub fn entries_ok(c: Counts, entries: &[u32], n: usize) -> bool
     requires { length entries.now ≡ n }
     ensures { result ≡ entries_ok c entries.now n }
 {
-    let trips = c.trips;
-    let mut p: usize = 0;
-    while p < n {
-        if trips <= words::field(entries, p) {
-            return false;
-        }
-        p += 1;
-    }
-    true
+    (0..n).all(|p| (entries[p] as usize) < c.trips)
 }
 
-// As if no trip were listed.
-fn clear_positions(positions: &mut [u32])
-    ensures { positions.new ≡ tab (λ a. unlisted) (length positions.old) }
-{
-    let mut i: usize = 0;
-    while i < positions.len() {
-        positions[i] = 4294967295;
-        i += 1;
-    }
-}
-
-// The trip at place p of a run has that position, until it is listed again.
-fn place_at(entries: &[u32], first: usize, positions: &mut [u32], p: usize)
-    requires first_bound { first + p < length entries.now }
-    requires entries_word { get_or entries.now (first + p) 0 < length positions.old }
-    requires p_bound { p ≤ 4096 }
-    ensures { positions.new ≡ set positions.old (get_or entries.now (first + p) 0) p }
-{
-    let trip = words::field(entries, first + p);
-    positions[trip] = p as u32;
-}
-
-// The trips of a run.
+// The trips of a run: each has its place there as its position, until it is listed again.
 fn place_run(c: Counts, entries: &[u32], positions: &mut [u32], r: LineRun)
     requires entries_listed { EntriesListed c entries.now }
     requires positions_length { length positions.old ≡ c.trips }
     requires first_bound { r.first + r.count ≤ length entries.now }
     ensures { positions.new ≡ tab (placed (trips_in entries.now r) positions.old) c.trips }
 {
-    let first = r.first;
-    let n = r.count;
-    let mut p: usize = 0;
-    while p < n {
-        place_at(entries, first, positions, p);
-        p += 1;
+    for p in 0..r.count {
+        positions[entries[r.first + p] as usize] = p as u32;
     }
 }
 
@@ -124,30 +84,30 @@ fn place_lines(c: Counts, lines: usize, runs: &[u32], entries: &[u32], positions
     requires positions_is { positions.old ≡ tab (λ a. unlisted) c.trips }
     ensures { positions.new ≡ positions_of c lines runs.now entries.now }
 {
-    let mut l: usize = 0;
-    while l < lines {
+    for l in 0..lines {
         place_run(c, entries, positions, line_run(runs, l));
-        l += 1;
     }
 }
 
-// Each trip's position in its line.
+// Each trip's position in its line; at first as if no trip were listed.
 pub fn line_positions(c: Counts, lines: usize, runs: &[u32], entries: &[u32], positions: &mut [u32])
     requires lines_listed { LinesListed c lines runs.now entries.now }
     requires positions_length { length positions.old ≡ c.trips }
     ensures { positions.new ≡ positions_of c lines runs.now entries.now }
 {
-    clear_positions(positions);
+    positions.fill(u32::MAX);
     place_lines(c, lines, runs, entries, positions);
 }
 
 // From a trip's stop time to the next trip's: does no time fall, and are the codes equal?
+#[tactic(auto, unfolding(crate::specs::Layout::in_order))]
 fn in_order(p: StopTimeRow, q: StopTimeRow) -> bool
     ensures { result ≡ in_order p q }
 {
-    let a = door::both(p.arrival <= q.arrival, p.departure <= q.departure);
-    let b = door::both(p.pickup == q.pickup, p.drop_off == q.drop_off);
-    door::both(a, b)
+    p.arrival <= q.arrival
+        && p.departure <= q.departure
+        && p.pickup == q.pickup
+        && p.drop_off == q.drop_off
 }
 
 // Of n stop times from x on, against those from y on.
@@ -157,17 +117,10 @@ fn times_in_order(tables: &[u32], c: Counts, x: usize, y: usize, n: usize) -> bo
     requires y_bound { y + n ≤ c.times }
     ensures { result ≡ every_in (λ k. in_order (stop_time_at tables.now (x + k)) (stop_time_at tables.now (y + k))) 0 n }
 {
-    let mut k: usize = 0;
-    while k < n {
-        if !in_order(
-            tables::stop_time_row(tables, c, x + k),
-            tables::stop_time_row(tables, c, y + k),
-        ) {
-            return false;
-        }
-        k += 1;
-    }
-    true
+    (0..n).all(|k| in_order(
+        tables::stop_time_row(tables, c, x + k),
+        tables::stop_time_row(tables, c, y + k),
+    ))
 }
 
 fn no_windows(tables: &[u32], c: Counts, a: usize) -> bool
@@ -179,22 +132,20 @@ fn no_windows(tables: &[u32], c: Counts, a: usize) -> bool
 }
 
 // May trip b stand after trip a in a FIFO line?
+#[tactic(auto, unfolding(crate::specs::Layout::neighbours))]
 fn neighbours_ok(tables: &[u32], c: Counts, a: usize, b: usize) -> bool
     requires sane { Sane tables.now c }
     requires a_bound { a < c.trips }
     requires b_bound { b < c.trips }
     ensures { result ≡ neighbours (timetable tables.now c) a b }
 {
-    if !door::both(no_windows(tables, c, a), no_windows(tables, c, b)) {
-        return false;
-    }
     let n = tables::trip(tables, c, a, 1);
-    if n != tables::trip(tables, c, b, 1) {
-        return false;
-    }
     let x = tables::trip(tables, c, a, 0);
     let y = tables::trip(tables, c, b, 0);
-    times_in_order(tables, c, x, y, n)
+    no_windows(tables, c, a)
+        && no_windows(tables, c, b)
+        && n == tables::trip(tables, c, b, 1)
+        && times_in_order(tables, c, x, y, n)
 }
 
 // Of all neighbours of a run.
@@ -205,40 +156,27 @@ fn run_in_order(tables: &[u32], c: Counts, entries: &[u32], first: usize, n: usi
     ensures { result ≡ every_in (λ p. neighbours (timetable tables.now c) (get_or entries.now (first + (p - 1)) 0)
         (get_or entries.now (first + p) 0)) 1 n }
 {
-    let mut p: usize = 1;
-    while p < n {
-        let a = words::field(entries, first + (p - 1));
-        let b = words::field(entries, first + p);
-        if !neighbours_ok(tables, c, a, b) {
-            return false;
-        }
-        p += 1;
-    }
-    true
+    (1..n).all(|p| neighbours_ok(
+        tables,
+        c,
+        entries[first + (p - 1)] as usize,
+        entries[first + p] as usize,
+    ))
 }
 
 // Is a run FIFO?
+#[tactic(auto, unfolding(crate::specs::Layout::fifo_line))]
 fn run_fifo(tables: &[u32], c: Counts, entries: &[u32], r: LineRun) -> bool
     requires sane { Sane tables.now c }
     requires entries_listed { EntriesListed c entries.now }
     requires first_bound { r.first + r.count ≤ length entries.now }
     ensures { result ≡ fifo_line (timetable tables.now c) (trips_in entries.now r) }
 {
-    let first = r.first;
-    let n = r.count;
-    if n == 0 {
-        return true;
+    if r.count == 1 {
+        no_windows(tables, c, entries[r.first] as usize)
+    } else {
+        run_in_order(tables, c, entries, r.first, r.count)
     }
-    if n == 1 {
-        return no_windows(tables, c, words::field(entries, first));
-    }
-    run_in_order(tables, c, entries, first, n)
-}
-
-fn flag(b: bool) -> u32
-    ensures { result ≡ one b }
-{
-    if b { 1 } else { 0 }
 }
 
 // A line's FIFO flag.
@@ -248,7 +186,7 @@ fn fifo_at(tables: &[u32], c: Counts, lines: usize, runs: &[u32], entries: &[u32
     requires l_bound { l < lines }
     ensures { result ≡ fifo_of (timetable tables.now c) runs.now entries.now l }
 {
-    flag(run_fifo(tables, c, entries, line_run(runs, l)))
+    u32::from(run_fifo(tables, c, entries, line_run(runs, l)))
 }
 
 // Each line's FIFO flag.
@@ -265,9 +203,7 @@ pub fn line_fifo(
     requires fifo_length { length fifo.old ≡ lines }
     ensures { fifo.new ≡ fifos_of (timetable tables.now c) lines runs.now entries.now }
 {
-    let mut l: usize = 0;
-    while l < fifo.len() {
+    for l in 0..lines {
         fifo[l] = fifo_at(tables, c, lines, runs, entries, l);
-        l += 1;
     }
 }

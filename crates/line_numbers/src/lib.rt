@@ -7,7 +7,7 @@
 // Assumes nothing.
 #![tactic(auto)]
 
-ghost use Rattle.std.specs.Prelude.{◌≡◌, ◌+◌, ◌≤◌, ◌<◌, length, get_or};
+ghost use Rattle.std.specs.Prelude.{◌≡◌, ◌+◌, ◌≤◌, ◌<◌, length};
 ghost use Rattle.loops.specs.Count.{tab};
 ghost use Rattle.loops.specs.Iter.{every_in, range};
 ghost use Rattle.tables.specs.Timetable.{timetable};
@@ -25,17 +25,11 @@ fn same_run(tables: &[u32], c: Counts, x: usize, y: usize, n: usize) -> bool
     requires y_bound { y + n ≤ c.times }
     ensures { result ≡ every_in (run_same (timetable tables.now c) x y) 0 n }
 {
-    let mut k: usize = 0;
-    while k < n {
-        if tables::time(tables, c, x + k, 0) != tables::time(tables, c, y + k, 0) {
-            return false;
-        }
-        k += 1;
-    }
-    true
+    (0..n).all(|k| tables::time(tables, c, x + k, 0) == tables::time(tables, c, y + k, 0))
 }
 
 // Have two trips the same stops in the same order?
+#[tactic(auto, unfolding(crate::specs::Lines::same))]
 fn same_stops(tables: &[u32], c: Counts, a: usize, b: usize) -> bool
     requires sane { Sane tables.now c }
     requires a_bound { a < c.trips }
@@ -44,12 +38,9 @@ fn same_stops(tables: &[u32], c: Counts, a: usize, b: usize) -> bool
 {
     let n = tables::trip(tables, c, a, 1);
     let m = tables::trip(tables, c, b, 1);
-    if n != m {
-        return false;
-    }
     let x = tables::trip(tables, c, a, 0);
     let y = tables::trip(tables, c, b, 0);
-    same_run(tables, c, x, y, n)
+    n == m && same_run(tables, c, x, y, n)
 }
 
 // The key of n stop times from x on, made of their stops.
@@ -61,15 +52,14 @@ fn key_run(tables: &[u32], c: Counts, x: usize, n: usize) -> usize
     ensures bound { result < 4294967296 }
 {
     let mut h: usize = 0;
-    let mut k: usize = 0;
-    while k < n {
+    for k in 0..n {
         h = (h * 1000003 + tables::time(tables, c, x + k, 0) + 1) % 4294967296;
-        k += 1;
     }
     h
 }
 
 // The bucket of a trip.
+#[tactic(auto, unfolding(crate::specs::Grouping::bucket_of, crate::specs::Grouping::key_of))]
 fn bucket(tables: &[u32], c: Counts, i: usize) -> usize
     requires sane { Sane tables.now c }
     requires i_bound { i < c.trips }
@@ -80,15 +70,7 @@ fn bucket(tables: &[u32], c: Counts, i: usize) -> usize
     key_run(tables, c, x, n) * 1000003 % 4294967296 / 65536 % c.trips
 }
 
-// One number of a chain.
-fn link(s: &[u64], i: usize) -> usize
-    requires { i < length s.now }
-    ensures { result ≡ get_or s.now i 0 }
-{
-    s[i] as usize
-}
-
-// Which of the first n lines has trip i's stops? n where none has. Only the lines of i's bucket, b, are looked at.
+// Which of the first n lines has trip i's stops, if one has? Only the lines of i's bucket, b, are looked at.
 fn find_line(
     tables: &[u32],
     c: Counts,
@@ -98,7 +80,7 @@ fn find_line(
     n: usize,
     i: usize,
     b: usize,
-) -> usize
+) -> Option<usize>
     requires sane { Sane tables.now c }
     requires leads { Leads (timetable tables.now c) leads.now n i }
     requires chained { Chained (timetable tables.now c) leads.now work.now other.now n }
@@ -106,18 +88,19 @@ fn find_line(
     requires b_is { b ≡ bucket_of (timetable tables.now c) i }
     ensures { result ≡ found_line (timetable tables.now c) leads.now n i }
 {
-    let mut l = link(work, b);
+    let mut l = work[b] as usize;
     while l != 0 {
         let k = l - 1;
-        if same_stops(tables, c, words::field(leads, k), i) {
-            return k;
+        if same_stops(tables, c, leads[k] as usize, i) {
+            return Some(k);
         }
-        l = link(other, k);
+        l = other[k] as usize;
     }
-    n
+    None
 }
 
 // Trip i joins its line, or is the first of a new one. How many lines there are then.
+#[tactic(auto, using(crate::proofs::Chain::bucket_below))]
 fn place(
     tables: &[u32],
     c: Counts,
@@ -135,16 +118,19 @@ fn place(
         (i + 1) }
 {
     let b = bucket(tables, c, i);
-    let l = find_line(tables, c, leads, work, other, n, i, b);
-    if l < n {
-        lines[i] = l as u32;
-        return n;
+    match find_line(tables, c, leads, work, other, n, i, b) {
+        Some(l) => {
+            lines[i] = l as u32;
+            n
+        }
+        None => {
+            lines[i] = n as u32;
+            leads[n] = i as u32;
+            other[n] = work[b];
+            work[b] = (n + 1) as u64;
+            n + 1
+        }
     }
-    lines[i] = n as u32;
-    leads[n] = i as u32;
-    other[n] = work[b];
-    work[b] = (n + 1) as u64;
-    n + 1
 }
 
 // Each trip's line, and how many lines there are.
@@ -164,13 +150,10 @@ pub fn number_lines(
     ensures lines_new { lines.new ≡ tab (line_of (timetable tables.now c)) c.trips }
     ensures value { result ≡ lines_of (timetable tables.now c) }
 {
-    words::clear_keys(work);
-    let trips = c.trips;
+    work.fill(0);
     let mut n: usize = 0;
-    let mut i: usize = 0;
-    while i < trips {
+    for i in 0..c.trips {
         n = place(tables, c, lines, leads, work, other, n, i);
-        i += 1;
     }
     n
 }

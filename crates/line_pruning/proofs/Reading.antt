@@ -3,6 +3,7 @@ use Prim.Native.Nat.{ℕ, zero, suc, ◌+◌, ◌*◌, ◌-◌, ◌≤◌, ◌<�
 use mathlib.Core.Path.{◌≡◌, refl, sym, ap, ap₂, ◌∙◌}
 use mathlib.Core.Bool.{Bool, true, false, cond, not, ◌&&◌, ◌||◌}
 use mathlib.Core.List.{List, ◌∷◌}
+use Rattle.std.specs.Prelude.{Option, None, Some, is_some}
 use native.Mathlib.Omega.{arith}
 use lib.ListN.{get_or, set}
 use lib.Dec.{ltb, eqb}
@@ -10,6 +11,7 @@ use borrow.Author.Tests.{eq-eqb, ne_eqb, lt-ltb, le-ltb}
 use Rattle.loops.specs.Count.{one}
 use Rattle.loops.specs.Iter.{Hit}
 use Rattle.tables.specs.declared.Counts.{Counts}
+use Rattle.trip_boarding.specs.Reads.{hit_of}
 use Rattle.line_layout.specs.Layout.{fifo_line}
 use Rattle.query_types.specs.declared.Lay.{Lay}
 use Rattle.search_state.specs.Part.{part}
@@ -97,6 +99,16 @@ module _ (lay : Lay) (w : List ℕ) (p o first : ℕ) where
             };
           }
 
+pub never : false ≡ true → ⊥
+never e = let z : one false ≡ one true = ap one e in omega (arith, z)
+
+-- no delay row
+pub undelayed_is : (adj : Option ℕ) (r : Bool) → is_some adj ≡ not r → r ≡ undelayed (hit_of adj)
+undelayed_is None true e = refl
+undelayed_is None false e = absurd (never e)
+undelayed_is (Some i) false e = refl
+undelayed_is (Some i) true e = absurd (never (sym e))
+
 -- line pruning
 module _ (T : Tables) (Q : Query) (lay : Lay) (c : Counts) (built w : List ℕ) (adj : Hit) (t l : ℕ) (ag : Agrees T lay c built w) (ht : t < lay.trips) (el : l ≡ get_or built t 0) where
   prunable_as : (b : Bool) → fifo T l ≡ b → (undelayed adj && b) ≡ prunable T Q adj t
@@ -157,11 +169,10 @@ module _ (T : Tables) (Q : Query) (lay : Lay) (stamp : ℕ) (w : List ℕ) (b : 
       sym (ap (λ (x : Bool). x && not (ltb dep (get_or w (boarded_departures_at lay + t) 0) || (eqb dep (get_or w (boarded_departures_at lay + t) 0) && ltb o (get_or w (boarded_offsets_at lay + t) 0))))
       (ne_eqb (get_or w (trip_stamps_at lay + t) 0) stamp (λ e. n (read_at w t a (trip_stamps_at lay) q ∙ e)))) ∙ passed_as
 
-  pub passed_yes : (a i j : ℕ) → a ≡ trip_stamps_at lay → i ≡ boarded_offsets_at lay → j ≡ boarded_departures_at lay → (tie better : Bool) → get_or w (a + t) 0 ≡ stamp
-      → tie ≡ (eqb dep (get_or w (j + t) 0) && ltb o (get_or w (i + t) 0)) → better ≡ (ltb dep (get_or w (j + t) 0) || tie) → not better ≡ passed_over T Q stamp t o dep b
-  passed_yes a i j q x y tie better e et eb =
-      ap not (eb ∙ ap (λ (z : Bool). ltb dep (get_or w (j + t) 0) || z) et
-      ∙ ap₂ (λ (d k : ℕ). ltb dep (get_or w (d + t) 0) || (eqb dep (get_or w (d + t) 0) && ltb o (get_or w (k + t) 0))) y x)
+  pub passed_yes : (a i j : ℕ) → a ≡ trip_stamps_at lay → i ≡ boarded_offsets_at lay → j ≡ boarded_departures_at lay → (better : Bool) → get_or w (a + t) 0 ≡ stamp
+      → better ≡ (ltb dep (get_or w (j + t) 0) || (eqb dep (get_or w (j + t) 0) && ltb o (get_or w (i + t) 0))) → not better ≡ passed_over T Q stamp t o dep b
+  passed_yes a i j q x y better e eb =
+      ap not (eb ∙ ap₂ (λ (d k : ℕ). ltb dep (get_or w (d + t) 0) || (eqb dep (get_or w (d + t) 0) && ltb o (get_or w (k + t) 0))) y x)
       ∙ sym (ap (λ (z : Bool). z && not (ltb dep (get_or w (boarded_departures_at lay + t) 0) || (eqb dep (get_or w (boarded_departures_at lay + t) 0) && ltb o (get_or w (boarded_offsets_at lay + t) 0))))
       (eq-eqb (get_or w (trip_stamps_at lay + t) 0) stamp (sym (read_at w t a (trip_stamps_at lay) q) ∙ e))) ∙ passed_as
 
@@ -202,6 +213,3 @@ pub stamped-as : (lay : Lay) (stamp t o dep a i j : ℕ) (w : List ℕ) → a �
 stamped-as lay stamp t o dep a i j w ea ei ej =
     ap (λ (x : ℕ). set (set (set w (x + t) stamp) (i + t) o) (j + t) dep) ea
     ∙ ap₂ (λ (x y : ℕ). set (set (set w (trip_stamps_at lay + t) stamp) (x + t) o) (y + t) dep) ei ej
-
-pub never : false ≡ true → ⊥
-never e = let z : one false ≡ one true = ap one e in omega (arith, z)

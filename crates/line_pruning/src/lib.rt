@@ -12,26 +12,14 @@ ghost use Rattle.tables.specs.declared.Counts.{Counts};
 ghost use Rattle.trip_boarding.specs.Reads.{hit_of};
 ghost use Rattle.model.specs.Tables.{Tables, Query};
 ghost use Rattle.model.specs.Search.{Boardings, line_at, prunable as mayPrune, dominated as isDominated, pruned as isPruned, passed_over};
-ghost use Rattle.model.specs.Search.{undelayed as no_row};
 ghost use Rattle.search_state.specs.Places.{WorkSized};
 ghost use Rattle.line_pruning.specs.Chain.{chain_first, chain_from, before, some_before, linked, lowered, listed, stamped_as};
 ghost use Rattle.line_pruning.specs.Books.{Agrees, Chains, Books, Inside, Noted};
 
-use delay_rows::Found;
 use query_types::Lay;
 
-// Has the trip no delay row?
-fn undelayed(adj: Found) -> bool
-    ensures { result ≡ no_row (hit_of adj) }
-{
-    let Found::At(_i) = adj else {
-        return true;
-    };
-    false
-}
-
 // May the trip prune and be pruned?
-fn prunable(lay: Lay, built: &[u32], adj: Found, trip: usize, work: &[u32]) -> bool
+fn prunable(lay: Lay, built: &[u32], adj: Option<usize>, trip: usize, work: &[u32]) -> bool
     requires work_sized { WorkSized lay (length work.now) }
     requires trips_bound { lay.trips ≤ length built.now }
     requires trip_bound { trip < lay.trips }
@@ -39,12 +27,8 @@ fn prunable(lay: Lay, built: &[u32], adj: Found, trip: usize, work: &[u32]) -> b
     ensures meaning { ((T : Tables) (Q : Query) (c : Counts) → Agrees T lay c built.now work.now
         → result ≡ mayPrune T Q (hit_of adj) trip) }
 {
-    let line = words::field(built, trip);
-    if lay.lines <= line {
-        return false;
-    }
-    let at = query_types::fifo_at(lay) + line;
-    door::both(undelayed(adj), words::field(work, at) == 1)
+    let line = built[trip] as usize;
+    line < lay.lines && adj.is_none() && work[query_types::fifo_at(lay) + line] == 1
 }
 
 // Where the chain of a line begins.
@@ -54,10 +38,11 @@ fn first_of(lay: Lay, stamp: u32, line: usize, work: &[u32]) -> u32
     ensures { result ≡ chain_first lay stamp work.now line }
 {
     let at = query_types::line_stamps_at(lay) + line;
-    if work[at] != stamp {
-        return 0;
+    if work[at] == stamp {
+        work[query_types::heads_at(lay) + line]
+    } else {
+        0
     }
-    work[query_types::heads_at(lay) + line]
 }
 
 // Does a trip stand before position `p`, and was it boarded at this offset or before?
@@ -66,9 +51,9 @@ fn is_before(lay: Lay, trip: usize, p: usize, off: usize, work: &[u32]) -> bool
     requires trip_bound { trip < lay.trips }
     ensures { result ≡ before lay work.now p off trip }
 {
-    let place = words::field(work, query_types::positions_at(lay) + trip);
-    let least = words::field(work, query_types::least_at(lay) + trip);
-    door::both(place < p, least <= off)
+    let place = work[query_types::positions_at(lay) + trip] as usize;
+    let least = work[query_types::least_at(lay) + trip] as usize;
+    place < p && least <= off
 }
 
 // Does one trip of the chain from `first` on?
@@ -79,16 +64,14 @@ fn some_before(lay: Lay, first: usize, p: usize, off: usize, work: &[u32]) -> bo
 {
     let links = query_types::links_at(lay);
     let mut h = first;
-    let mut k: usize = 0;
-    while k < lay.trips {
+    for _k in 0..lay.trips {
         if h == 0 {
             return false;
         }
         if is_before(lay, h - 1, p, off, work) {
             return true;
         }
-        h = words::field(work, links + (h - 1));
-        k += 1;
+        h = work[links + (h - 1)] as usize;
     }
     false
 }
@@ -102,7 +85,7 @@ fn dominated(lay: Lay, stamp: u32, line: usize, trip: usize, off: usize, work: &
     ensures { (T : Tables) (Q : Query) (c : Counts) (built : List ℕ) (b : Boardings) → Agrees T lay c built work.now
         → Books lay stamp T Q work.now b → line ≡ line_at T trip → result ≡ isDominated T Q trip off b.line_boards }
 {
-    let p = words::field(work, query_types::positions_at(lay) + trip);
+    let p = work[query_types::positions_at(lay) + trip] as usize;
     let first = first_of(lay, stamp, line, work) as usize;
     some_before(lay, first, p, off, work)
 }
@@ -112,7 +95,7 @@ pub fn pruned(
     lay: Lay,
     stamp: u32,
     built: &[u32],
-    adj: Found,
+    adj: Option<usize>,
     trip: usize,
     off: usize,
     work: &[u32],
@@ -124,11 +107,8 @@ pub fn pruned(
     ensures { (T : Tables) (Q : Query) (c : Counts) (b : Boardings) → Agrees T lay c built.now work.now
         → Books lay stamp T Q work.now b → result ≡ isPruned T Q (hit_of adj) trip off b }
 {
-    if !prunable(lay, built, adj, trip, work) {
-        return false;
-    }
-    let line = words::field(built, trip);
-    dominated(lay, stamp, line, trip, off, work)
+    prunable(lay, built, adj, trip, work)
+        && dominated(lay, stamp, built[trip] as usize, trip, off, work)
 }
 
 // The trip was boarded in this round, and a boarding at this offset with this departure is no better.
@@ -144,8 +124,7 @@ pub fn passed_over(lay: Lay, stamp: u32, trip: usize, off: u32, dep: u32, work: 
     }
     let o = work[query_types::boarded_offsets_at(lay) + trip];
     let d = work[query_types::boarded_departures_at(lay) + trip];
-    let tie = door::both(dep == d, off < o);
-    !door::either(dep < d, tie)
+    !(dep < d || dep == d && off < o)
 }
 
 // A trip at the front of a line's chain, with this offset.
@@ -216,7 +195,7 @@ pub fn note(
     lay: Lay,
     stamp: u32,
     built: &[u32],
-    adj: Found,
+    adj: Option<usize>,
     trip: usize,
     off: u32,
     dep: u32,
@@ -229,7 +208,7 @@ pub fn note(
     ensures { Noted lay stamp built.now (hit_of adj) trip off dep work.old work.new }
 {
     let prunes = prunable(lay, built, adj, trip, work);
-    let line = words::field(built, trip);
+    let line = built[trip] as usize;
     list(lay, stamp, prunes, line, trip, off, work);
     stamp_trip(lay, stamp, trip, off, dep, work);
 }

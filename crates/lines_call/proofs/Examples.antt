@@ -8,6 +8,8 @@ use Rattle.loops.specs.Iter.{every, first}
 use Rattle.loops.specs.Count.{count, tab_from}
 use Rattle.sorts.specs.Sort.{insert_by, sort_by}
 use Rattle.sorts.specs.Orders.{keep}
+use Rattle.door.specs.declared.Answer.{Answer}
+use Rattle.door.specs.Door.{success, refusal as refused}
 use Rattle.door.specs.Settings.{default_settings, settings_ok}
 use Rattle.door.specs.declared.Settings.{Settings}
 use Rattle.door.proofs.House.{no_trip_tried}
@@ -16,8 +18,6 @@ use Rattle.tables.specs.Tables.{time_of, trip_of, window_of, edge_of}
 use Rattle.tables.specs.Door.{counts_ok, slices_ok, trip_runs, stop_time_numbers, edge_numbers, stop_time_ranges, trip_ranges, window_ranges, edge_ranges, edge_rises, runs_ok, numbers_ok, ranges_ok, order_ok}
 use Rattle.line_numbers.specs.Lines.{same, lead_of, is_lead, line_of, line_trips, entries_of, line_count, line_first, runs_of}
 use Rattle.lines_call.specs.Call.{LineAreas, line_areas, line_sizes_ok, lines_verdict, lines_made, lines_outcome}
-use Rattle.lines_call.specs.declared.Grouped.{Grouped}
-use Rattle.lines_call.specs.declared.Grouped.TheVariants.{Lines, Refused}
 
 -- a stop time: stop, arrival, departure, sequence, pickup, drop-off
 stop_time : ℕ → ℕ → ℕ → List ℕ
@@ -75,7 +75,7 @@ pub record Case : Type 0 where
   pub table : List ℕ
   pub counts : Counts
   pub lent : LineAreas
-  pub answer : Grouped
+  pub answer : Answer
   pub left : LineAreas
 
 same_list : List ℕ → List ℕ → Bool
@@ -84,11 +84,8 @@ same_list [] (y ∷ ys) = false
 same_list (x ∷ xs) [] = false
 same_list (x ∷ xs) (y ∷ ys) = eqb x y && same_list xs ys
 
-same_answer : Grouped → Grouped → Bool
-same_answer (Refused m) (Refused n) = eqb m n
-same_answer (Refused m) (Lines n) = false
-same_answer (Lines m) (Refused n) = false
-same_answer (Lines m) (Lines n) = eqb m n
+same_answer : Answer → Answer → Bool
+same_answer a b = eqb a.code b.code && eqb a.value b.value
 
 same_areas : LineAreas → LineAreas → Bool
 same_areas a b =
@@ -103,11 +100,11 @@ pub all : List Case → Bool
 all [] = true
 all (k ∷ ks) = right k && all ks
 
-given : List ℕ → Counts → Grouped → LineAreas → Case
+given : List ℕ → Counts → Answer → LineAreas → Case
 given t c g s = record { settings = default_settings; table = t; counts = c; lent = lent (nines ++ nines); answer = g; left = s }
 
 refusal : List ℕ → Counts → List ℕ → ℕ → Case
-refusal t c runs n = record { settings = default_settings; table = t; counts = c; lent = lent runs; answer = Refused n; left = lent runs }
+refusal t c runs n = record { settings = default_settings; table = t; counts = c; lent = lent runs; answer = refused n; left = lent runs }
 
 two : List ℕ
 two = 0 ∷ 2 ∷ 2 ∷ 1 ∷ 9 ∷ 9 ∷ []
@@ -115,22 +112,22 @@ two = 0 ∷ 2 ∷ 2 ∷ 1 ∷ 9 ∷ 9 ∷ []
 pub cases : List Case
 cases =
     -- Timetable K: the row past the two lines keeps its words
-    given (table 160 2 2 0) (counts 3) (Lines 2) (left (0 ∷ 0 ∷ 1 ∷ []) two (0 ∷ 1 ∷ 2 ∷ []))
+    given (table 160 2 2 0) (counts 3) (success 2) (left (0 ∷ 0 ∷ 1 ∷ []) two (0 ∷ 1 ∷ 2 ∷ []))
     -- T1 departs before T0; at the same time: the lower trip first
-    ∷ given (table 99 2 2 0) (counts 3) (Lines 2) (left (0 ∷ 0 ∷ 1 ∷ []) two (1 ∷ 0 ∷ 2 ∷ []))
-    ∷ given (table 100 2 2 0) (counts 3) (Lines 2) (left (0 ∷ 0 ∷ 1 ∷ []) two (0 ∷ 1 ∷ 2 ∷ []))
+    ∷ given (table 99 2 2 0) (counts 3) (success 2) (left (0 ∷ 0 ∷ 1 ∷ []) two (1 ∷ 0 ∷ 2 ∷ []))
+    ∷ given (table 100 2 2 0) (counts 3) (success 2) (left (0 ∷ 0 ∷ 1 ∷ []) two (0 ∷ 1 ∷ 2 ∷ []))
     -- T2 first: its line is 0
-    ∷ given turned (counts 3) (Lines 2) (left (0 ∷ 1 ∷ 1 ∷ []) (0 ∷ 1 ∷ 1 ∷ 2 ∷ 9 ∷ 9 ∷ []) (0 ∷ 1 ∷ 2 ∷ []))
+    ∷ given turned (counts 3) (success 2) (left (0 ∷ 1 ∷ 1 ∷ []) (0 ∷ 1 ∷ 1 ∷ 2 ∷ 9 ∷ 9 ∷ []) (0 ∷ 1 ∷ 2 ∷ []))
     -- nothing at all
-    ∷ record { settings = default_settings; table = []; counts = none; lent = line_areas [] [] [] [] []; answer = Lines 0; left = line_areas [] [] [] [] [] }
+    ∷ record { settings = default_settings; table = []; counts = none; lent = line_areas [] [] [] [] []; answer = success 0; left = line_areas [] [] [] [] [] }
     -- refused: too many trips; a table or the runs of a wrong length; a trip without stop times; a stop past the stops; a code; a time;
     -- walk edges out of order
     ∷ refusal (table 160 2 2 0) (counts 4097) (nines ++ nines) 1
     ∷ refusal (0 ∷ table 160 2 2 0) (counts 3) (nines ++ nines) 2
     ∷ refusal (table 160 2 2 0) (counts 3) (9 ∷ nines ++ nines) 2
     -- 14 before 2, after 1
-    ∷ record { settings = no_trip_tried; table = []; counts = counts 3; lent = lent nines; answer = Refused 14; left = lent nines }
-    ∷ record { settings = no_trip_tried; table = []; counts = counts 4097; lent = lent nines; answer = Refused 1; left = lent nines }
+    ∷ record { settings = no_trip_tried; table = []; counts = counts 3; lent = lent nines; answer = refused 14; left = lent nines }
+    ∷ record { settings = no_trip_tried; table = []; counts = counts 4097; lent = lent nines; answer = refused 1; left = lent nines }
     ∷ refusal (table 160 2 0 0) (counts 3) (nines ++ nines) 3
     ∷ refusal (table 160 3 2 0) (counts 3) (nines ++ nines) 4
     ∷ refusal (table 160 2 2 7) (counts 3) (nines ++ nines) 5

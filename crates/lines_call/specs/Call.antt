@@ -11,8 +11,6 @@ use Rattle.tables.specs.Timetable.{timetable}
 use Rattle.tables.specs.Door.{counts_ok, slices_ok, runs_ok, numbers_ok, ranges_ok, order_ok}
 use Rattle.line_numbers.specs.Lines.{line_of, lines_of, entries_of, runs_of}
 use Rattle.lines_call.specs.declared.LineLengths.{LineLengths}
-use Rattle.lines_call.specs.declared.Grouped.{Grouped}
-use Rattle.lines_call.specs.declared.Grouped.TheVariants.{Refused, Lines}
 
 -- the lent slices: each trip's line; each line's run (first entry, count); the entries; the workspace
 pub record LineAreas : Type 0 where
@@ -58,26 +56,21 @@ lines_made t c s =
     line_areas (tab (line_of (timetable t c)) c.trips) (runs_of (timetable t c) s.runs) (entries_of (timetable t c))
     (replicate c.trips 0) (replicate c.trips 0)
 
--- the answer, and the lent slices as they are left
+-- the answer as document 01 numbers it, the question answered no, or 0 and how many lines; and the lent slices as they are left
 pub record LinesOutcome : Type 0 where
-  pub answer : Grouped
+  pub answer : Answer
   pub areas : LineAreas
 
-abbrev pub lines_outcome_of : Grouped → LineAreas → LinesOutcome
-lines_outcome_of g s = record { answer = g; areas = s }
+abbrev pub lines_outcome_of : Answer → LineAreas → LinesOutcome
+lines_outcome_of a s = record { answer = a; areas = s }
 
 -- how many lines there are, and what is made; a refusal leaves every slice as it came
 abbrev pub lines_settle : ℕ → List ℕ → Counts → LineAreas → LinesOutcome
-lines_settle zero t c s = lines_outcome_of (Lines (lines_of (timetable t c))) (lines_made t c s)
-lines_settle (suc n) t c s = lines_outcome_of (Refused (suc n)) s
+lines_settle zero t c s = lines_outcome_of (success (lines_of (timetable t c))) (lines_made t c s)
+lines_settle (suc n) t c s = lines_outcome_of (refusal (suc n)) s
 
 abbrev pub lines_outcome : Settings → List ℕ → Counts → LineAreas → LinesOutcome
 lines_outcome S t c s = lines_settle (lines_verdict S t c (line_lengths s)) t c s
-
--- document 01's number for each case of the answer, and its value: how many lines
-abbrev pub lines_answer : Grouped → Answer
-lines_answer (Refused n) = refusal n
-lines_answer (Lines n) = success n
 
 -- the call was admitted: the timetable is sound, and the slices are as long as they should be
 pub record LinesAdmitted (t : List ℕ) (c : Counts) (s : LineAreas) : Type 0 where

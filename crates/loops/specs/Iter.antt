@@ -1,5 +1,5 @@
 -- Loops as functions on values. Definitions only.
-use Rattle.std.specs.Prelude.{ℕ, zero, suc, ◌-◌, Bool, true, false, ◌&&◌, ◌||◌}
+use Rattle.std.specs.Prelude.{ℕ, zero, suc, ◌-◌, Bool, true, false, ◌&&◌, ◌||◌, Option, None, Some}
 
 -- a counted loop: s is taken through f i, f (i + 1), .., n steps
 unfoldable pub iter : {S : Type 0} → (ℕ → S → S) → ℕ → ℕ → S → S
@@ -30,6 +30,11 @@ first f i (suc n) = elim (f i) [ true ↦ hit i | false ↦ first f (suc i) n ]
 
 abbrev pub first_in : (ℕ → Bool) → ℕ → ℕ → Hit
 first_in f a b = first f a (b - a)
+
+-- what a search found, as the code hands it on
+abbrev pub found : Hit → Option ℕ
+found (hit k) = Some k
+found miss = None
 
 -- where a search found it, or n where it found nothing
 abbrev pub found_or : Hit → ℕ → ℕ

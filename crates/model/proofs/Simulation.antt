@@ -10,8 +10,7 @@ use lib.ListN.{length, get_or, set, replicate, length-set, length-replicate, get
 use lib.Dec.{ltb, leb, eqb}
 use borrow.Author.Tests.{ltb-true, leb-false, lt-ltb, eqb-true, eq-eqb, ne_eqb}
 use Rattle.frequency.specs.declared.BoardedRun.{BoardedRun}
-use Rattle.frequency.specs.declared.FreqBoard.{FreqBoard}
-use Rattle.frequency.specs.declared.FreqBoard.TheVariants.{Nothing, Board}
+use Rattle.std.specs.Prelude.{Option, None, Some}
 use Rattle.label.specs.declared.Label.{Label}
 use Rattle.label.specs.declared.Label.TheVariants.{Empty, Access, Transit, Walk}
 use Rattle.label.specs.Table.{record_of}
@@ -109,30 +108,30 @@ module _ (T : Tables) (Q : Query) where
   abbrev boarded_at : ℕ → ℕ → ℕ → BoardedRun
   boarded_at t o after = board_ordinary (departure T t o) ((effective T Q).departs t o) after
 
-  calm_board : (t o after : ℕ) → no_windows T t ≡ true → board_at T Q (delay_of Q t) t o after ≡ elim (ltb ((effective T Q).departs t o) after) [ true ↦ Nothing | false ↦ Board (boarded_at t o after) ]
+  calm_board : (t o after : ℕ) → no_windows T t ≡ true → board_at T Q (delay_of Q t) t o after ≡ elim (ltb ((effective T Q).departs t o) after) [ true ↦ None | false ↦ Some (boarded_at t o after) ]
   unfolding board_at
   calm_board t o after w =
-      ap (λ (b : Bool). elim b as (λ z. FreqBoard) [ true ↦ elim (ltb ((effective T Q).departs t o) after) [ true ↦ Nothing | false ↦ Board (boarded_at t o after) ] | false ↦ earliest_freq_board (T.timetable.trip t).windows (trip_window T t) (departure T t 0) ((effective T Q).departs t o) after ]) w
+      ap (λ (b : Bool). elim b as (λ z. Option BoardedRun) [ true ↦ elim (ltb ((effective T Q).departs t o) after) [ true ↦ None | false ↦ Some (boarded_at t o after) ] | false ↦ earliest_freq_board (T.timetable.trip t).windows (trip_window T t) (departure T t 0) ((effective T Q).departs t o) after ]) w
 
   -- one listed departure
   sim_boarding : (stamp after t o : ℕ) (s : State) → no_windows T t ≡ true
-      → boarding T Q stamp after (delay_of Q t) t o s ≡ elim (PlainSearch.skips N stamp after t o (state_of s)) [ true ↦ Nothing | false ↦ Board (boarded_at t o after) ]
+      → boarding T Q stamp after (delay_of Q t) t o s ≡ elim (PlainSearch.skips N stamp after t o (state_of s)) [ true ↦ None | false ↦ Some (boarded_at t o after) ]
   unfolding boarding pruned passed_over PlainSearch.skips PlainSearch.passed
   sim_boarding stamp after t o s w =
       go (permitted T Q t) (prunable T Q (delay_of Q t) t && dominated T Q t o s.boardings.line_boards) (prunable T Q (delay_of Q t) t && PlainSearch.blocked N t o s.boardings.line_boards) (ap (λ (z : Bool). prunable T Q (delay_of Q t) t && z) (sim_blocked t o s.boardings.line_boards))
       (no_pickup T t o) (skipped T Q (delay_of Q t) t o) (ltb ((effective T Q).departs t o) after) (λ x. leb s.arrivals.best x || passed_over T Q stamp t o x s.boardings) (board_at T Q (delay_of Q t) t o after) (calm_board t o after w)
     where
-      go : (A B B' : Bool) → B ≡ B' → (C S D : Bool) (F : ℕ → Bool) (z : FreqBoard) → z ≡ elim D as (λ y. FreqBoard) [ true ↦ Nothing | false ↦ Board (boarded_at t o after) ]
-          → ◌≡◌ {A = FreqBoard} (elim (((not A || B) || C) || S) [ true ↦ Nothing | false ↦ elim z [ Nothing ↦ Nothing | Board b ↦ elim (F b.departure) [ true ↦ Nothing | false ↦ Board b ] ] ])
-          (elim ((((not A || B') || not (not (C || S))) || D) || F ((effective T Q).departs t o)) [ true ↦ Nothing | false ↦ Board (boarded_at t o after) ])
+      go : (A B B' : Bool) → B ≡ B' → (C S D : Bool) (F : ℕ → Bool) (z : Option BoardedRun) → z ≡ elim D as (λ y. Option BoardedRun) [ true ↦ None | false ↦ Some (boarded_at t o after) ]
+          → ◌≡◌ {A = Option BoardedRun} (elim (((not A || B) || C) || S) [ true ↦ None | false ↦ elim z [ None ↦ None | Some b ↦ elim (F b.departure) [ true ↦ None | false ↦ Some b ] ] ])
+          (elim ((((not A || B') || not (not (C || S))) || D) || F ((effective T Q).departs t o)) [ true ↦ None | false ↦ Some (boarded_at t o after) ])
       go false B B' b C S D F z e = refl
       go true true true b C S D F z e = refl
       go true true false b C S D F z e = absurd (no_both refl b)
       go true false true b C S D F z e = absurd (no_both b refl)
       go true false false b true S D F z e = refl
       go true false false b false true D F z e = refl
-      go true false false b false false true F z e = ap (λ (z : FreqBoard). elim z as (λ y. FreqBoard) [ Nothing ↦ Nothing | Board b ↦ elim (F b.departure) [ true ↦ Nothing | false ↦ Board b ] ]) e
-      go true false false b false false false F z e = ap (λ (z : FreqBoard). elim z as (λ y. FreqBoard) [ Nothing ↦ Nothing | Board b ↦ elim (F b.departure) [ true ↦ Nothing | false ↦ Board b ] ]) e
+      go true false false b false false true F z e = ap (λ (z : Option BoardedRun). elim z as (λ y. Option BoardedRun) [ None ↦ None | Some b ↦ elim (F b.departure) [ true ↦ None | false ↦ Some b ] ]) e
+      go true false false b false false false F z e = ap (λ (z : Option BoardedRun). elim z as (λ y. Option BoardedRun) [ None ↦ None | Some b ↦ elim (F b.departure) [ true ↦ None | false ↦ Some b ] ]) e
 
   sim_board : (round stamp t o : ℕ) (k : Boardings) → book_of (board T Q round stamp (delay_of Q t) t o ((effective T Q).departs t o) k) ≡ PlainSearch.board N round stamp t o (book_of k)
   unfolding board PlainSearch.board
@@ -164,11 +163,11 @@ module _ (T : Tables) (Q : Query) where
       n' : PlainSearch.St
       n' = record { c = PlainSearch.ride N stamp d.trip d.offset (core_of s.arrivals); k = PlainSearch.board N round stamp d.trip d.offset (book_of s.boardings) }
 
-      F : FreqBoard → State
+      F : Option BoardedRun → State
       F z =
           elim z [
-            | Nothing ↦ scan_departures T Q false false round stamp x after ds s
-            | Board b ↦ scan_departures T Q false false round stamp x after ds (record {
+            | None ↦ scan_departures T Q false false round stamp x after ds s
+            | Some b ↦ scan_departures T Q false false round stamp x after ds (record {
               arrivals = scan_trip_forward T Q false stamp (delay_of Q d.trip) b.time_shift_s d.trip x d.offset s.arrivals;
               boardings = board T Q round stamp (delay_of Q d.trip) d.trip d.offset b.departure s.boardings;
             })
@@ -179,7 +178,7 @@ module _ (T : Tables) (Q : Query) where
 
       pick : (b : Bool) → PlainSearch.skips N stamp after d.trip d.offset (state_of s) ≡ b → state_of (scan_departures T Q false false round stamp x after ds s) ≡ PlainSearch.departures N round stamp after (map pair_of ds) (state_of s)
           → (PlainSearch.skips N stamp after d.trip d.offset (state_of s) ≡ false → state_of (scan_departures T Q false false round stamp x after ds n) ≡ PlainSearch.departures N round stamp after (map pair_of ds) n')
-          → state_of (F (elim b [ true ↦ Nothing | false ↦ Board (boarded_at d.trip d.offset after) ])) ≡ elim b [ true ↦ PlainSearch.departures N round stamp after (map pair_of ds) (state_of s) | false ↦ PlainSearch.departures N round stamp after (map pair_of ds) n' ]
+          → state_of (F (elim b [ true ↦ None | false ↦ Some (boarded_at d.trip d.offset after) ])) ≡ elim b [ true ↦ PlainSearch.departures N round stamp after (map pair_of ds) (state_of s) | false ↦ PlainSearch.departures N round stamp after (map pair_of ds) n' ]
       pick true e p q = p
       pick false e p q = q e
 

@@ -14,8 +14,7 @@ use Rattle.loops.proofs.Search.{split}
 use Rattle.signed.specs.Signed.{bits_of}
 use Rattle.signed.proofs.Laws.{of_sub, moved_low, moved_high, size_high}
 use Rattle.frequency.specs.declared.BoardedRun.{BoardedRun}
-use Rattle.frequency.specs.declared.FreqBoard.{FreqBoard}
-use Rattle.frequency.specs.declared.FreqBoard.TheVariants.{Nothing, Board}
+use Rattle.std.specs.Prelude.{Option, None, Some}
 use Rattle.frequency.specs.Gtfs.{Window, run_start, first_run, board_run, board_ordinary, board_hit, window_board, board_next, earliest_freq_board}
 use Rattle.frequency.proofs.Best.{earlier_keeps}
 use Rattle.frequency.proofs.Runs.{found_says}
@@ -65,9 +64,9 @@ pub record Soon (b : BoardedRun) : Type 0 where
   pub departs : b.departure ≤ latest_boarding
   pub shift : size_of b.time_shift_s ≤ time_limit
 
-data Soonest : FreqBoard → Type 0 where
-  nothing : Soonest Nothing
-  soon : {b : BoardedRun} → Soon b → Soonest (Board b)
+data Soonest : Option BoardedRun → Type 0 where
+  nothing : Soonest None
+  soon : {b : BoardedRun} → Soon b → Soonest (Some b)
 
 window_soon : (w : Window) (i base dep after : ℕ) → w.end ≤ time_limit → base ≤ time_limit → dep ≤ 2097150 → Soonest (window_board w i base dep after)
 window_soon w i base dep after u v n = go (first_run w base dep after) refl
@@ -138,24 +137,24 @@ module _ (T : Tables) (Q : Query) (D : Door T Q) where
     windows_soon after =
         let w = (T.timetable.trip t).windows in
         let dep = departure_now T Q (delay_of Q t) t o in
-        iter_keeps (λ k x. Soonest x) (board_next (trip_window T t) (departure T t 0) dep after) 0 (w - 0) Nothing nothing
+        iter_keeps (λ k x. Soonest x) (board_next (trip_window T t) (departure T t 0) dep after) 0 (w - 0) None nothing
         (λ k x l h p. earlier_keeps Soonest x _ p
         (window_soon (trip_window T t k) k (departure T t 0) dep after (D.window_end t k u (omega arith))
         (D.departure_small t 0 u (omega arith)) departure_early))
 
     -- HOW A TRIP IS BOARDED: early, and with a small shift
-    pub boards_soon : (after : ℕ) (b : BoardedRun) → board_at T Q (delay_of Q t) t o after ≡ Board b → Soon b
+    pub boards_soon : (after : ℕ) (b : BoardedRun) → board_at T Q (delay_of Q t) t o after ≡ Some b → Soon b
     unfolding board_at
     boards_soon after b e =
         of (subst Soonest e (go (no_windows T t) (ltb (departure_now T Q (delay_of Q t) t o) after)))
       where
-        of : Soonest (Board b) → Soon b
+        of : Soonest (Some b) → Soon b
         of (soon s) = s
 
         go : (x y : Bool) → Soonest (elim x [
           | true ↦ elim y [
-            | true ↦ Nothing
-            | false ↦ Board (board_ordinary (departure T t o) (departure_now T Q (delay_of Q t) t o) after)
+            | true ↦ None
+            | false ↦ Some (board_ordinary (departure T t o) (departure_now T Q (delay_of Q t) t o) after)
           ]
           | false ↦ earliest_freq_board (T.timetable.trip t).windows (trip_window T t) (departure T t 0) (departure_now T Q (delay_of Q t) t o) after
         ])

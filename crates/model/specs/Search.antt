@@ -1,14 +1,11 @@
 -- `run_tbr` (tbr.rs) on a new `TbrScratch`, function by function, in both modes: with arc flags in use (flagged) and without. Definitions only.
 -- What the Rust's saturating sums and its `Option`s add never shows: every time in a run is below 2^27 (`answer_laws` proofs/Bounds).
 -- One test is left out: the Rust answers "no way" at once where no origin is reached; here the rounds then end at once (`answer_laws` proofs/Calls).
-use Rattle.std.specs.Prelude.{ℕ, zero, suc, ◌+◌, ◌-◌, ◌*◌, min, Bool, true, false, cond, ◌&&◌, ◌||◌, not, List, [], ◌∷◌, ◌++◌, length, get_or, set, replicate, ltb, leb, eqb}
-use Rattle.std.proofs.Math.Option.{Option, none, some}
+use Rattle.std.specs.Prelude.{ℕ, zero, suc, ◌+◌, ◌-◌, ◌*◌, min, Bool, true, false, cond, ◌&&◌, ◌||◌, not, List, [], ◌∷◌, ◌++◌, length, get_or, set, replicate, ltb, leb, eqb, Option, None, Some}
 use Rattle.loops.specs.Iter.{Hit, hit, miss, some_in}
 use Rattle.cell_bitset.specs.declared.CellBitSet.{CellBitSet}
 use Rattle.cell_bitset.specs.CellSet.{empty_set, with_cell, meets, holds_none}
 use Rattle.frequency.specs.declared.BoardedRun.{BoardedRun}
-use Rattle.frequency.specs.declared.FreqBoard.{FreqBoard}
-use Rattle.frequency.specs.declared.FreqBoard.TheVariants.{Nothing, Board}
 use Rattle.frequency.specs.Gtfs.{Window, window_from, board_ordinary, earliest_freq_board}
 use Rattle.stop_delay.specs.declared.StopDelay.{StopDelay}
 use Rattle.stop_delay.specs.Times.{skipped_at, effective_departure, effective_arrival}
@@ -158,12 +155,12 @@ module _ (T : Tables) (Q : Query) where
   margin_of = margin Q.delays Q.settings.margin_cap
 
   -- BOARDING trip t at offset o, not before `after`: departure, time shift and waiting. A frequency trip: its earliest run.
-  unfoldable pub board_at : Hit → ℕ → ℕ → ℕ → FreqBoard
+  unfoldable pub board_at : Hit → ℕ → ℕ → ℕ → Option BoardedRun
   board_at adj t o after =
       elim (no_windows T t) [
         | true ↦ elim (ltb (departure_now adj t o) after) [
-          | true ↦ Nothing
-          | false ↦ Board (board_ordinary (departure T t o) (departure_now adj t o) after)
+          | true ↦ None
+          | false ↦ Some (board_ordinary (departure T t o) (departure_now adj t o) after)
         ]
         | false ↦ earliest_freq_board (T.timetable.trip t).windows (trip_window T t) (departure T t 0) (departure_now adj t o) after
       ]
@@ -192,20 +189,20 @@ module _ (T : Tables) (Q : Query) where
 
   -- resolve_transfer_target: over k places of a line from place p on. A trip past the table is passed over; modes are not tested.
   unfoldable pub resolve_in : (is_fifo : Bool) (offset after best : ℕ) (trip : ℕ → ℕ) (left place : ℕ) → Option (ℕ × BoardedRun)
-  resolve_in is_fifo o after best trip zero p = none
+  resolve_in is_fifo o after best trip zero p = None
   resolve_in is_fifo o after best trip (suc k) p =
       let t : ℕ = trip p in
       elim (ltb t (trips T) && ltb o (stop_count T t)) [
         | false ↦ resolve_in is_fifo o after best trip k (suc p)
         | true ↦ elim ((is_fifo && leb (best + margin_of) (departure T t o)) && no_windows T t) [
-          | true ↦ none
+          | true ↦ None
           | false ↦ elim ((not (usable T Q t) || no_pickup T t o) || skipped (delay_of Q t) t o) [
             | true ↦ resolve_in is_fifo o after best trip k (suc p)
             | false ↦ elim (board_at (delay_of Q t) t o after) [
-              | Nothing ↦ resolve_in is_fifo o after best trip k (suc p)
-              | Board b ↦ elim (ltb b.departure best) [
-                | true ↦ some (t, b)
-                | false ↦ elim is_fifo [ true ↦ none | false ↦ resolve_in false o after best trip k (suc p) ]
+              | None ↦ resolve_in is_fifo o after best trip k (suc p)
+              | Some b ↦ elim (ltb b.departure best) [
+                | true ↦ Some (t, b)
+                | false ↦ elim is_fifo [ true ↦ None | false ↦ resolve_in false o after best trip k (suc p) ]
               ]
             ]
           ]
@@ -250,8 +247,8 @@ module _ (T : Tables) (Q : Query) where
       elim (holds_target T Q e.pattern) [
         | false ↦ take_transfers stamp v x es a
         | true ↦ elim (resolve e (v + e.time) a.best) [
-          | none ↦ take_transfers stamp v x es a
-          | some b ↦
+          | None ↦ take_transfers stamp v x es a
+          | Some b ↦
               let s : ℕ = stop_at T b.0 e.offset in
               let d : ℕ = b.1.departure in
               take_transfers stamp v x es
@@ -337,14 +334,14 @@ module _ (T : Tables) (Q : Query) where
       && not (ltb dep (get_or b.board_departure t 0) || (eqb dep (get_or b.board_departure t 0) && ltb o (get_or b.board_offset t 0)))
 
   -- the tests of one listed departure, in the Rust's order: how it is boarded, if it is
-  unfoldable pub boarding : (stamp after : ℕ) (adj : Hit) (trip offset : ℕ) (s : State) → FreqBoard
+  unfoldable pub boarding : (stamp after : ℕ) (adj : Hit) (trip offset : ℕ) (s : State) → Option BoardedRun
   boarding stamp after adj t o s =
       elim (((not (permitted T Q t) || pruned adj t o s.boardings) || no_pickup T t o) || skipped adj t o) [
-        | true ↦ Nothing
+        | true ↦ None
         | false ↦ elim (board_at adj t o after) [
-          | Nothing ↦ Nothing
-          | Board b ↦ elim (leb s.arrivals.best b.departure || passed_over stamp t o b.departure s.boardings)
-              [ true ↦ Nothing | false ↦ Board b ]
+          | None ↦ None
+          | Some b ↦ elim (leb s.arrivals.best b.departure || passed_over stamp t o b.departure s.boardings)
+              [ true ↦ None | false ↦ Some b ]
         ]
       ]
 
@@ -370,8 +367,8 @@ module _ (T : Tables) (Q : Query) where
         | false ↦
             let adj : Hit = delay_of Q d.trip in
             elim (boarding stamp after adj d.trip d.offset s) [
-              | Nothing ↦ scan_departures flagged has_freq round stamp x after ds s
-              | Board b ↦ scan_departures flagged has_freq round stamp x after ds (record {
+              | None ↦ scan_departures flagged has_freq round stamp x after ds s
+              | Some b ↦ scan_departures flagged has_freq round stamp x after ds (record {
                 arrivals = scan_trip_forward flagged stamp adj b.time_shift_s d.trip x d.offset s.arrivals;
                 boardings = board round stamp adj d.trip d.offset b.departure s.boardings;
               })

@@ -11,8 +11,8 @@ use Rattle.sorts.specs.Sort.{insert_by, sort_by}
 use Rattle.sorts.specs.Orders.{keep}
 use Rattle.door.specs.Settings.{default_settings}
 use Rattle.walk_time.specs.Walk.{effective_duration, round_count}
-use Rattle.frequency.specs.declared.FreqBoard.{FreqBoard}
-use Rattle.frequency.specs.declared.FreqBoard.TheVariants.{Nothing, Board}
+use Rattle.std.specs.Prelude.{Option, None, Some}
+use Rattle.frequency.specs.declared.BoardedRun.{BoardedRun}
 use Rattle.frequency.specs.Gtfs.{window_from, first_run, earliest_freq_board}
 use Rattle.stop_delay.specs.Times.{effective_arrival}
 use Rattle.label.specs.declared.Label.{Label}
@@ -43,9 +43,9 @@ transfers_shown T =
     flat_map (λ t. flat_map (λ o. event (T.transfers t o)) (upto (T.timetable.trip t).count)) (upto 3)
 
 -- a boarding's departure and time shift; nothing for none
-abbrev board_shown : FreqBoard → List ℕ
-board_shown Nothing = []
-board_shown (Board b) = b.departure ∷ b.time_shift_s ∷ []
+abbrev board_shown : Option BoardedRun → List ℕ
+board_shown None = []
+board_shown (Some b) = b.departure ∷ b.time_shift_s ∷ []
 
 -- the labels that are filled, with their records' numbers
 unfoldable pub filled_from : ℕ → List Label → List (ℕ × Label)

@@ -17,8 +17,9 @@ use Rattle.line_numbers.specs.Lines.{entries_of, line_of, line_run, lines_of, ru
 use Rattle.line_numbers.proofs.Parts.{flat_length}
 use Rattle.line_numbers.proofs.Laws.{entries_length}
 use Rattle.lines_call.proofs.Outcome.{admitted}
+use Rattle.door.specs.declared.Answer.{Answer}
+use Rattle.door.specs.Door.{success}
 use Rattle.lines_call.specs.Call.{LineAreas, LinesAdmitted, line_lengths, lines_verdict, lines_settle, lines_made, lines_outcome}
-use Rattle.lines_call.specs.declared.Grouped.TheVariants.{Lines}
 use Rattle.line_layout.specs.Layout.{line_trips_in}
 use Rattle.built_lines.specs.Built.{AsBuilt}
 use Rattle.built_lines.proofs.Laws.{built_lists}
@@ -36,13 +37,13 @@ pub record LinesAnswered (S : Settings) (t : List ℕ) (c : Counts) (s : LineAre
   pub counted : n ≡ lines_of (timetable t c)
   pub areas : (lines_outcome S t c s).areas ≡ lines_made t c s
 
-lines_by : (S : Settings) (t : List ℕ) (c : Counts) (s : LineAreas) (n v : ℕ) → lines_verdict S t c (line_lengths s) ≡ v → (lines_settle v t c s).answer ≡ Lines n → LinesAnswered S t c s n
+lines_by : (S : Settings) (t : List ℕ) (c : Counts) (s : LineAreas) (n v : ℕ) → lines_verdict S t c (line_lengths s) ≡ v → (lines_settle v t c s).answer ≡ success n → LinesAnswered S t c s n
 lines_by S t c s n zero e h =
-    let y : lines_of (timetable t c) ≡ n = cc in
+    let y : lines_of (timetable t c) ≡ n = ap (λ (a : Answer). a.value) h in
     record { facts = admitted S t c s 0 (sym e) refl; counted = sym y; areas = ap (λ (v : ℕ). (lines_settle v t c s).areas) e }
-lines_by S t c s n (suc v) e h = let y : ◌≡◌ {A = ℕ} 0 1 = cc in absurd (omega arith)
+lines_by S t c s n (suc v) e h = let y : ◌≡◌ {A = ℕ} (suc v) 0 = ap (λ (a : Answer). a.code) h in absurd (omega arith)
 
-pub lines_answered : (S : Settings) (t : List ℕ) (c : Counts) (s : LineAreas) (n : ℕ) → (lines_outcome S t c s).answer ≡ Lines n → LinesAnswered S t c s n
+pub lines_answered : (S : Settings) (t : List ℕ) (c : Counts) (s : LineAreas) (n : ℕ) → (lines_outcome S t c s).answer ≡ success n → LinesAnswered S t c s n
 lines_answered S t c s n h = lines_by S t c s n (lines_verdict S t c (line_lengths s)) refl h
 
 -- the runs of the lines, cut to as many as there are

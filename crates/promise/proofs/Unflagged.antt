@@ -9,8 +9,8 @@ use borrow.Author.Tests.{ltb-true}
 use Rattle.loops.specs.Iter.{Hit}
 use Rattle.cell_bitset.specs.declared.CellBitSet.{CellBitSet}
 use Rattle.cell_bitset.specs.CellSet.{empty_set, with_cell, holds_none}
-use Rattle.frequency.specs.declared.FreqBoard.{FreqBoard}
-use Rattle.frequency.specs.declared.FreqBoard.TheVariants.{Nothing, Board}
+use Rattle.std.specs.Prelude.{Option, None, Some}
+use Rattle.frequency.specs.declared.BoardedRun.{BoardedRun}
 use Rattle.departures.specs.declared.DepartureRow.{DepartureRow}
 use Rattle.label.specs.declared.Label.TheVariants.{Walk}
 use Rattle.event_transfers.specs.Transfers.{Transfer}
@@ -87,14 +87,14 @@ module _ (T : Tables) (Q : Query) (line_of mark : ℕ → ℕ) (transfers : ℕ 
   unfolding boarding board_at passed_over permitted usable mode_wanted
   same_boarding stamp after adj t o s = ap tested (same_pruned adj t o s.boardings)
     where
-      tested : Bool → FreqBoard
+      tested : Bool → Option BoardedRun
       tested p =
           elim (((not (permitted T Q t) || p) || no_pickup T t o) || skipped T Q adj t o) [
-            | true ↦ Nothing
+            | true ↦ None
             | false ↦ elim (board_at T Q adj t o after) [
-              | Nothing ↦ Nothing
-              | Board b ↦ elim (leb s.arrivals.best b.departure || passed_over T Q stamp t o b.departure s.boardings)
-                  [ true ↦ Nothing | false ↦ Board b ]
+              | None ↦ None
+              | Some b ↦ elim (leb s.arrivals.best b.departure || passed_over T Q stamp t o b.departure s.boardings)
+                  [ true ↦ None | false ↦ Some b ]
             ]
           ]
 
@@ -148,13 +148,13 @@ module _ (T : Tables) (Q : Query) (line_of mark : ℕ → ℕ) (transfers : ℕ 
       ∙ ap (walk_all T Q false stamp xs) (same_from stamp x (at a x) (edges_from T x) a)
 
   -- the departures of a stop: b, the scan ends; m, how the first is boarded
-  abbrev scan_by : Tables → Bool → ℕ → ℕ → ℕ → ℕ → DepartureRow → List DepartureRow → State → Bool → FreqBoard → State
+  abbrev scan_by : Tables → Bool → ℕ → ℕ → ℕ → ℕ → DepartureRow → List DepartureRow → State → Bool → Option BoardedRun → State
   scan_by P has_freq round stamp x after d ds s b m =
       elim b [
         | true ↦ s
         | false ↦ elim m [
-          | Nothing ↦ scan_departures P Q false has_freq round stamp x after ds s
-          | Board r ↦ scan_departures P Q false has_freq round stamp x after ds (record {
+          | None ↦ scan_departures P Q false has_freq round stamp x after ds s
+          | Some r ↦ scan_departures P Q false has_freq round stamp x after ds (record {
             arrivals = scan_trip_forward P Q false stamp (delay_of Q d.trip) r.time_shift_s d.trip x d.offset s.arrivals;
             boardings = board P Q round stamp (delay_of Q d.trip) d.trip d.offset r.departure s.boardings;
           })
@@ -172,12 +172,12 @@ module _ (T : Tables) (Q : Query) (line_of mark : ℕ → ℕ) (transfers : ℕ 
       ends : Bool
       ends = not has_freq && leb (s.arrivals.best + margin_of T Q) (departure T d.trip d.offset)
 
-      go : (b : Bool) (m : FreqBoard)
+      go : (b : Bool) (m : Option BoardedRun)
           → ((u : State) → scan_departures U Q false has_freq round stamp x after ds u ≡ scan_departures T Q false has_freq round stamp x after ds u)
           → scan_by U has_freq round stamp x after d ds s b m ≡ scan_by T has_freq round stamp x after d ds s b m
       go true m r = refl
-      go false Nothing r = r s
-      go false (Board b) r =
+      go false None r = r s
+      go false (Some b) r =
           let scanned : Boardings → State = λ w. record {
             arrivals = scan_trip_forward T Q false stamp (delay_of Q d.trip) b.time_shift_s d.trip x d.offset s.arrivals;
             boardings = w;

@@ -11,11 +11,10 @@ use Rattle.tables.specs.Door.{counts_ok, slices_ok, runs_ok, numbers_ok, ranges_
 use Rattle.departures.specs.declared.DepartureRow.{DepartureRow}
 use Rattle.departures.specs.Departures.{listed_at}
 use Rattle.delay_rows.specs.Door.{delay_numbers, delay_ranges, delay_order}
+use Rattle.door.specs.Door.{success}
 use Rattle.lines_call.specs.Call.{LineAreas, lines_outcome}
-use Rattle.lines_call.specs.declared.Grouped.TheVariants.{Lines}
 use Rattle.departures_call.specs.Call.{SortAreas, sort_outcome}
 use Rattle.transfers_call.specs.Call.{TransferLent, transfer_lent, TransferAreas, transfers_outcome}
-use Rattle.transfers_call.specs.declared.Built.TheVariants.{Rows}
 use Rattle.query_types.specs.declared.Lengths.{Lengths}
 use Rattle.query_input.specs.Lent.{Lent, event_count, query_size, transfer_rows, delays_of}
 use Rattle.query_door.specs.Door.{written_ok, transfer_runs_ok, query_numbers, transfer_ranges, query_ranges, walk_ranges, egress_order}
@@ -45,7 +44,7 @@ pub record Chain (x : Lent) : Type 0 where
   -- the lines call answered with so many lines as the query is told
   pub lines_on : RidesLent x
   pub line_areas : LineAreas
-  pub lines_answered : (lines_outcome lines_on.settings lines_on.t lines_on.c line_areas).answer ≡ Lines x.n.lines
+  pub lines_answered : (lines_outcome lines_on.settings lines_on.t lines_on.c line_areas).answer ≡ success x.n.lines
   pub entries_told : x.n.entries ≡ x.n.timetable.trips
   -- the departure sorting call answered 0
   pub sort_on : RidesLent x
@@ -76,7 +75,7 @@ pub record TransferChain (x : Lent) (k : Chain x) : Type 0 where
   pub rows_are : (rows ≡ (sort_outcome k.sort_on.settings k.sort_on.t k.sort_on.c x.n.departures k.stop_runs k.sort_areas).areas.rows)
       ⊎ (rows ≡ k.sort_areas.rows)
   pub areas : TransferAreas
-  pub transfers_answered : (transfers_outcome (lent_on x k on rows) areas).answer ≡ Rows x.n.transfers
+  pub transfers_answered : (transfers_outcome (lent_on x k on rows) areas).answer ≡ success x.n.transfers
   pub lent_runs : k.rest ≡ (transfers_outcome (lent_on x k on rows) areas).areas.transfer_runs
   pub lent_transfers : x.transfers ≡ (transfers_outcome (lent_on x k on rows) areas).areas.area
 

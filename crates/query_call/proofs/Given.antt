@@ -28,6 +28,7 @@ use Rattle.query_types.specs.declared.Net.{Net}
 use Rattle.query_types.specs.Layout.{lay_of}
 use Rattle.search_begin.specs.Begin.{net_of, Lends, Askable, Begun, context_of}
 use Rattle.rounds.specs.Rounds.{Started, Ended}
+use Rattle.query_call.specs.declared.Mode.{Mode}
 use Rattle.query_call.specs.Parts.{mode_by, Flagging}
 
 -- the transfer runs, as a part of what the building calls wrote
@@ -131,11 +132,5 @@ pub rows_in : {n : QueryCounts} {t built transfers patterns : List ℕ} {rows : 
 rows_in {n} {t} {built} {transfers} F er = subst (RowsIn transfers) (sym er) F.rows
 
 -- the mode
-pub mode_rust : {rust r : Bool} (x : Lent) → rust ≡ true → r ≡ use_arc_flags (tables_of x) (query_of x) → r ≡ mode_by rust x
-mode_rust x e h = h ∙ ap (λ (b : Bool). mode_by b x) (sym e)
-
-pub mode_promise : {rust r : Bool} (x : Lent) → rust ≡ false → r ≡ flags_in_use (tables_of x) (query_of x) → r ≡ mode_by rust x
-mode_promise x e h = h ∙ ap (λ (b : Bool). mode_by b x) (sym e)
-
-pub ended : {x : Lent} {flagged : Bool} {room : ℕ} {lay lay' : Lay} {b : Memory} (rust : Bool) → Ended x flagged room lay b → flagged ≡ mode_by rust x → lay ≡ lay' → Ended x (mode_by rust x) room lay' b
-ended {x} {flagged} {room} {lay} {lay'} {b} rust E ef el = subst (λ (y : Lay). Ended x (mode_by rust x) room y b) el (subst (λ (f : Bool). Ended x f room lay b) ef E)
+pub ended : {x : Lent} {flagged : Bool} {room : ℕ} {lay lay' : Lay} {b : Memory} (mode : Mode) → Ended x flagged room lay b → flagged ≡ mode_by mode x → lay ≡ lay' → Ended x (mode_by mode x) room lay' b
+ended {x} {flagged} {room} {lay} {lay'} {b} mode E ef el = subst (λ (y : Lay). Ended x (mode_by mode x) room y b) el (subst (λ (f : Bool). Ended x f room lay b) ef E)

@@ -1,6 +1,6 @@
--- The two calls as one, by whether the Rust's answer is asked for; what the parts of a search are given. Definitions only.
+-- The two calls as one, by which of them is made; what the parts of a search are given. Definitions only.
 -- Inner: nobody has to believe this.
-use Rattle.std.specs.Prelude.{ℕ, ◌+◌, ◌*◌, ◌≡◌, Bool, true, false, cond, List, length}
+use Rattle.std.specs.Prelude.{ℕ, ◌+◌, ◌*◌, ◌≡◌, Bool, List, length}
 use Rattle.tables.specs.Timetable.{timetable}
 use Rattle.tables.specs.Sane.{Sane}
 use Rattle.event_transfers.specs.Transfers.{events_before}
@@ -10,20 +10,23 @@ use Rattle.query_types.specs.declared.QueryCounts.{QueryCounts}
 use Rattle.query_input.specs.Lent.{Lent, tables_of, query_of, transfer_runs_at, transfer_runs, transfer_rows}
 use Rattle.query_input.specs.Sane.{Limits, Admitted}
 use Rattle.query_reply.specs.Outcome.{QueryAreas, QueryOutcome}
+use Rattle.query_call.specs.declared.Mode.{Mode}
+use Rattle.query_call.specs.declared.Mode.TheVariants.{RunTbr, Query}
 use Rattle.query_call.specs.Call.{run_tbr_outcome, query_outcome}
 
 -- the outcome of `run_tbr`, or of `query`
-abbrev pub outcome_by : Bool → Lent → QueryAreas → QueryOutcome
-outcome_by true x s = run_tbr_outcome x s
-outcome_by false x s = query_outcome x s
+abbrev pub outcome_by : Mode → Lent → QueryAreas → QueryOutcome
+outcome_by RunTbr x s = run_tbr_outcome x s
+outcome_by Query x s = query_outcome x s
 
 -- are arc flags in use? Of `run_tbr`, where they are not put off; of `query`, where besides they skip something
-abbrev pub mode_by : Bool → Lent → Bool
-mode_by rust x = cond rust (use_arc_flags (tables_of x) (query_of x)) (flags_in_use (tables_of x) (query_of x))
+abbrev pub mode_by : Mode → Lent → Bool
+mode_by RunTbr x = use_arc_flags (tables_of x) (query_of x)
+mode_by Query x = flags_in_use (tables_of x) (query_of x)
 
 -- the answer in this mode
-abbrev pub answer_by : Bool → Lent → SearchAnswer
-answer_by rust x = search_answer (tables_of x) (query_of x) (mode_by rust x)
+abbrev pub answer_by : Mode → Lent → SearchAnswer
+answer_by mode x = search_answer (tables_of x) (query_of x) (mode_by mode x)
 
 -- what the test of the flags reads is as the door leaves it
 pub record Flagging (n : QueryCounts) (t built transfers patterns : List ℕ) : Type 0 where

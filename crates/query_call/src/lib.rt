@@ -8,6 +8,7 @@
 #![tactic(auto)]
 
 ghost use Rattle.std.specs.Prelude.{◌≡◌, List, ℕ, ◌/◌, length, Float};
+ghost use Rattle.door.specs.Door.{answer_of};
 ghost use Rattle.query_call.specs.Workspace.{workspace_answer};
 ghost use Rattle.search_state.specs.View.{memory};
 ghost use Rattle.query_input.specs.Lent.{lent, query_of};
@@ -20,24 +21,29 @@ ghost use Rattle.query_reply.specs.Outcome.{query_areas, query_lengths, queue_fu
 ghost use Rattle.query_call.specs.Call.{run_tbr_outcome, query_outcome};
 ghost use Rattle.query_reply.specs.Finish.{query_outcome_of};
 
-use door::Answer;
+use door::Refusal;
 use query_reply::Reply;
 use query_types::{Context, Head, Lengths, Net, QueryCounts};
 
 // How long a workspace the caller has to lend.
-pub fn workspace(counts: QueryCounts) -> Answer
-    ensures { result ≡ workspace_answer counts }
+#[tactic(auto, unfolding(crate::specs::Workspace::workspace_answer), using(query_door::proofs::Yes::limits_yes))]
+pub fn workspace(counts: QueryCounts) -> Result<u32, Refusal>
+    ensures { answer_of result ≡ workspace_answer counts }
 {
-    let v = door::limits(query_door::counts_ok(counts), counts.settings);
-    if v != 0 {
-        return door::refused(v);
-    }
-    door::given(query_door::work_size(counts) as u32)
+    door::limits(query_door::counts_ok(counts), counts.settings)?;
+    Ok(query_door::work_size(counts) as u32)
 }
 
-// Are arc flags in use? Of `run_tbr` (rust) where they are not put off; of `query` where besides they skip something.
+// Which of the two calls is made.
+#[derive(Clone, Copy, Debug, PartialEq, Eq)]
+enum Mode {
+    RunTbr,
+    Query,
+}
+
+// Are arc flags in use? Of `run_tbr` where they are not put off; of `query` where besides they skip something.
 fn in_use(
-    rust: bool,
+    mode: Mode,
     counts: QueryCounts,
     tables: &[u32],
     built: &[u32],
@@ -51,30 +57,32 @@ fn in_use(
         ≡ net_of (lent counts tables.now built.now transfers.now patterns.now d q)
         → (query_of (lent counts tables.now built.now transfers.now patterns.now d q)).flags_off
         ≡ flags_off → result
-        ≡ mode_by rust (lent counts tables.now built.now transfers.now patterns.now d q) }
+        ≡ mode_by mode (lent counts tables.now built.now transfers.now patterns.now d q) }
 {
     let target = net.target;
-    if rust {
-        return arc_flags::use_arc_flags(counts.patterns, target, flags_off);
+    match mode {
+        Mode::RunTbr => arc_flags::use_arc_flags(counts.patterns, target, flags_off),
+        Mode::Query => {
+            let transfer_runs = query_input::transfer_runs(built, counts);
+            let transfer_rows = query_input::transfer_rows(counts, transfers.len());
+            arc_flags::flags_in_use(
+                tables,
+                counts.timetable,
+                transfer_runs,
+                transfers,
+                transfer_rows,
+                patterns,
+                counts.patterns,
+                target,
+                flags_off,
+            )
+        }
     }
-    let transfer_runs = query_input::transfer_runs(built, counts);
-    let transfer_rows = query_input::transfer_rows(counts, transfers.len());
-    arc_flags::flags_in_use(
-        tables,
-        counts.timetable,
-        transfer_runs,
-        transfers,
-        transfer_rows,
-        patterns,
-        counts.patterns,
-        target,
-        flags_off,
-    )
 }
 
 // From the beginning to the end of the rounds.
 fn search(
-    rust: bool,
+    mode: Mode,
     counts: QueryCounts,
     tables: &[u32],
     built: &[u32],
@@ -92,7 +100,7 @@ fn search(
         (length labels.old) (length label_distances.old) (length work.old) (length queue_a.old) (length queue_b.old) }
     ensures { Ended (lent counts tables.now built.now transfers.now patterns.now
         distances.now query.now)
-        (mode_by rust (lent counts tables.now built.now transfers.now patterns.now distances.now
+        (mode_by mode (lent counts tables.now built.now transfers.now patterns.now distances.now
         query.now)) (length queue_a.old / 4) (lay_of counts)
         (memory work.new labels.new label_distances.new result) }
 {
@@ -100,7 +108,7 @@ fn search(
     let net = search_begin::net_of(counts, tables, built, distances, query);
     let flags_off = query_input::flags_off(query);
     let flagged = in_use(
-        rust, counts, tables, built, transfers, patterns, net, flags_off,
+        mode, counts, tables, built, transfers, patterns, net, flags_off,
     );
     let h = search_begin::begin(
         counts,
@@ -140,7 +148,7 @@ fn search(
 
 // A query that the door admits.
 fn answer_query(
-    rust: bool,
+    mode: Mode,
     counts: QueryCounts,
     tables: &[u32],
     built: &[u32],
@@ -159,17 +167,17 @@ fn answer_query(
         (query_lengths (query_areas labels.old label_distances.old work.old queue_a.old queue_b.old candidates.old)) }
     ensures { query_outcome_of result (query_areas labels.new label_distances.new work.new
         queue_a.new queue_b.new candidates.new)
-        ≡ query_settled 0 (queue_full (answer_by rust
+        ≡ query_settled 0 (queue_full (answer_by mode
         (lent counts tables.now built.now transfers.now patterns.now distances.now
         query.now)) (query_areas labels.old label_distances.old work.old queue_a.old
         queue_b.old candidates.old))
-        (answer_by rust (lent counts tables.now built.now transfers.now patterns.now
+        (answer_by mode (lent counts tables.now built.now transfers.now patterns.now
         distances.now query.now))
         (query_areas labels.old label_distances.old work.old queue_a.old queue_b.old
         candidates.old) }
 {
     let h = search(
-        rust,
+        mode,
         counts,
         tables,
         built,
@@ -198,7 +206,7 @@ fn answer_query(
 
 // The questions first; a no is returned at once.
 fn ask(
-    rust: bool,
+    mode: Mode,
     counts: QueryCounts,
     tables: &[u32],
     built: &[u32],
@@ -215,7 +223,7 @@ fn ask(
 ) -> Reply
     ensures { query_outcome_of result (query_areas labels.new label_distances.new work.new
         queue_a.new queue_b.new candidates.new)
-        ≡ outcome_by rust (lent counts tables.now built.now transfers.now patterns.now
+        ≡ outcome_by mode (lent counts tables.now built.now transfers.now patterns.now
         distances.now query.now)
         (query_areas labels.old label_distances.old work.old queue_a.old queue_b.old
         candidates.old) }
@@ -228,19 +236,19 @@ fn ask(
         queue_b: queue_b.len(),
         candidates: candidates.len(),
     };
-    let code = query_door::questions(
+    let asked = query_door::questions(
         counts, tables, built, transfers, patterns, distances, query, l,
     );
-    if code != 0 {
+    if let Err(question) = asked {
         return Reply {
-            code: code,
+            code: u32::from(question),
             total: 0,
             stop: 0,
             candidates: 0,
         };
     }
     answer_query(
-        rust,
+        mode,
         counts,
         tables,
         built,
@@ -284,7 +292,7 @@ pub fn run_tbr(
         candidates.old) }
 {
     ask(
-        true,
+        Mode::RunTbr,
         counts,
         tables,
         built,
@@ -328,7 +336,7 @@ pub fn query(
         candidates.old) }
 {
     ask(
-        false,
+        Mode::Query,
         counts,
         tables,
         built,

@@ -10,6 +10,7 @@
 #![tactic(auto)]
 
 ghost use Rattle.std.specs.Prelude.{◌≡◌, ◌+◌, ◌*◌, ◌≤◌, ◌-◌, ◌<◌, length, true, ltb};
+ghost use Rattle.door.specs.Door.{code_of};
 ghost use Rattle.tables.specs.Sane.{SlicesOk};
 ghost use Rattle.query_input.specs.Lent.{transfer_runs_at, built_size, marks_at, query_size, delays_of, stop_runs, departure_rows, lent};
 ghost use Rattle.query_door.specs.Door.{query_question1, read_ok, written_ok, query_question2, transfer_runs_ok, query_question3, column_below};
@@ -20,9 +21,9 @@ ghost use Rattle.query_input.specs.Sane.{Limits, ReadSized, Placed};
 ghost use Rattle.query_door.specs.Columns.{Column};
 ghost use Rattle.departures.specs.Listed.{RowsListed};
 ghost use Rattle.query_door.specs.Once.{query_ok, tables_ok, Passed};
-ghost use Rattle.delay_rows.specs.Asked.{rows_asked};
+ghost use Rattle.delay_rows.specs.Door.{delay_numbers, delay_ranges, delay_order};
 
-use door::both;
+use door::Refusal;
 use query_types::{Lengths, QueryCounts};
 
 pub fn work_size(counts: QueryCounts) -> usize
@@ -33,25 +34,25 @@ pub fn work_size(counts: QueryCounts) -> usize
 }
 
 // Question 1.
+#[tactic(auto, unfolding(crate::specs::Door::query_question1))]
 pub fn counts_ok(counts: QueryCounts) -> bool
     ensures { result ≡ query_question1 counts }
 {
-    let a = both(
-        tables::counts_ok(counts.timetable),
-        both(counts.cells <= 512, counts.patterns <= 4096),
-    );
-    let b = both(
-        both(counts.lines <= 4096, counts.entries <= 4096),
-        both(counts.departures <= 65536, counts.transfers <= 65536),
-    );
-    let c = both(
-        both(counts.delays <= 4096, counts.stop_rows <= 4096),
-        both(counts.origins <= 64, counts.egress <= 64),
-    );
-    both(a, both(b, c))
+    tables::counts_ok(counts.timetable)
+        && counts.cells <= 512
+        && counts.patterns <= 4096
+        && counts.lines <= 4096
+        && counts.entries <= 4096
+        && counts.departures <= 65536
+        && counts.transfers <= 65536
+        && counts.delays <= 4096
+        && counts.stop_rows <= 4096
+        && counts.origins <= 64
+        && counts.egress <= 64
 }
 
 // Question 2 of what is read, but for the timetable's slice, whose numbers the others are measured by.
+#[tactic(auto, unfolding(crate::specs::Door::read_ok))]
 fn read_ok(
     tables: &[u32],
     counts: QueryCounts,
@@ -65,29 +66,26 @@ fn read_ok(
     ensures { result ≡ read_ok tables.now counts built patterns distances q }
 {
     let events = event_transfers::event_count(tables, counts.timetable);
-    let a = built == query_input::transfer_runs_at(counts) + events * 2;
-    let b = distances == counts.timetable.edges + counts.origins;
-    both(
-        both(a, patterns == counts.patterns * 64),
-        both(b, q == query_input::query_size(counts)),
-    )
+    built == query_input::transfer_runs_at(counts) + events * 2
+        && patterns == counts.patterns * 64
+        && distances == counts.timetable.edges + counts.origins
+        && q == query_input::query_size(counts)
 }
 
 // Question 2 of what is written.
+#[tactic(auto, unfolding(crate::specs::Door::written_ok))]
 fn written_ok(counts: QueryCounts, l: Lengths) -> bool
     requires { Limits counts }
     ensures { result ≡ written_ok counts l }
 {
-    let labels = both(
-        l.labels == counts.timetable.stops * 13 * 8,
-        l.label_distances == counts.timetable.stops * 13,
-    );
-    both(
-        both(labels, l.work == work_size(counts)),
-        both(l.queue_a == l.queue_b, l.candidates == 39),
-    )
+    l.labels == counts.timetable.stops * 13 * 8
+        && l.label_distances == counts.timetable.stops * 13
+        && l.work == work_size(counts)
+        && l.queue_a == l.queue_b
+        && l.candidates == 39
 }
 
+#[tactic(auto, unfolding(crate::specs::Door::query_question2), using(tables::proofs::Yes::slices_yes))]
 fn sizes_ok(
     tables: &[u32],
     counts: QueryCounts,
@@ -100,13 +98,9 @@ fn sizes_ok(
     requires { Limits counts }
     ensures { result ≡ query_question2 tables.now counts built patterns distances q l }
 {
-    if !tables::slices_ok(tables, counts.timetable) {
-        return false;
-    }
-    both(
-        read_ok(tables, counts, built, patterns, distances, q),
-        written_ok(counts, l),
-    )
+    tables::slices_ok(tables, counts.timetable)
+        && read_ok(tables, counts, built, patterns, distances, q)
+        && written_ok(counts, l)
 }
 
 // Question 3 of every event's transfer run, no branch between them: kept are all bits of first row and length, and whether each sum is in the
@@ -121,19 +115,18 @@ fn transfer_runs_ok(built: &[u32], counts: QueryCounts, events: usize, transfer_
     let limit = transfer_rows as u32;
     let mut inside = true;
     let mut bits: u32 = 0;
-    let mut e: usize = 0;
-    while e < events {
+    for e in 0..events {
         let at = from + e * 2;
-        let first = words::word(built, at);
-        let length = words::word(built, at + 1);
-        inside = both(inside, first % 2147483648 + length % 2147483648 <= limit);
-        bits = bits | (first | length);
-        e += 1;
+        let first = built[at];
+        let length = built[at + 1];
+        inside &= first % 2147483648 + length % 2147483648 <= limit;
+        bits |= first | length;
     }
-    both(inside, bits <= 2147483647)
+    inside & (bits <= 2147483647)
 }
 
 // Question 3.
+#[tactic(auto, unfolding(crate::specs::Door::query_question3))]
 fn runs_ok(tables: &[u32], built: &[u32], counts: QueryCounts, transfer_rows: usize) -> bool
     requires limits { Limits counts }
     requires slices_ok { SlicesOk tables.now counts.timetable }
@@ -152,13 +145,10 @@ fn runs_ok(tables: &[u32], built: &[u32], counts: QueryCounts, transfer_rows: us
         counts.departures,
     );
     let events = event_transfers::event_count(tables, counts.timetable);
-    both(
-        both(tables::runs_ok(tables, counts.timetable), lines),
-        both(
-            stops,
-            transfer_runs_ok(built, counts, events, transfer_rows),
-        ),
-    )
+    tables::runs_ok(tables, counts.timetable)
+        && lines
+        && stops
+        && transfer_runs_ok(built, counts, events, transfer_rows)
 }
 
 // Are so many numbers of a column below the bound?
@@ -166,17 +156,11 @@ fn column_below(s: &[u32], first: usize, stride: usize, count: usize, bound: usi
     requires { Column (length s.now) first stride count }
     ensures { result ≡ column_below s.now first stride count bound }
 {
-    let mut i: usize = 0;
-    while i < count {
-        if bound <= words::field(s, first + i * stride) {
-            return false;
-        }
-        i += 1;
-    }
-    true
+    (0..count).all(|i| (s[first + i * stride] as usize) < bound)
 }
 
 // Question 4 of the lines.
+#[tactic(auto, unfolding(crate::specs::Door::line_numbers))]
 fn line_numbers(built: &[u32], counts: QueryCounts) -> bool
     requires limits { Limits counts }
     requires marks_at { marks_at counts ≤ length built.now }
@@ -188,10 +172,11 @@ fn line_numbers(built: &[u32], counts: QueryCounts) -> bool
         query_input::line_entries(built, counts),
         counts.entries,
     );
-    both(lines, entries)
+    lines && entries
 }
 
 // Question 4 of origins and egress.
+#[tactic(auto, unfolding(crate::specs::Door::query_numbers))]
 fn query_numbers(query: &[u32], counts: QueryCounts) -> bool
     requires limits { Limits counts }
     requires query_size { query_size counts ≤ length query.now }
@@ -200,24 +185,40 @@ fn query_numbers(query: &[u32], counts: QueryCounts) -> bool
     let stops = counts.timetable.stops;
     let origins = column_below(query, 7, 2, counts.origins, stops);
     let egress = column_below(query, 7 + counts.origins * 2, 2, counts.egress, stops);
-    both(origins, egress)
+    origins && egress
 }
 
-// Question 4, 5 or 6 of the delay tables.
-fn delays_ok(question: u32, query: &[u32], counts: QueryCounts) -> bool
+// Questions 4, 5 and 6 of the delay tables.
+fn delay_numbers(query: &[u32], counts: QueryCounts) -> bool
     requires limits { Limits counts }
     requires query_size { query_size counts ≤ length query.now }
-    ensures { result ≡ rows_asked question counts.timetable.trips (delays_of query.now counts) }
+    ensures { result ≡ delay_numbers counts.timetable.trips (delays_of query.now counts) }
 {
-    delay_rows::rows_asked(
-        question,
-        counts.timetable.trips as u32,
-        query_input::delay_rows(query, counts),
-        query_input::stop_rows(query, counts),
-    )
+    let trips = counts.timetable.trips as u32;
+    let rows = query_input::delay_rows(query, counts);
+    delay_rows::numbers_ok(trips, rows, query_input::stop_rows(query, counts))
+}
+
+fn delay_ranges(query: &[u32], counts: QueryCounts) -> bool
+    requires limits { Limits counts }
+    requires query_size { query_size counts ≤ length query.now }
+    ensures { result ≡ delay_ranges (delays_of query.now counts) }
+{
+    let rows = query_input::delay_rows(query, counts);
+    delay_rows::ranges_ok(rows, query_input::stop_rows(query, counts))
+}
+
+fn delay_order(query: &[u32], counts: QueryCounts) -> bool
+    requires limits { Limits counts }
+    requires query_size { query_size counts ≤ length query.now }
+    ensures { result ≡ delay_order (delays_of query.now counts) }
+{
+    let rows = query_input::delay_rows(query, counts);
+    delay_rows::order_ok(rows, query_input::stop_rows(query, counts))
 }
 
 // Question 4.
+#[tactic(auto, unfolding(crate::specs::Door::query_question4))]
 fn numbers_ok(
     tables: &[u32],
     built: &[u32],
@@ -238,13 +239,11 @@ fn numbers_ok(
         query_input::departure_rows(built, counts),
         counts.departures,
     );
-    both(
-        both(tables::numbers_ok(tables, c), line_numbers(built, counts)),
-        both(
-            listed,
-            both(query_numbers(query, counts), delays_ok(4, query, counts)),
-        ),
-    )
+    tables::numbers_ok(tables, c)
+        && line_numbers(built, counts)
+        && listed
+        && query_numbers(query, counts)
+        && delay_numbers(query, counts)
 }
 
 // Question 5 of the marks.
@@ -268,28 +267,27 @@ fn transfer_ranges(transfers: &[u32], transfer_rows: usize) -> bool
     ensures { result ≡ transfer_ranges transfers.now transfer_rows }
 {
     let mut bits: u32 = 0;
-    let mut k: usize = 0;
-    while k < transfer_rows {
-        bits = bits | words::word(transfers, 2 + k * 4);
-        k += 1;
+    for k in 0..transfer_rows {
+        bits |= transfers[2 + k * 4];
     }
     bits <= 1048575
 }
 
 // Question 5 of start, change time, modes, wheelchair and switch.
+#[tactic(auto, unfolding(crate::specs::Door::query_ranges))]
 fn query_ranges(query: &[u32]) -> bool
     requires { 7 ≤ length query.now }
     ensures { result ≡ query_ranges query.now }
 {
-    let times = both(
-        words::field(query, 0) <= 1048575,
-        words::field(query, 1) <= 1048575,
-    );
-    let switches = both(words::field(query, 5) <= 1, words::field(query, 6) <= 1);
-    both(times, both(words::field(query, 4) <= 127, switches))
+    query[0] <= door::TIME_LIMIT
+        && query[1] <= door::TIME_LIMIT
+        && query[4] <= 127
+        && query[5] <= 1
+        && query[6] <= 1
 }
 
 // Question 5 of origins and egress.
+#[tactic(auto, unfolding(crate::specs::Door::walk_ranges))]
 fn walk_ranges(query: &[u32], counts: QueryCounts) -> bool
     requires limits { Limits counts }
     requires query_size { query_size counts ≤ length query.now }
@@ -297,10 +295,11 @@ fn walk_ranges(query: &[u32], counts: QueryCounts) -> bool
 {
     let origins = column_below(query, 8, 2, counts.origins, 1048576);
     let egress = column_below(query, 7 + counts.origins * 2 + 1, 2, counts.egress, 1048576);
-    both(origins, egress)
+    origins && egress
 }
 
 // Question 5.
+#[tactic(auto, unfolding(crate::specs::Door::query_question5))]
 fn ranges_ok(
     tables: &[u32],
     built: &[u32],
@@ -315,20 +314,12 @@ fn ranges_ok(
     ensures { result ≡ query_question5 tables.now built.now transfers.now
         query.now counts transfer_rows }
 {
-    let ranged = both(
-        tables::ranges_ok(tables, counts.timetable),
-        both(
-            mark_ranges(built, counts),
-            transfer_ranges(transfers, transfer_rows),
-        ),
-    );
-    both(
-        ranged,
-        both(
-            query_ranges(query),
-            both(walk_ranges(query, counts), delays_ok(5, query, counts)),
-        ),
-    )
+    tables::ranges_ok(tables, counts.timetable)
+        && mark_ranges(built, counts)
+        && transfer_ranges(transfers, transfer_rows)
+        && query_ranges(query)
+        && walk_ranges(query, counts)
+        && delay_ranges(query, counts)
 }
 
 // Question 6 of an egress stop: is it above the one before it? They begin at `at`.
@@ -337,7 +328,7 @@ fn stop_rises(query: &[u32], at: usize, i: usize) -> bool
     requires at_bound { at + i * 2 < length query.now }
     ensures { result ≡ ltb (column_at query.now at 2 (i - 1)) (column_at query.now at 2 i) }
 {
-    words::field(query, at + (i - 1) * 2) < words::field(query, at + i * 2)
+    query[at + (i - 1) * 2] < query[at + i * 2]
 }
 
 // Of all egress stops.
@@ -345,17 +336,11 @@ fn egress_order(query: &[u32], at: usize, count: usize) -> bool
     requires { at + count * 2 ≤ length query.now }
     ensures { result ≡ column_rises query.now at 2 count }
 {
-    let mut i: usize = 1;
-    while i < count {
-        if !stop_rises(query, at, i) {
-            return false;
-        }
-        i += 1;
-    }
-    true
+    (1..count).all(|i| stop_rises(query, at, i))
 }
 
 // Question 6.
+#[tactic(auto, unfolding(crate::specs::Door::query_question6))]
 fn order_ok(tables: &[u32], built: &[u32], query: &[u32], counts: QueryCounts) -> bool
     requires limits { Limits counts }
     requires read_sized { ReadSized tables.now counts (length built.now) (length query.now) }
@@ -371,34 +356,30 @@ fn order_ok(tables: &[u32], built: &[u32], query: &[u32], counts: QueryCounts) -
         query_input::departure_rows(built, counts),
         counts.departures,
     );
-    both(
-        both(tables::order_ok(tables, c), listed),
-        both(
-            egress_order(query, 7 + counts.origins * 2, counts.egress),
-            delays_ok(6, query, counts),
-        ),
-    )
+    tables::order_ok(tables, c)
+        && listed
+        && egress_order(query, 7 + counts.origins * 2, counts.egress)
+        && delay_order(query, counts)
 }
 
 // Questions 4 to 6 of the query's numbers.
+#[tactic(auto, unfolding(crate::specs::Once::query_ok))]
 fn query_ok(query: &[u32], counts: QueryCounts) -> bool
     requires limits { Limits counts }
     requires query_size { query_size counts ≤ length query.now }
     ensures { result ≡ query_ok query.now counts }
 {
-    let numbers = both(query_numbers(query, counts), delays_ok(4, query, counts));
-    let ranges = both(
-        query_ranges(query),
-        both(walk_ranges(query, counts), delays_ok(5, query, counts)),
-    );
-    let order = both(
-        egress_order(query, 7 + counts.origins * 2, counts.egress),
-        delays_ok(6, query, counts),
-    );
-    both(numbers, both(ranges, order))
+    query_numbers(query, counts)
+        && delay_numbers(query, counts)
+        && query_ranges(query)
+        && walk_ranges(query, counts)
+        && delay_ranges(query, counts)
+        && egress_order(query, 7 + counts.origins * 2, counts.egress)
+        && delay_order(query, counts)
 }
 
 // Of the tables but for the departures.
+#[tactic(auto, unfolding(crate::specs::Once::tables_ok))]
 fn tables_ok(
     tables: &[u32],
     built: &[u32],
@@ -413,12 +394,11 @@ fn tables_ok(
     ensures { result ≡ tables_ok tables.now built.now transfers.now counts transfer_rows }
 {
     let c = counts.timetable;
-    let timetable = both(tables::rows_ok(tables, c), tables::order_ok(tables, c));
-    let codes = both(
-        mark_ranges(built, counts),
-        transfer_ranges(transfers, transfer_rows),
-    );
-    both(timetable, both(line_numbers(built, counts), codes))
+    tables::rows_ok(tables, c)
+        && tables::order_ok(tables, c)
+        && line_numbers(built, counts)
+        && mark_ranges(built, counts)
+        && transfer_ranges(transfers, transfer_rows)
 }
 
 // Questions 4, 5 and 6 at once. True is a yes to all three; false says nothing.
@@ -448,7 +428,8 @@ fn passed(
     departure_order::in_turn(tables, counts.timetable, runs, listed, counts.departures)
 }
 
-// THE QUESTIONS: the number of the first that is answered no, or 0.
+// THE QUESTIONS, in order: the first no refuses.
+#[tactic(auto, unfolding(crate::specs::Door::query_verdict), using(crate::proofs::Yes::limits_yes, crate::proofs::Yes::sized_yes, crate::proofs::Yes::placed_yes, crate::proofs::Yes::numbered_yes))]
 pub fn questions(
     counts: QueryCounts,
     tables: &[u32],
@@ -458,15 +439,12 @@ pub fn questions(
     distances: &[f64],
     query: &[u32],
     l: Lengths,
-) -> u32
-    ensures { result ≡ query_verdict (lent counts tables.now built.now transfers.now patterns.now
+) -> Result<(), Refusal>
+    ensures { code_of result ≡ query_verdict (lent counts tables.now built.now transfers.now patterns.now
         distances.now query.now) l }
 {
-    let v = door::limits(counts_ok(counts), counts.settings);
-    if v != 0 {
-        return v;
-    }
-    if !sizes_ok(
+    door::limits(counts_ok(counts), counts.settings)?;
+    let sized = sizes_ok(
         tables,
         counts,
         built.len(),
@@ -474,24 +452,16 @@ pub fn questions(
         distances.len(),
         query.len(),
         l,
-    ) {
-        return 2;
-    }
+    );
+    door::ask(Refusal::Sizes, sized)?;
     let transfer_rows = query_input::transfer_rows(counts, transfers.len());
-    if !runs_ok(tables, built, counts, transfer_rows) {
-        return 3;
-    }
+    door::ask(Refusal::Runs, runs_ok(tables, built, counts, transfer_rows))?;
     if passed(tables, built, transfers, query, counts, transfer_rows) {
-        return 0;
+        return Ok(());
     }
-    if !numbers_ok(tables, built, query, counts, transfer_rows) {
-        return 4;
-    }
-    if !ranges_ok(tables, built, transfers, query, counts, transfer_rows) {
-        return 5;
-    }
-    if !order_ok(tables, built, query, counts) {
-        return 6;
-    }
-    0
+    let numbered = numbers_ok(tables, built, query, counts, transfer_rows);
+    door::ask(Refusal::Numbers, numbered)?;
+    let ranged = ranges_ok(tables, built, transfers, query, counts, transfer_rows);
+    door::ask(Refusal::Ranges, ranged)?;
+    door::ask(Refusal::Order, order_ok(tables, built, query, counts))
 }

@@ -137,12 +137,7 @@ pub fn query_size(counts: QueryCounts) -> usize
 pub fn transfer_rows(counts: QueryCounts, area: usize) -> usize
     ensures { result ≡ transfer_rows counts area }
 {
-    let whole = area / 4;
-    if counts.transfers < whole {
-        counts.transfers
-    } else {
-        whole
-    }
+    counts.transfers.min(area / 4)
 }
 
 // Is the switch on that puts arc flags off?

@@ -10,9 +10,9 @@ use Rattle.query_reply.specs.Finish.{query_outcome_of, left}
 
 -- the areas after a full queue, and after an answer
 module _ (l : List ℕ) (d : List Float) (w a b c : List ℕ) where
-  pub over_is : {l' w' a' b' : List ℕ} {d' : List Float} → l' ≡ cleared l → d' ≡ replicate (length d) no_distance → w' ≡ cleared w → a' ≡ cleared a → b' ≡ cleared b
-      → query_outcome_of (reply 8 0 0 0) (query_areas l' d' w' a' b' c) ≡ overflown (query_areas l d w a b c)
-  over_is el ed ew ea eb = rw (el, ed, ew, ea, eb) refl
+  pub over_is : {n : ℕ} {l' w' a' b' : List ℕ} {d' : List Float} → n ≡ 8 → l' ≡ cleared l → d' ≡ replicate (length d) no_distance → w' ≡ cleared w → a' ≡ cleared a → b' ≡ cleared b
+      → query_outcome_of (reply n 0 0 0) (query_areas l' d' w' a' b' c) ≡ overflown (query_areas l d w a b c)
+  over_is en el ed ew ea eb = rw (en, el, ed, ew, ea, eb) refl
 
   pub rest_is : {w' a' b' c' : List ℕ} → w' ≡ cleared w → a' ≡ cleared a → b' ≡ cleared b → query_areas l d w' a' b' c' ≡ left (query_areas l d w a b c) c'
   rest_is ew ea eb = rw (ew, ea, eb) refl

@@ -12,6 +12,7 @@ ghost use Rattle.model.specs.Search.{Arrivals};
 ghost use Rattle.query_reply.specs.Outcome.{query_areas, cleared};
 ghost use Rattle.query_reply.specs.Finish.{Ending, AnswerAgrees, Replied, Finished};
 
+use door::Refusal;
 use query_types::{Head, QueryCounts};
 
 // What a call gives back: the number of the first question answered no, or 0; the best total and its stop; how many candidates.
@@ -42,8 +43,8 @@ fn reply_of(
     let stops = counts.timetable.stops;
     let egress = query_input::egress_rows(query, counts);
     let best = best_target::best_target(work, stops, egress);
-    if best.total == 4294967295 {
-        words::clear_words(candidates);
+    if best.total == u32::MAX {
+        candidates.fill(0);
         return Reply {
             code: 0,
             total: best.total,
@@ -76,9 +77,9 @@ fn zero_work(work: &mut [u32], queue_a: &mut [u32], queue_b: &mut [u32])
     ensures queue_a_new { queue_a.new ≡ cleared queue_a.old }
     ensures queue_b_new { queue_b.new ≡ cleared queue_b.old }
 {
-    words::clear_words(work);
-    words::clear_words(queue_a);
-    words::clear_words(queue_b);
+    work.fill(0);
+    queue_a.fill(0);
+    queue_b.fill(0);
 }
 
 // After the rounds: 8 with all areas but the candidate rows zero, or the answer.
@@ -102,10 +103,10 @@ pub fn finish(
 {
     if h.full {
         zero_work(work, queue_a, queue_b);
-        words::clear_words(labels);
-        label::zero_distances(label_distances);
+        labels.fill(0);
+        label_distances.fill(0.0);
         return Reply {
-            code: 8,
+            code: u32::from(Refusal::Queue),
             total: 0,
             stop: 0,
             candidates: 0,

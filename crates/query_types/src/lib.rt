@@ -9,7 +9,6 @@ ghost use Rattle.std.specs.Prelude.{◌≡◌, ◌≤◌};
 ghost use Rattle.query_types.specs.Layout.{stamps_at, reach_at, rest_at, positions_at, fifo_at, events_at, trip_stamps_at, boarded_offsets_at};
 ghost use Rattle.query_types.specs.Layout.{boarded_departures_at, line_stamps_at, heads_at, links_at, least_at, work_size, lay_for, Few};
 
-use delay_rows::Found;
 use door::Settings;
 use tables::Counts;
 
@@ -127,7 +126,7 @@ pub struct Context {
 #[derive(Clone, Copy)]
 pub struct Scan {
     pub context: Context,
-    pub adj: Found,
+    pub adj: Option<usize>,
     pub ride: Ride,
 }
 

@@ -1,109 +1,115 @@
 // The cases: is each answer the one on the line?
-ghost use Rattle.std.specs.Prelude.{◌<◌};
-
-use crate::line_words::{Nine, at, both, first_nine, length_at, part, rest, same_words};
-use crate::tallies::{set_tally, tally_is};
+use crate::line_words::{Words, length_of};
 use crate::{building, chains, queries};
 use cell_bitset::CellBitSet;
 use delay_call::DelayAt;
 use door::{Answer, Settings};
+use label_call::LabelAnswer;
 
-fn answered(a: Answer, code: u32, value: u32) -> bool {
-    both(a.code == code, a.value == value)
+// What a line puts to the calls, or does with the tally.
+#[derive(Clone, Copy)]
+enum Kind {
+    Cells,
+    Walk,
+    Rounds,
+    Frequency,
+    Departure,
+    Arrival,
+    Margin,
+    StopTime,
+    Clock,
+    Label,
+    Building,
+    Search,
+    Chain,
+    SetTally,
+    HoldTally,
 }
 
-// The set with the n cells of w.
-fn with_cells(
-    tally: &mut [u32; 128],
-    screen: u32,
-    settings: Settings,
-    set: CellBitSet,
-    w: &[u32],
-    n: usize,
-) -> CellBitSet {
-    let mut s = set;
-    let mut i: usize = 0;
-    while i < n {
-        let a = exports::savoiky_cell_bitset_set_bit(tally, screen, settings, s, at(w, i));
-        s = a.set;
-        i += 1;
+// A line's first word is its kind's number; beside/list.rs says what a line of each kind holds.
+impl TryFrom<u32> for Kind {
+    type Error = u32;
+
+    fn try_from(number: u32) -> Result<Kind, u32> {
+        match number {
+            1 => Ok(Kind::Cells),
+            2 => Ok(Kind::Walk),
+            3 => Ok(Kind::Rounds),
+            4 => Ok(Kind::Frequency),
+            5 => Ok(Kind::Departure),
+            6 => Ok(Kind::Arrival),
+            7 => Ok(Kind::Margin),
+            8 => Ok(Kind::StopTime),
+            9 => Ok(Kind::Clock),
+            10 => Ok(Kind::Label),
+            11 => Ok(Kind::Building),
+            12 => Ok(Kind::Search),
+            13 => Ok(Kind::Chain),
+            14 => Ok(Kind::SetTally),
+            15 => Ok(Kind::HoldTally),
+            _ => Err(number),
+        }
     }
-    s
+}
+
+fn answered(answer: Answer, code: u32, value: u32) -> bool {
+    answer.code == code && answer.value == value
 }
 
 // The set of the words: its reserved cells, how many it holds, and those.
-fn set_of(tally: &mut [u32; 128], screen: u32, settings: Settings, w: &[u32]) -> CellBitSet {
-    let made = exports::savoiky_cell_bitset_new(tally, screen, settings, at(w, 0));
-    with_cells(
-        tally,
-        screen,
-        settings,
-        made.set,
-        rest(w, 2),
-        length_at(w, 1),
-    )
+fn set_of(
+    tally: &mut [u32; 128],
+    screen: u32,
+    settings: Settings,
+    words: &mut Words<'_>,
+) -> CellBitSet {
+    let [reserved, count] = words.take::<2>();
+    let mut set = exports::savoiky_cell_bitset_new(tally, screen, settings, reserved).set;
+    for _ in 0..length_of(count) {
+        let cell = words.word();
+        set = exports::savoiky_cell_bitset_set_bit(tally, screen, settings, set, cell).set;
+    }
+    set
 }
 
 // What is asked of the sets is for one screen; the sets are made, and the union is looked into, for `making`.
-fn cells_right(
-    tally: &mut [u32; 128],
-    screen: u32,
-    making: u32,
-    settings: Settings,
-    a: CellBitSet,
-    b: CellBitSet,
-    w: &[u32],
-) -> bool {
-    let probe = at(w, 0);
-    let u = exports::savoiky_cell_bitset_union_with(tally, screen, settings, a, b);
+fn cells(tally: &mut [u32; 128], screen: u32, settings: Settings, mut words: Words<'_>) -> bool {
+    let making = words.word();
+    let a = set_of(tally, making, settings, &mut words);
+    let b = set_of(tally, making, settings, &mut words);
+    let [probe, code] = words.take::<2>();
+    let union = exports::savoiky_cell_bitset_union_with(tally, screen, settings, a, b);
     let held = exports::savoiky_cell_bitset_get_bit(tally, screen, settings, a, probe);
     let empty = exports::savoiky_cell_bitset_is_empty(tally, screen, settings, a);
     let meet = exports::savoiky_cell_bitset_intersects(tally, screen, settings, a, b);
-    let joined = exports::savoiky_cell_bitset_get_bit(tally, making, settings, u.set, probe);
-    let code = at(w, 1);
-    let codes = [u.code, held.code, empty.code, meet.code];
-    let got = [
-        joined.code,
-        held.value,
-        empty.value,
-        meet.value,
-        joined.value,
-        u.set.reserved,
-    ];
-    both(
-        same_words(&[code, code, code, code], 0, &codes),
-        same_words(w, 2, &got),
-    )
+    let joined = exports::savoiky_cell_bitset_get_bit(tally, making, settings, union.set, probe);
+    let codes = [union.code, held.code, empty.code, meet.code];
+    codes == [code; 4]
+        && words.are(&[
+            joined.code,
+            held.value,
+            empty.value,
+            meet.value,
+            joined.value,
+            union.set.reserved,
+        ])
 }
 
-fn cells(tally: &mut [u32; 128], screen: u32, settings: Settings, w: &[u32]) -> bool {
-    let making = at(w, 1);
-    let of_a = rest(w, 2);
-    let of_b = rest(of_a, 2 + length_at(of_a, 1));
-    let probed = rest(of_b, 2 + length_at(of_b, 1));
-    let a = set_of(tally, making, settings, of_a);
-    let b = set_of(tally, making, settings, of_b);
-    cells_right(tally, screen, making, settings, a, b, probed)
-}
-
-fn windows(tally: &mut [u32; 128], screen: u32, settings: Settings, w: &[u32]) -> bool {
-    let n = length_at(w, 2);
-    let e = 3 + n;
-    if w.len() < e {
+fn frequency(
+    tally: &mut [u32; 128],
+    screen: u32,
+    settings: Settings,
+    mut words: Words<'_>,
+) -> bool {
+    let count = words.word();
+    let Some(windows) = words.counted() else {
         return false;
-    }
-    let o = rest(w, e);
+    };
+    let [base, departure, wanted] = words.take::<3>();
     let a = exports::savoiky_freq_board(
-        tally,
-        screen,
-        settings,
-        at(w, 1),
-        part(w, 3, n),
-        at(o, 0),
-        at(o, 1),
-        at(o, 2),
+        tally, screen, settings, count, windows, base, departure, wanted,
     );
-    let got = [
+    words.are(&[
         a.code,
         a.found,
         a.departure,
@@ -113,256 +119,228 @@ fn windows(tally: &mut [u32; 128], screen: u32, settings: Settings, w: &[u32]) -
         a.quotient,
         a.remainder,
         a.wait,
-    ];
-    same_words(o, 3, &got)
+    ])
 }
 
 // One stop time: skipped, departure and arrival under what the tables say of it.
-fn timed(tally: &mut [u32; 128], screen: u32, settings: Settings, d: DelayAt, o: Nine) -> bool {
-    let s = exports::savoiky_skipped(tally, screen, settings, d.flags);
-    let t = exports::savoiky_effective_departure(
+fn timed(
+    tally: &mut [u32; 128],
+    screen: u32,
+    settings: Settings,
+    d: DelayAt,
+    mut words: Words<'_>,
+) -> bool {
+    let [time, shift, code, is_skipped, departs, arrives] = words.take::<6>();
+    let skipped = exports::savoiky_skipped(tally, screen, settings, d.flags);
+    let departure = exports::savoiky_effective_departure(
         tally,
         screen,
         settings,
-        o.2,
+        time,
         d.trip_delay,
         d.flags,
         d.departure_delay,
     );
-    let a = exports::savoiky_effective_arrival(
+    let arrival = exports::savoiky_effective_arrival(
         tally,
         screen,
         settings,
-        o.2,
-        o.3,
+        time,
+        shift,
         d.trip_delay,
         d.flags,
         d.arrival_delay,
     );
-    let got = [d.code, s.code, s.value, t.code, t.value, a.code, a.value];
-    same_words(&[o.4, o.4, o.5, o.4, o.6, o.4, o.7], 0, &got)
+    d.code == code
+        && answered(skipped, code, is_skipped)
+        && answered(departure, code, departs)
+        && answered(arrival, code, arrives)
 }
 
-// The margin of these delay tables (7), or what they say of a stop time.
-fn delays_right(
-    tally: &mut [u32; 128],
-    screen: u32,
-    settings: Settings,
-    kind: u32,
-    w: &[u32],
-    rows: &[u32],
-    stop_rows: &[u32],
-    o: Nine,
-) -> bool {
-    let n = first_nine(w);
-    if kind == 7 {
-        let a = exports::savoiky_margin(tally, screen, settings, n.1, n.2, n.3, rows, stop_rows);
-        return answered(a, o.0, o.1);
-    }
-    let d = exports::savoiky_delay_at(
-        tally, screen, settings, n.1, n.2, n.3, rows, stop_rows, o.0, o.1,
-    );
-    timed(tally, screen, settings, d, o)
-}
-
-fn delays(tally: &mut [u32; 128], screen: u32, settings: Settings, kind: u32, w: &[u32]) -> bool {
-    let n = length_at(w, 4);
-    let m = length_at(w, 5 + n);
-    let f = 6 + n;
-    let g = f + m;
-    if w.len() < g {
+// The margin of the delay tables.
+fn margin(tally: &mut [u32; 128], screen: u32, settings: Settings, mut words: Words<'_>) -> bool {
+    let [trips, delays, stop_delays] = words.take::<3>();
+    let (Some(rows), Some(stop_rows)) = (words.counted(), words.counted()) else {
         return false;
-    }
-    delays_right(
+    };
+    let [code, value] = words.take::<2>();
+    let margin = exports::savoiky_margin(
         tally,
         screen,
         settings,
-        kind,
-        w,
-        part(w, 5, n),
-        part(w, f, m),
-        first_nine(rest(w, g)),
-    )
+        trips,
+        delays,
+        stop_delays,
+        rows,
+        stop_rows,
+    );
+    answered(margin, code, value)
 }
 
-// Stores the label of a line, one function for each kind; its code. `n` are its words from the kind on, `m` those from the stop on.
-fn access_stored(
+// What the delay tables say of a stop time.
+fn stop_time(
     tally: &mut [u32; 128],
     screen: u32,
     settings: Settings,
-    n: Nine,
-    m: Nine,
-    labels: &mut [u32],
-    distances: &mut [f64],
-) -> u32 {
-    exports::savoiky_label_store_access(
-        tally, screen, settings, 3, m.0, m.1, n.1, n.2, n.3, n.8 as f64, labels, distances,
-    )
+    mut words: Words<'_>,
+) -> bool {
+    let [trips, delays, stop_delays] = words.take::<3>();
+    let (Some(rows), Some(stop_rows)) = (words.counted(), words.counted()) else {
+        return false;
+    };
+    let [trip, sequence] = words.take::<2>();
+    let d = exports::savoiky_delay_at(
+        tally,
+        screen,
+        settings,
+        trips,
+        delays,
+        stop_delays,
+        rows,
+        stop_rows,
+        trip,
+        sequence,
+    );
+    timed(tally, screen, settings, d, words)
 }
 
-fn transit_stored(
-    tally: &mut [u32; 128],
-    screen: u32,
-    settings: Settings,
-    n: Nine,
-    m: Nine,
-    labels: &mut [u32],
-    distances: &mut [f64],
-) -> u32 {
-    exports::savoiky_label_store_transit(
-        tally, screen, settings, 3, m.0, m.1, n.1, n.2, n.3, n.4, n.5, n.6, n.7, labels, distances,
-    )
-}
-
-fn walk_stored(
-    tally: &mut [u32; 128],
-    screen: u32,
-    settings: Settings,
-    n: Nine,
-    m: Nine,
-    labels: &mut [u32],
-    distances: &mut [f64],
-) -> u32 {
-    exports::savoiky_label_store_walk(
-        tally, screen, settings, 3, m.0, m.1, n.1, n.2, n.3, n.4, n.8 as f64, n.5, labels,
-        distances,
-    )
-}
-
+// Stores a label at a stop and row of three stops, by its kind and its seven fields; the code.
 fn stored(
     tally: &mut [u32; 128],
     screen: u32,
     settings: Settings,
-    n: Nine,
-    m: Nine,
+    kind: u32,
+    fields: [u32; 7],
+    metres: f64,
+    stop: u32,
+    row: u32,
     labels: &mut [u32],
     distances: &mut [f64],
 ) -> u32 {
-    if n.0 == 1 {
-        return access_stored(tally, screen, settings, n, m, labels, distances);
+    let [a, b, c, d, e, f, g] = fields;
+    match kind {
+        1 => exports::savoiky_label_store_access(
+            tally, screen, settings, 3, stop, row, a, b, c, metres, labels, distances,
+        ),
+        2 => exports::savoiky_label_store_transit(
+            tally, screen, settings, 3, stop, row, a, b, c, d, e, f, g, labels, distances,
+        ),
+        _ => exports::savoiky_label_store_walk(
+            tally, screen, settings, 3, stop, row, a, b, c, d, metres, e, labels, distances,
+        ),
     }
-    if n.0 == 2 {
-        return transit_stored(tally, screen, settings, n, m, labels, distances);
-    }
-    walk_stored(tally, screen, settings, n, m, labels, distances)
 }
 
 // Are these the codes of storing and of reading and, after them, the label of the words?
-fn label_right(code: u32, l: label_call::LabelAnswer, w: &[u32]) -> bool {
-    let r = l.row;
-    let got = [
+fn is_label(code: u32, loaded: LabelAnswer, mut words: Words<'_>) -> bool {
+    let r = loaded.row;
+    let stored_and_loaded = words.are(&[code, loaded.code]);
+    let row = words.are(&[
         r.kind, r.word1, r.word2, r.word3, r.word4, r.word5, r.word6, r.word7,
-    ];
-    both(
-        both(code == at(w, 0), l.code == at(w, 1)),
-        both(same_words(w, 2, &got), r.distance == at(w, 10) as f64),
-    )
+    ]);
+    let distance = words.word();
+    stored_and_loaded && row && r.distance == f64::from(distance)
 }
 
 // The label is stored for one screen and read for another.
-fn label(tally: &mut [u32; 128], screen: u32, settings: Settings, w: &[u32]) -> bool {
-    let mut labels = [0u32; 312];
-    let mut distances = [0.0f64; 39];
-    let m = first_nine(rest(w, 10));
+fn label(tally: &mut [u32; 128], screen: u32, settings: Settings, mut words: Words<'_>) -> bool {
+    let mut labels = [0; 312];
+    let mut distances = [0.0; 39];
+    let kind = words.word();
+    let fields = words.take();
+    let [distance, stop, row, reading] = words.take::<4>();
     let code = stored(
         tally,
         screen,
         settings,
-        first_nine(rest(w, 1)),
-        m,
+        kind,
+        fields,
+        f64::from(distance),
+        stop,
+        row,
         &mut labels,
         &mut distances,
     );
-    let l = exports::savoiky_label_load(tally, m.2, settings, 3, m.0, m.1, &labels, &distances);
-    label_right(code, l, rest(w, 13))
+    let loaded = exports::savoiky_label_load(
+        tally, reading, settings, 3, stop, row, &labels, &distances,
+    );
+    is_label(code, loaded, words)
 }
 
-// Of a line of a kind that takes only numbers.
-fn numbers(tally: &mut [u32; 128], screen: u32, settings: Settings, kind: u32, n: Nine) -> bool {
-    if kind == 2 {
-        let a = exports::savoiky_walk_duration(tally, screen, settings, n.1, n.2, n.3);
-        return answered(a, n.4, n.5);
-    }
-    if kind == 3 {
-        let a = exports::savoiky_max_rounds(tally, screen, settings, n.1, n.2);
-        return answered(a, n.3, n.4);
-    }
-    if kind == 5 {
-        let a = exports::savoiky_effective_departure(tally, screen, settings, n.1, n.2, n.3, n.4);
-        return answered(a, n.5, n.6);
-    }
-    if kind == 6 {
-        let a = exports::savoiky_effective_arrival(
-            tally, screen, settings, n.1, n.2, n.3, n.4, n.5,
-        );
-        return answered(a, n.6, n.7);
-    }
-    if kind == 9 {
-        let a = exports::savoiky_service_second(tally, screen, settings, n.1, n.2, n.3);
-        return answered(a, n.4, n.5);
-    }
-    false
+fn walk(tally: &mut [u32; 128], screen: u32, settings: Settings, words: [u32; 5]) -> bool {
+    let [duration, mode, wheelchair, code, value] = words;
+    let walk = exports::savoiky_walk_duration(tally, screen, settings, duration, mode, wheelchair);
+    answered(walk, code, value)
 }
 
-// Of a line of a kind that takes delay tables or only numbers.
-fn leaf(tally: &mut [u32; 128], screen: u32, settings: Settings, kind: u32, w: &[u32]) -> bool {
-    if kind == 7 {
-        return delays(tally, screen, settings, kind, w);
-    }
-    if kind == 8 {
-        return delays(tally, screen, settings, kind, w);
-    }
-    numbers(tally, screen, settings, kind, first_nine(w))
+fn rounds(tally: &mut [u32; 128], screen: u32, settings: Settings, words: [u32; 4]) -> bool {
+    let [wanted, transfers, code, value] = words;
+    let rounds = exports::savoiky_max_rounds(tally, screen, settings, wanted, transfers);
+    answered(rounds, code, value)
 }
 
-// The words of a line after its kind and its screen.
-fn settings_of(line: &[u32]) -> Settings {
+fn departure(tally: &mut [u32; 128], screen: u32, settings: Settings, words: [u32; 6]) -> bool {
+    let [time, trip_delay, flags, own, code, value] = words;
+    let departure = exports::savoiky_effective_departure(
+        tally, screen, settings, time, trip_delay, flags, own,
+    );
+    answered(departure, code, value)
+}
+
+fn arrival(tally: &mut [u32; 128], screen: u32, settings: Settings, words: [u32; 7]) -> bool {
+    let [time, shift, trip_delay, flags, own, code, value] = words;
+    let arrival = exports::savoiky_effective_arrival(
+        tally, screen, settings, time, shift, trip_delay, flags, own,
+    );
+    answered(arrival, code, value)
+}
+
+fn clock(tally: &mut [u32; 128], screen: u32, settings: Settings, words: [u32; 5]) -> bool {
+    let [hour, minute, second, code, value] = words;
+    let clock = exports::savoiky_service_second(tally, screen, settings, hour, minute, second);
+    answered(clock, code, value)
+}
+
+// The settings that all calls of a line have.
+fn settings_of(words: [u32; 4]) -> Settings {
+    let [transfer_time, line_scan, candidate_slack, margin_cap] = words;
     Settings {
-        transfer_time: at(line, 2),
-        line_scan: at(line, 3),
-        candidate_slack: at(line, 4),
-        margin_cap: at(line, 5),
+        transfer_time,
+        line_scan,
+        candidate_slack,
+        margin_cap,
     }
 }
 
-// Of a line of this kind, all of whose calls have these settings; `w` are its words from the last setting on: the case's own begin with word 1.
-fn case_right(
-    tally: &mut [u32; 128],
-    screen: u32,
-    settings: Settings,
-    kind: u32,
-    w: &[u32],
-) -> bool {
-    if kind == 1 {
-        return cells(tally, screen, settings, w);
-    }
-    if kind == 4 {
-        return windows(tally, screen, settings, w);
-    }
-    if kind == 10 {
-        return label(tally, screen, settings, w);
-    }
-    if kind == 11 {
-        return building::built(tally, screen, settings, w);
-    }
-    if kind == 12 {
-        return queries::searched(tally, screen, settings, w);
-    }
-    if kind == 13 {
-        return chains::chained(tally, screen, settings, w);
-    }
-    leaf(tally, screen, settings, kind, w)
-}
-
-// Every call that is made of a line is counted in the one tally of all lines. A line of kind 14 sets it, one of kind 15 says what it must be.
+// Every call that is made of a line is counted in the one tally of all lines. A line may set it, or say what it must be; else it says for which
+// screen and by which settings its calls are made, then the case.
 pub fn right(tally: &mut [u32; 128], line: &[u32]) -> bool {
-    let kind = at(line, 0);
-    if kind == 14 {
-        set_tally(tally, rest(line, 1));
-        return line.len() == 129;
+    let mut words = Words(line);
+    let number = words.word();
+    let Ok(kind) = Kind::try_from(number) else {
+        return false;
+    };
+    let mut case = words;
+    let screen = case.word();
+    let settings = settings_of(case.take());
+    match kind {
+        Kind::Cells => cells(tally, screen, settings, case),
+        Kind::Walk => walk(tally, screen, settings, case.take()),
+        Kind::Rounds => rounds(tally, screen, settings, case.take()),
+        Kind::Frequency => frequency(tally, screen, settings, case),
+        Kind::Departure => departure(tally, screen, settings, case.take()),
+        Kind::Arrival => arrival(tally, screen, settings, case.take()),
+        Kind::Margin => margin(tally, screen, settings, case),
+        Kind::StopTime => stop_time(tally, screen, settings, case),
+        Kind::Clock => clock(tally, screen, settings, case.take()),
+        Kind::Label => label(tally, screen, settings, case),
+        Kind::Building => building::built(tally, screen, settings, case),
+        Kind::Search => queries::searched(tally, screen, settings, case),
+        Kind::Chain => chains::chained(tally, screen, settings, case),
+        Kind::HoldTally => words.0 == tally.as_slice(),
+        Kind::SetTally => {
+            *tally = words.take();
+            line.len() == 129
+        }
     }
-    if kind == 15 {
-        return tally_is(tally, rest(line, 1));
-    }
-    case_right(tally, at(line, 1), settings_of(line), kind, rest(line, 5))
 }

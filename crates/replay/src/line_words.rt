@@ -1,87 +1,72 @@
-// The words of a line.
-ghost use Rattle.std.specs.Prelude.{◌<◌};
+// The words of a line, read one after the other.
+ghost use Rattle.std.specs.Prelude.{◌<◌, ◌≤◌, length};
 
-// Nine words, one after the other.
+// The words that are still to be read; past the end every word is 0.
 #[derive(Clone, Copy)]
-pub struct Nine(
-    pub u32,
-    pub u32,
-    pub u32,
-    pub u32,
-    pub u32,
-    pub u32,
-    pub u32,
-    pub u32,
-    pub u32,
-);
+pub struct Words<'a>(pub &'a [u32]);
 
-// Word i, 0 past the end.
-pub fn at(w: &[u32], i: usize) -> u32 {
-    if i < w.len() {
-        return w[i];
-    }
-    0
-}
-
-// Word i as a number of words; a line has fewer than 1,024.
-pub fn length_at(w: &[u32], i: usize) -> usize
+// A word as a number of words; a line has fewer than 1,024.
+pub fn length_of(word: u32) -> usize
     ensures { result < 1024 }
 {
-    let n = at(w, i);
-    (n % 1024) as usize
+    word as usize % 1024
 }
 
-// The words from `from` on; none past the end.
-pub fn rest(w: &[u32], from: usize) -> &[u32] {
-    let n = w.len();
-    if n < from {
-        return &w[n..];
+// The first N words, with zeros past the end.
+pub fn padded<const N: usize>(words: &[u32]) -> [u32; N] {
+    let mut first = [0; N];
+    for (to, word) in first.iter_mut().zip(words) {
+        *to = *word;
     }
-    &w[from..]
+    first
 }
 
-// The n words from `from` on, or as many as there are.
-pub fn part(w: &[u32], from: usize, n: usize) -> &[u32] {
-    let all = w.len();
-    if all < from {
-        return &w[all..];
+impl<'a> Words<'a> {
+    // The next n words, or as many as there are.
+    pub fn part(&mut self, n: usize) -> &'a [u32]
+        ensures { length result.now ≤ n }
+    {
+        let Words(words) = *self;
+        let (part, rest) = words.split_at(n.min(words.len()));
+        self.0 = rest;
+        part
     }
-    if all - from < n {
-        return &w[from..];
+
+    // The next N words.
+    pub fn take<const N: usize>(&mut self) -> [u32; N] {
+        padded(self.part(N))
     }
-    let end = from + n;
-    &w[from..end]
-}
 
-// The first nine words.
-pub fn first_nine(w: &[u32]) -> Nine {
-    Nine(
-        at(w, 0),
-        at(w, 1),
-        at(w, 2),
-        at(w, 3),
-        at(w, 4),
-        at(w, 5),
-        at(w, 6),
-        at(w, 7),
-        at(w, 8),
-    )
-}
-
-pub fn both(a: bool, b: bool) -> bool {
-    door::both(a, b)
-}
-
-// Are these the words from `from` on?
-pub fn same_words(w: &[u32], from: usize, a: &[u32]) -> bool
-    requires { from < 4096 }
-{
-    let mut i: usize = 0;
-    while i < a.len() {
-        if a[i] != at(w, from + i) {
-            return false;
-        }
-        i += 1;
+    // The next word.
+    pub fn word(&mut self) -> u32 {
+        let [word] = self.take::<1>();
+        word
     }
-    true
+
+    // The next N words, if there are as many.
+    pub fn exact<const N: usize>(&mut self) -> Option<[u32; N]> {
+        let (words, rest) = self.0.split_first_chunk::<N>()?;
+        self.0 = rest;
+        Some(*words)
+    }
+
+    // The next n words, if there are as many.
+    pub fn section(&mut self, n: usize) -> Option<&'a [u32]> {
+        let (section, rest) = self.0.split_at_checked(n)?;
+        self.0 = rest;
+        Some(section)
+    }
+
+    // The words that the next one counts, if the line has them.
+    pub fn counted(&mut self) -> Option<&'a [u32]> {
+        let [count] = self.exact::<1>()?;
+        self.section(length_of(count))
+    }
+
+    // Are these the next words?
+    pub fn are(&mut self, words: &[u32]) -> bool {
+        let stated = self.part(words.len());
+        let (first, past) = words.split_at(stated.len());
+        first == stated && past.iter().all(|word| *word == 0)
+    }
 }

@@ -14,100 +14,79 @@ mod chains;
 mod line_words;
 mod lines;
 mod queries;
-mod tallies;
 
-use std::io;
+use crate::lines::Line;
 use std::io::Read;
+use std::{fmt, io};
+
+// The list is at most so many blocks of so many bytes, and no line of it goes from one block into the next.
+const BLOCKS: usize = 8;
+
+const BLOCK: usize = 262_144;
+
+// Past this many, lines are no more counted.
+const COUNTED: u64 = 1_000_000;
 
 // How many lines were replayed, and how many differed.
-#[derive(Clone, Copy)]
+#[derive(Clone, Copy, Default)]
 struct Replayed {
     replayed: u64,
     differed: u64,
 }
 
-fn counted(t: Replayed, right: bool) -> Replayed {
-    if 1000000 < t.replayed {
-        return t;
-    }
-    if 1000000 < t.differed {
-        return t;
-    }
-    if right {
-        return Replayed {
-            replayed: t.replayed + 1,
-            differed: t.differed,
-        };
-    }
-    Replayed {
-        replayed: t.replayed + 1,
-        differed: t.differed + 1,
+impl Replayed {
+    fn count(&mut self, right: bool) {
+        if self.replayed <= COUNTED && self.differed <= COUNTED {
+            self.replayed += 1;
+            self.differed += u64::from(!right);
+        }
     }
 }
 
-fn one_line(tally: &mut [u32; 128], words: &[u32], count: usize, t: Replayed) -> Replayed {
-    if count == 0 {
-        return t;
+impl fmt::Display for Replayed {
+    fn fmt<W: fmt::Write>(&self, f: &mut fmt::Formatter<W>) -> fmt::Result {
+        let Replayed { replayed, differed } = *self;
+        write!(f, "{replayed} replayed, {differed} differed")
     }
-    if words.len() < count {
-        return t;
-    }
-    counted(t, cases::right(tally, &words[..count]))
 }
 
-fn all_lines(tally: &mut [u32; 128], text: &[u8], words: &mut [u32], before: Replayed) -> Replayed {
-    let mut t = before;
-    let mut at: usize = 0;
-    while at < text.len() {
-        let line = lines::read_line(text, at, words);
-        at = line.next;
-        t = one_line(tally, words, line.count, t);
+// A line with no words is passed over.
+fn replay_lines(tally: &mut [u32; 128], text: &[u8], all: &mut Replayed) {
+    for line in text.split(|byte| *byte == b'\n') {
+        let line = Line::read(line);
+        let words = line.words();
+        if !words.is_empty() {
+            all.count(cases::right(tally, words));
+        }
     }
-    t
 }
 
 // Reads until the space is full or the input ends, and says how many bytes it put at the start of the space.
 fn read_full(input: &mut impl Read, space: &mut [u8]) -> io::Result<usize>
     ensures { ReadsAtMost result space.new }
 {
-    let mut done: usize = 0;
+    let mut done = 0;
     while done < space.len() {
-        let n = input.read(&mut space[done..])?;
-        if n == 0 {
-            return Ok(done);
+        match input.read(&mut space[done..])? {
+            0 => break,
+            n => done += n,
         }
-        done += n;
     }
     Ok(done)
 }
 
-// The list is at most eight blocks as long as this space, and no line of it goes from one block into the next.
-fn all_blocks(
-    input: &mut impl Read,
-    tally: &mut [u32; 128],
-    space: &mut [u8],
-    words: &mut [u32],
-) -> io::Result<Replayed> {
-    let mut t = Replayed {
-        replayed: 0,
-        differed: 0,
-    };
-    let mut block: u32 = 0;
-    while block < 8 {
-        let n = read_full(input, space)?;
-        t = all_lines(tally, &space[..n], words, t);
-        block += 1;
+fn replay(input: &mut impl Read) -> io::Result<Replayed> {
+    let mut all = Replayed::default();
+    let mut tally = [0; 128];
+    let mut block = [0; BLOCK];
+    for _ in 0..BLOCKS {
+        let n = read_full(input, &mut block)?;
+        replay_lines(&mut tally, &block[..n], &mut all);
     }
-    Ok(t)
+    Ok(all)
 }
 
 fn main(rt: HostRuntime) -> io::Result<()> {
-    let mut space = [0u8; 262144];
-    let mut words = [0u32; 1024];
-    let mut tally = [0u32; 128];
-    let mut input = rt.reader();
-    let t = all_blocks(&mut input, &mut tally, &mut space, &mut words)?;
-    let replayed = t.replayed;
-    let differed = t.differed;
-    println!(rt; "{replayed} replayed, {differed} differed")
+    let all = replay(&mut rt.reader())?;
+    println!(rt; "{all}")
 }

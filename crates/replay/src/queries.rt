@@ -1,407 +1,384 @@
 // Lines of `run_tbr` and `query`: a search as it is lent, and what each of the two calls must answer and leave.
-ghost use Rattle.std.specs.Prelude.{◌≤◌, ◌<◌};
-
-use crate::line_words::{at, both, first_nine, length_at, part, rest, same_words};
+use crate::line_words::{Words, length_of, padded};
 use door::Settings;
 use query_reply::Reply;
 use sizes::QuerySizes;
 
-fn sizes(w: &[u32]) -> QuerySizes {
-    let a = first_nine(rest(w, 1));
-    let b = first_nine(rest(w, 10));
-    QuerySizes {
-        trips: a.0,
-        windows: a.1,
-        times: a.2,
-        edges: a.3,
-        stops: a.4,
-        cells: a.5,
-        patterns: a.6,
-        lines: a.7,
-        entries: a.8,
-        transfers: b.0,
-        departures: b.1,
-        delays: b.2,
-        stop_rows: b.3,
-        origins: b.4,
-        egress: b.5,
-    }
+// What every word that is lent to be written holds before a call.
+const LENT: u32 = 7;
+
+// What a search is lent to read.
+#[derive(Clone, Copy)]
+pub struct Lent<'a> {
+    pub sizes: QuerySizes,
+    pub tables: &'a [u32],
+    pub built: &'a [u32],
+    pub transfers: &'a [u32],
+    pub patterns: &'a [u8],
+    pub distances: &'a [f64],
+    pub query: &'a [u32],
 }
 
-// The sections of what is lent to be read, as they stand on the line from word 28 on: timetable, built, transfers, query, patterns,
-// distances. Which word says how long section k is: the query's is the last of them.
-fn length_place(k: usize) -> usize
-    requires { k < 8 }
-{
-    if k < 3 {
-        return 16 + k;
-    }
-    if k == 3 {
-        return 21;
-    }
-    15 + k
+// What it is lent to write.
+#[derive(Drop)]
+pub struct Areas<'a> {
+    pub labels: &'a mut [u32],
+    pub label_distances: &'a mut [f64],
+    pub work: &'a mut [u32],
+    pub queue_a: &'a mut [u32],
+    pub queue_b: &'a mut [u32],
+    pub candidates: &'a mut [u32],
 }
 
-// Where section k begins; with 6, where what the calls must answer begins.
-fn section_at(w: &[u32], k: usize) -> usize
-    requires { k < 8 }
-    ensures { result < 65536 }
-{
-    let mut at: usize = 28;
-    let mut i: usize = 0;
-    while i < k {
-        at += length_at(w, length_place(i));
-        i += 1;
-    }
-    at
+// How a call ended: it answered, or had too short a queue, or refused what it was lent.
+#[derive(Clone, Copy)]
+enum Ending {
+    Answered,
+    QueueFull,
+    Refused,
 }
 
-fn section(w: &[u32], k: usize) -> &[u32]
-    requires { k < 8 }
-{
-    part(w, section_at(w, k), length_at(w, length_place(k)))
-}
-
-// Word i as a length, at most so many: where that is fewer, the call refuses what it is lent, and the line differs.
-fn part_at(w: &[u32], i: usize, room: usize) -> usize
-    ensures { result ≤ room }
-{
-    let n = length_at(w, i);
-    if room < n {
-        return room;
-    }
-    n
-}
-
-fn put_bytes(words: &[u32], to: &mut [u8]) {
-    let mut i: usize = 0;
-    while i < to.len() {
-        to[i] = (at(words, i) % 256) as u8;
-        i += 1;
-    }
-}
-
-pub fn put_distances(words: &[u32], to: &mut [f64]) {
-    let mut i: usize = 0;
-    while i < to.len() {
-        to[i] = at(words, i) as f64;
-        i += 1;
-    }
-}
-
-// Is word k this one? It becomes 0.
-fn take_word(a: &mut [u32], k: usize, word: u32) -> bool {
-    if k < a.len() {
-        let right = a[k] == word;
-        a[k] = 0;
-        return right;
-    }
-    false
-}
-
-// Are the n words of `a` from `from` on the first ones of `w`? They become 0.
-fn take_words(a: &mut [u32], from: usize, n: usize, w: &[u32]) -> bool
-    requires from_bound { from < 65536 }
-    requires n_bound { n < 4096 }
-{
-    let mut right = true;
-    let mut i: usize = 0;
-    while i < n {
-        right = both(right, take_word(a, from + i, at(w, i)));
-        i += 1;
-    }
-    right
-}
-
-fn take_distance(a: &mut [f64], k: usize, distance: f64) -> bool {
-    if k < a.len() {
-        let right = a[k] == distance;
-        a[k] = 0.0;
-        return right;
-    }
-    false
-}
-
-// Is the label of these words, its place first, among the labels? It becomes 0.
-fn take_label(w: &[u32], labels: &mut [u32], distances: &mut [f64]) -> bool {
-    let k = length_at(w, 0);
-    both(
-        take_words(labels, 8 * k, 8, rest(w, 1)),
-        take_distance(distances, k, at(w, 9) as f64),
-    )
-}
-
-// Are these the n labels of the words? They become 0.
-fn take_labels(w: &[u32], n: usize, labels: &mut [u32], distances: &mut [f64]) -> bool
-    requires { n < 1024 }
-{
-    let mut right = true;
-    let mut i: usize = 0;
-    while i < n {
-        right = both(right, take_label(rest(w, 10 * i), labels, distances));
-        i += 1;
-    }
-    right
-}
-
-// Is every word v?
-pub fn all_are(a: &[u32], v: u32) -> bool {
-    let mut i: usize = 0;
-    while i < a.len() {
-        if a[i] != v {
-            return false;
+impl From<u32> for Ending {
+    fn from(code: u32) -> Ending {
+        match code {
+            0 => Ending::Answered,
+            8 => Ending::QueueFull,
+            _ => Ending::Refused,
         }
-        i += 1;
     }
-    true
 }
 
-fn distances_are(a: &[f64], v: f64) -> bool {
-    let mut i: usize = 0;
-    while i < a.len() {
-        if a[i] != v {
-            return false;
+impl Ending {
+    // What a word of labels, workspace and queue must be where the line does not say it: 0 if the call began to search, else as it came.
+    fn word(self) -> u32 {
+        match self {
+            Ending::Answered => 0,
+            Ending::QueueFull => 0,
+            Ending::Refused => LENT,
         }
-        i += 1;
     }
-    true
-}
 
-// What a word of labels, workspace and queue must be after this code where the line does not say it: 0 after an answer and after 8, else as it came.
-fn after(code: u32) -> u32 {
-    if code == 0 {
-        return 0;
+    // The same of a word of the candidates: a queue that is too short leaves them as they came.
+    fn candidate_word(self) -> u32 {
+        match self {
+            Ending::Answered => 0,
+            Ending::QueueFull => LENT,
+            Ending::Refused => LENT,
+        }
     }
-    if code == 8 {
-        return 0;
+}
+
+// What a call must answer and leave: code, total, stop and how many candidates; how many words of candidates, and those; how many
+// labels, and those.
+#[derive(Clone, Copy)]
+pub struct Outcome<'a> {
+    reply: [u32; 4],
+    candidate_words: usize,
+    candidates: Words<'a>,
+    label_count: usize,
+    labels: Words<'a>,
+}
+
+impl<'a> Outcome<'a> {
+    // The next outcome on the line.
+    pub fn read(words: &mut Words<'a>) -> Outcome<'a> {
+        let reply: [u32; 4] = words.take();
+        let [_, _, _, count] = reply;
+        let candidate_words = 3 * length_of(count);
+        let candidates = Words(words.part(candidate_words));
+        let count = words.word();
+        let label_count = length_of(count);
+        let labels = Words(words.part(10 * label_count));
+        Outcome {
+            reply,
+            candidate_words,
+            candidates,
+            label_count,
+            labels,
+        }
     }
-    7
-}
 
-// The same of a word of the candidates: a queue that is too short leaves them as they came.
-fn candidates_after(code: u32) -> u32 {
-    if code == 0 {
-        return 0;
+    fn ending(self) -> Ending {
+        let [code, ..] = self.reply;
+        Ending::from(code)
     }
-    7
-}
 
-// The words of an outcome, `o`: code, total, stop, how many candidates; those; how many labels; those.
-fn reply_right(r: Reply, o: &[u32]) -> bool {
-    same_words(o, 0, &[r.code, r.total, r.stop, r.candidates])
-}
-
-fn candidates_right(o: &[u32], candidates: &mut [u32]) -> bool {
-    let right = take_words(candidates, 0, 3 * length_at(o, 3), rest(o, 4));
-    both(right, all_are(candidates, candidates_after(at(o, 0))))
-}
-
-// The labels' number and the labels.
-fn labels_of(o: &[u32]) -> &[u32] {
-    rest(o, 4 + 3 * length_at(o, 3))
-}
-
-fn labels_right(o: &[u32], labels: &mut [u32], distances: &mut [f64]) -> bool {
-    let l = labels_of(o);
-    let v = after(at(o, 0));
-    let right = take_labels(rest(l, 1), length_at(l, 0), labels, distances);
-    both(
-        right,
-        both(all_are(labels, v), distances_are(distances, v as f64)),
-    )
-}
-
-// The outcome of `run_tbr` (call 0), after the words of what is lent, or of `query`, after that.
-fn outcome(w: &[u32], call: u32) -> &[u32] {
-    let o = rest(w, section_at(w, 6));
-    if call == 0 {
-        return o;
+    // The candidates stand first, and every other word is as the ending says.
+    fn has_candidates(self, candidates: &[u32]) -> bool {
+        let Outcome {
+            candidate_words,
+            candidates: mut stated,
+            ..
+        } = self;
+        let word = self.ending().candidate_word();
+        match candidates.split_at_checked(candidate_words) {
+            Some((rows, rest)) => {
+                stated.are(rows)
+                    && (rows.is_empty() || word == 0)
+                    && rest.iter().all(|other| *other == word)
+            }
+            None => false,
+        }
     }
-    let l = labels_of(o);
-    rest(l, 1 + 10 * length_at(l, 0))
+
+    // The labels stand at their places, and every other word is as the ending says. They become 0.
+    fn has_labels(self, labels: &mut [u32], distances: &mut [f64]) -> bool {
+        let mut stated = self.labels;
+        let mut right = true;
+        for _ in 0..self.label_count {
+            let place = length_of(stated.word());
+            let row = stated.take::<8>();
+            let metres = f64::from(stated.word());
+            right = take_label(place, row, metres, labels, distances) && right;
+        }
+        let word = self.ending().word();
+        right
+            && labels.iter().all(|other| *other == word)
+            && distances.iter().all(|other| *other == f64::from(word))
+    }
+
+    // Is the call's reply, and every word of what it was lent to write, what the outcome says?
+    pub fn is_left(self, reply: Reply, areas: Areas<'_>) -> bool {
+        let Areas {
+            labels,
+            label_distances,
+            work,
+            queue_a,
+            queue_b,
+            candidates,
+        } = areas;
+        let word = self.ending().word();
+        self.reply == [reply.code, reply.total, reply.stop, reply.candidates]
+            && self.has_candidates(candidates)
+            && work.iter().all(|other| *other == word)
+            && queue_a.iter().all(|other| *other == word)
+            && queue_b.iter().all(|other| *other == word)
+            && self.has_labels(labels, label_distances)
+    }
 }
 
-// Is every word of workspace and queue the one that must be there after this code?
-fn cleared(code: u32, k: &[u32], u: &[u32], v: &[u32]) -> bool {
-    let word = after(code);
-    both(all_are(k, word), both(all_are(u, word), all_are(v, word)))
-}
-
-// Is the call's reply, and every word of what it was lent to write, what the outcome says?
-pub fn left(
-    reply: Reply,
-    o: &[u32],
-    l: &mut [u32],
-    m: &mut [f64],
-    k: &[u32],
-    u: &[u32],
-    v: &[u32],
-    c: &mut [u32],
+// Does this label stand at this place among the labels? It becomes 0.
+fn take_label(
+    place: usize,
+    label: [u32; 8],
+    metres: f64,
+    labels: &mut [u32],
+    distances: &mut [f64],
 ) -> bool {
-    both(
-        both(reply_right(reply, o), candidates_right(o, c)),
-        both(cleared(at(o, 0), k, u, v), labels_right(o, l, m)),
-    )
+    let (rows, _) = labels.as_chunks_mut::<8>();
+    let (Some(row), Some(distance)) = (rows.get_mut(place), distances.get_mut(place)) else {
+        return false;
+    };
+    let right = *row == label && *distance == metres;
+    *row = [0; 8];
+    *distance = 0.0;
+    right
 }
 
-// Puts the search to `run_tbr`. To read: the line, patterns, distances; to write: labels, their distances, workspace, the queue halves, candidates.
-fn ran(
+// A search as the line has it: what is lent to be read, and how long what is lent to be written is: labels, their distances, workspace, the
+// queue halves, candidates.
+#[derive(Clone, Copy)]
+struct Search<'a> {
+    sizes: QuerySizes,
+    tables: &'a [u32],
+    built: &'a [u32],
+    transfers: &'a [u32],
+    query: &'a [u32],
+    patterns: &'a [u32],
+    distances: &'a [u32],
+    lengths: [usize; 6],
+}
+
+fn sizes(words: [u32; 15]) -> QuerySizes {
+    let [
+        trips,
+        windows,
+        times,
+        edges,
+        stops,
+        cells,
+        patterns,
+        lines,
+        entries,
+        transfers,
+        departures,
+        delays,
+        stop_rows,
+        origins,
+        egress,
+    ] = words;
+    QuerySizes {
+        trips,
+        windows,
+        times,
+        edges,
+        stops,
+        cells,
+        patterns,
+        lines,
+        entries,
+        transfers,
+        departures,
+        delays,
+        stop_rows,
+        origins,
+        egress,
+    }
+}
+
+impl<'a> Search<'a> {
+    // Counts and lengths stand first, then what the lengths are of; none where the line ends before.
+    fn read(words: &mut Words<'a>) -> Option<Search<'a>> {
+        let sizes = sizes(words.exact()?);
+        let [tables, built, transfers, patterns, distances, query] = words.exact::<6>()?;
+        let lengths = words.exact::<6>()?.map(length_of);
+        Some(Search {
+            sizes,
+            tables: words.section(length_of(tables))?,
+            built: words.section(length_of(built))?,
+            transfers: words.section(length_of(transfers))?,
+            query: words.section(length_of(query))?,
+            patterns: words.section(length_of(patterns))?,
+            distances: words.section(length_of(distances))?,
+            lengths,
+        })
+    }
+    // What the calls are lent to read; of patterns and distances as many as the line has, or as there is room for.
+    fn lent(self, patterns: &'a [u8; 256], distances: &'a [f64; 64]) -> Lent<'a> {
+        Lent {
+            sizes: self.sizes,
+            tables: self.tables,
+            built: self.built,
+            transfers: self.transfers,
+            patterns: &patterns[..self.patterns.len().min(256)],
+            distances: &distances[..self.distances.len().min(64)],
+            query: self.query,
+        }
+    }
+}
+
+// Which of the two calls.
+#[derive(Clone, Copy)]
+enum Call {
+    RunTbr,
+    Query,
+}
+
+// Puts a search to `run_tbr`.
+fn run_tbr(
     tally: &mut [u32; 128],
     screen: u32,
     settings: Settings,
-    w: &[u32],
-    p: &[u8],
-    d: &[f64],
-    l: &mut [u32],
-    m: &mut [f64],
-    k: &mut [u32],
-    u: &mut [u32],
-    v: &mut [u32],
-    c: &mut [u32],
+    lent: Lent<'_>,
+    areas: &mut Areas<'_>,
 ) -> Reply {
     exports::savoiky_run_tbr(
         tally,
         screen,
         settings,
-        sizes(w),
-        section(w, 0),
-        section(w, 1),
-        section(w, 2),
-        p,
-        d,
-        section(w, 3),
-        l,
-        m,
-        k,
-        u,
-        v,
-        c,
+        lent.sizes,
+        lent.tables,
+        lent.built,
+        lent.transfers,
+        lent.patterns,
+        lent.distances,
+        lent.query,
+        areas.labels,
+        areas.label_distances,
+        areas.work,
+        areas.queue_a,
+        areas.queue_b,
+        areas.candidates,
     )
 }
 
-// The same to `query`.
-fn queried(
+// Puts a search to `query`.
+pub fn query(
     tally: &mut [u32; 128],
     screen: u32,
     settings: Settings,
-    w: &[u32],
-    p: &[u8],
-    d: &[f64],
-    l: &mut [u32],
-    m: &mut [f64],
-    k: &mut [u32],
-    u: &mut [u32],
-    v: &mut [u32],
-    c: &mut [u32],
+    lent: Lent<'_>,
+    areas: &mut Areas<'_>,
 ) -> Reply {
     exports::savoiky_query(
         tally,
         screen,
         settings,
-        sizes(w),
-        section(w, 0),
-        section(w, 1),
-        section(w, 2),
-        p,
-        d,
-        section(w, 3),
-        l,
-        m,
-        k,
-        u,
-        v,
-        c,
+        lent.sizes,
+        lent.tables,
+        lent.built,
+        lent.transfers,
+        lent.patterns,
+        lent.distances,
+        lent.query,
+        areas.labels,
+        areas.label_distances,
+        areas.work,
+        areas.queue_a,
+        areas.queue_b,
+        areas.candidates,
     )
 }
 
-fn ask(
+// Does the call answer and leave what is stated? The areas have these lengths. Where one has less room than that, the call refuses what it is
+// lent, and the line differs.
+fn is_right(
     tally: &mut [u32; 128],
     screen: u32,
     settings: Settings,
-    call: u32,
-    w: &[u32],
-    p: &[u8],
-    d: &[f64],
-    l: &mut [u32],
-    m: &mut [f64],
-    k: &mut [u32],
-    u: &mut [u32],
-    v: &mut [u32],
-    c: &mut [u32],
-) -> Reply {
-    if call == 0 {
-        return ran(tally, screen, settings, w, p, d, l, m, k, u, v, c);
-    }
-    queried(tally, screen, settings, w, p, d, l, m, k, u, v, c)
-}
-
-fn asked(
-    tally: &mut [u32; 128],
-    screen: u32,
-    settings: Settings,
-    call: u32,
-    w: &[u32],
-    p: &[u8],
-    d: &[f64],
-    l: &mut [u32],
-    m: &mut [f64],
-    k: &mut [u32],
-    u: &mut [u32],
-    v: &mut [u32],
-    c: &mut [u32],
+    call: Call,
+    lent: Lent<'_>,
+    lengths: [usize; 6],
+    stated: Outcome<'_>,
 ) -> bool {
-    let reply = ask(tally, screen, settings, call, w, p, d, l, m, k, u, v, c);
-    left(reply, outcome(w, call), l, m, k, u, v, c)
-}
-
-// What is lent to be written holds 7 in every word.
-fn one_call(
-    tally: &mut [u32; 128],
-    screen: u32,
-    settings: Settings,
-    call: u32,
-    w: &[u32],
-    p: &[u8],
-    d: &[f64],
-) -> bool {
-    let mut labels = [7u32; 840];
-    let mut distances = [7.0f64; 105];
-    let mut work = [7u32; 384];
-    let mut queue_a = [7u32; 128];
-    let mut queue_b = [7u32; 128];
-    let mut candidates = [7u32; 40];
-    asked(
-        tally,
-        screen,
-        settings,
-        call,
-        w,
-        p,
-        d,
-        &mut labels[..part_at(w, 22, 840)],
-        &mut distances[..part_at(w, 23, 105)],
-        &mut work[..part_at(w, 24, 384)],
-        &mut queue_a[..part_at(w, 25, 128)],
-        &mut queue_b[..part_at(w, 26, 128)],
-        &mut candidates[..part_at(w, 27, 40)],
-    )
+    let [l, d, w, a, b, c] = lengths;
+    let mut areas = Areas {
+        labels: &mut [LENT; 840][..l.min(840)],
+        label_distances: &mut [f64::from(LENT); 105][..d.min(105)],
+        work: &mut [LENT; 384][..w.min(384)],
+        queue_a: &mut [LENT; 128][..a.min(128)],
+        queue_b: &mut [LENT; 128][..b.min(128)],
+        candidates: &mut [LENT; 40][..c.min(40)],
+    };
+    let reply = match call {
+        Call::RunTbr => run_tbr(tally, screen, settings, lent, &mut areas),
+        Call::Query => query(tally, screen, settings, lent, &mut areas),
+    };
+    stated.is_left(reply, areas)
 }
 
 // Are the answers of both calls those on the line? Patterns and distances are made of their words.
-pub fn searched(tally: &mut [u32; 128], screen: u32, settings: Settings, w: &[u32]) -> bool {
-    let mut patterns = [0u8; 256];
-    let mut distances = [0.0f64; 64];
-    if w.len() < section_at(w, 6) {
+pub fn searched(
+    tally: &mut [u32; 128],
+    screen: u32,
+    settings: Settings,
+    mut words: Words<'_>,
+) -> bool {
+    let Some(s) = Search::read(&mut words) else {
         return false;
-    }
-    put_bytes(section(w, 4), &mut patterns);
-    put_distances(section(w, 5), &mut distances);
-    let n = part_at(w, 19, 256);
-    let m = part_at(w, 20, 64);
-    let p = &patterns[..n];
-    let d = &distances[..m];
-    both(
-        one_call(tally, screen, settings, 0, w, p, d),
-        one_call(tally, screen, settings, 1, w, p, d),
-    )
+    };
+    let patterns = padded::<256>(s.patterns).map(|word| (word % 256) as u8);
+    let distances = padded::<64>(s.distances).map(f64::from);
+    let lent = s.lent(&patterns, &distances);
+    let stated = Outcome::read(&mut words);
+    let ran = is_right(
+        tally,
+        screen,
+        settings,
+        Call::RunTbr,
+        lent,
+        s.lengths,
+        stated,
+    );
+    let stated = Outcome::read(&mut words);
+    let queried = is_right(
+        tally,
+        screen,
+        settings,
+        Call::Query,
+        lent,
+        s.lengths,
+        stated,
+    );
+    ran && queried
 }

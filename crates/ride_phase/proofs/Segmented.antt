@@ -12,7 +12,7 @@ use Rattle.loops.specs.Count.{tab_from}
 use Rattle.stop_delay.specs.Times.{size_of}
 use Rattle.tables.specs.declared.Counts.{Counts}
 use Rattle.tables.specs.Timetable.{timetable}
-use Rattle.delay_rows.specs.declared.Found.{Found}
+use Rattle.std.specs.Prelude.{Option}
 use Rattle.delay_rows.specs.Flat.{delay_tables}
 use Rattle.model.specs.Tables.{Tables, Query, permitted}
 use Rattle.model.specs.Search.{Segment, State, delay_of, logged, scan_trip_forward, ride_segments}
@@ -92,7 +92,7 @@ module _ {ctx : Context} {sl : Slices} {stamp : ℕ} {w l : List ℕ} {m : List 
   pub segment_trip : ride.trip < ctx.counts.timetable.trips
   segment_trip = omega (arith, ap (λ (r : Ride). r.trip) is, S.trip k (omega arith))
 
-  pub segment_riding : (adj : Found) → Known sl.delay_rows adj → Riding sl.tables ctx.counts.timetable sl.delay_rows sl.stop_rows adj ctx.lay ride
+  pub segment_riding : (adj : Option ℕ) → Known sl.delay_rows adj → Riding sl.tables ctx.counts.timetable sl.delay_rows sl.stop_rows adj ctx.lay ride
   segment_riding adj known = riding_on G adj ride known segment_trip (subst (λ (r : Ride). size_of r.shift ≤ time_limit) (sym is) (S.shift k (omega arith)))
 
   pub segment_ready : Ready ctx.lay ride.stamp (memory w l m h)
@@ -110,7 +110,7 @@ module _ {ctx : Context} {sl : Slices} {stamp : ℕ} {w l : List ℕ} {m : List 
         (λ T Q y s z. segment_one T Q flagged round stamp (segment_at from k) s false (sym (allowed T Q y) ∙ not-true p e))
 
     -- it is ridden
-    pub segment_ridden : not p ≡ false → (adj : Found) → ((Q : Query) (stops : List ℕ) → Q.delays ≡ delay_tables sl.delay_rows stops → hit_of adj ≡ delay_of Q ride.trip) → {b : Memory} {q' : List ℕ}
+    pub segment_ridden : not p ≡ false → (adj : Option ℕ) → ((Q : Query) (stops : List ℕ) → Q.delays ≡ delay_tables sl.delay_rows stops → hit_of adj ≡ delay_of Q ride.trip) → {b : Memory} {q' : List ℕ}
         → QueueStep ctx.lay ride.stamp (Nets ctx sl w) (λ T Q. scan_trip_forward T Q flagged ride.stamp (hit_of adj) ride.shift ride.trip ride.stop ride.offset) (memory w l m h) b q q'
         → Rode ctx.lay stamp (Rides ctx sl w) (λ T Q. ride_segments T Q flagged round stamp (segment_at from k ∷ [])) (memory w l m h) b q q'
     segment_ridden e adj row {b} {q'} z =

@@ -34,16 +34,12 @@ fn ride_of(from: &[u32], stamp: u32, k: usize) -> Ride
     ensures { result ≡ ride_of stamp (segment_at from.now k) }
 {
     let at = 4 * k;
-    let trip = from[at];
-    let offset = from[at + 1];
-    let stop = from[at + 2];
-    let shift = from[at + 3];
     Ride {
         stamp,
-        trip,
-        stop,
-        offset,
-        shift,
+        trip: from[at],
+        offset: from[at + 1],
+        stop: from[at + 2],
+        shift: from[at + 3],
     }
 }
 
@@ -126,8 +122,7 @@ fn ride_segments(
         (memory work.new labels.new label_distances.new result) queue.old queue.new }
 {
     let mut g = h;
-    let mut k: usize = 0;
-    while k < m {
+    for k in 0..m {
         g = ride_segment(
             tables,
             delay_rows,
@@ -147,7 +142,6 @@ fn ride_segments(
         if g.full {
             return g;
         }
-        k += 1;
     }
     g
 }
@@ -159,17 +153,7 @@ fn marked(counts: QueryCounts, built: &[u32], x: usize) -> bool
     requires x_bound { x < counts.timetable.stops }
     ensures { result ≡ eqb (get_or built.now (marks_at counts + x) 0) 1 }
 {
-    words::field(built, query_input::marks_at(counts) + x) == 1
-}
-
-// The earliest scheduled departure that a delay may bring to `after` or later.
-fn less(after: u32, margin: u32) -> u32
-    ensures { result ≡ after - margin }
-{
-    if after <= margin {
-        return 0;
-    }
-    after - margin
+    built[query_input::marks_at(counts) + x] == 1
 }
 
 // The departures of stop x that are scanned: from the first on that is not before `m`; all of them where it has frequency trips.
@@ -192,9 +176,10 @@ fn departures_from<'a>(
 {
     let list = departure_scan::departures_at(counts, built, x);
     if has_freq {
-        return list;
+        list
+    } else {
+        departure_scan::not_before(tables, counts.timetable, list, m)
     }
-    departure_scan::not_before(tables, counts.timetable, list, m)
 }
 
 // The departures of stop x, reached before, are scanned where they can be before the best total.
@@ -230,8 +215,8 @@ fn scan_stop(
         return h;
     }
     let has_freq = marked(p.context.counts, built, x);
-    let margin = p.context.net.terms.margin;
-    let from = less(after, margin);
+    // the earliest scheduled departure that a delay may bring to `after` or later
+    let from = after.saturating_sub(p.context.net.terms.margin);
     let list = departures_from(tables, p.context.counts, built, x, has_freq, from);
     let stop = x as u32;
     let at = StopScan {
@@ -285,8 +270,7 @@ fn scan_stops(
         (memory work.new labels.new label_distances.new result) queue.old queue.new }
 {
     let mut g = h;
-    let mut i: usize = 0;
-    while i < count {
+    for i in 0..count {
         let at = p.context.lay.other + i;
         let x = work[at] as usize;
         g = scan_stop(
@@ -307,7 +291,6 @@ fn scan_stops(
         if g.full {
             return g;
         }
-        i += 1;
     }
     g
 }

@@ -3,7 +3,7 @@ use Prim.Native.Nat.{ℕ, zero, suc, ◌+◌, ◌-◌, ◌≤◌}
 use mathlib.Core.Path.{◌≡◌, refl}
 use mathlib.Core.Bool.{Bool, true, false, not, cond, ◌&&◌, ◌||◌}
 use mathlib.Core.List.{List, [], ◌∷◌}
-use mathlib.Core.Option.{Option, none, some}
+use Rattle.std.specs.Prelude.{Option, None, Some}
 use native.Mathlib.Omega.{arith}
 use native.Mathlib.Nat.{le_refl, le_trans}
 use lib.ListN.{length, get_or}
@@ -11,8 +11,6 @@ use lib.Dec.{ltb, leb, eqb}
 use borrow.Author.Tests.{ltb-true}
 use Rattle.loops.specs.Iter.{Hit}
 use Rattle.frequency.specs.declared.BoardedRun.{BoardedRun}
-use Rattle.frequency.specs.declared.FreqBoard.{FreqBoard}
-use Rattle.frequency.specs.declared.FreqBoard.TheVariants.{Nothing, Board}
 use Rattle.label.specs.declared.Label.{Label}
 use Rattle.label.specs.declared.Label.TheVariants.{Transit, Walk}
 use Rattle.label.specs.Label.{no_distance}
@@ -72,11 +70,11 @@ module _ (T : Tables) (Q : Query) where
       go : (h : Bool) (r : Option (ℕ × BoardedRun)) → ((c : Arrivals) → Later c (take_transfers T Q stamp v x es c))
           → Later a (elim h [
             | false ↦ take_transfers T Q stamp v x es a
-            | true ↦ elim r [ none ↦ take_transfers T Q stamp v x es a | some b ↦ take_transfers T Q stamp v x es (next b) ]
+            | true ↦ elim r [ None ↦ take_transfers T Q stamp v x es a | Some b ↦ take_transfers T Q stamp v x es (next b) ]
           ])
       go false r on = on a
-      go true none on = on a
-      go true (some b) on =
+      go true None on = on a
+      go true (Some b) on =
           later_trans (later_trans (relax_later stamp _ _ _ a) (enqueue_later b.0 e.offset _ b.1.time_shift_s (arrived b))) (on (next b))
 
   -- alighting at the stops of a trip
@@ -170,17 +168,17 @@ module _ (T : Tables) (Q : Query) where
             boardings = board T Q round stamp (delay_of Q d.trip) d.trip d.offset b.departure s.boardings;
           }
 
-      go : (y : Bool) (f : FreqBoard) → ((z : State) → Later z.arrivals (scan_departures T Q flagged has_freq round stamp x after ds z).arrivals)
+      go : (y : Bool) (f : Option BoardedRun) → ((z : State) → Later z.arrivals (scan_departures T Q flagged has_freq round stamp x after ds z).arrivals)
           → Later s.arrivals (elim y as (λ z. State) [
             | true ↦ s
             | false ↦ elim f as (λ z. State) [
-              | Nothing ↦ scan_departures T Q flagged has_freq round stamp x after ds s
-              | Board b ↦ scan_departures T Q flagged has_freq round stamp x after ds (next b)
+              | None ↦ scan_departures T Q flagged has_freq round stamp x after ds s
+              | Some b ↦ scan_departures T Q flagged has_freq round stamp x after ds (next b)
             ]
           ]).arrivals
       go true f on = later_refl _
-      go false Nothing on = on s
-      go false (Board b) on =
+      go false None on = on s
+      go false (Some b) on =
           later_trans (scan_later flagged stamp (delay_of Q d.trip) b.time_shift_s d.trip x d.offset s.arrivals) (on (next b))
 
   -- the stops reached before

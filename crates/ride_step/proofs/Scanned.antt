@@ -9,7 +9,7 @@ use lib.Ieee.{Float}
 use Rattle.loops.specs.Iter.{Hit}
 use Rattle.stop_delay.specs.Times.{size_of}
 use Rattle.door.specs.Door.{time_limit}
-use Rattle.delay_rows.specs.declared.Found.{Found}
+use Rattle.std.specs.Prelude.{Option}
 use Rattle.delay_rows.specs.Flat.{delay_tables}
 use Rattle.model.specs.Tables.{Tables, Query}
 use Rattle.model.specs.Search.{Arrivals, Boardings, State, at, delay_of, logged, scan_trip_forward}
@@ -52,13 +52,13 @@ books_logged round t o b k =
 module _ {ctx : Context} {sl : Slices} {stamp : ℕ} {w l : List ℕ} {m : List Float} {h : Head} {q : List ℕ}
     (G : Going ctx sl stamp (memory w l m h) q) where
   -- what a scan needs of the ride
-  pub riding_on : (adj : Found) (ride : Ride) → Known sl.delay_rows adj → ride.trip < ctx.counts.timetable.trips → size_of ride.shift ≤ time_limit
+  pub riding_on : (adj : Option ℕ) (ride : Ride) → Known sl.delay_rows adj → ride.trip < ctx.counts.timetable.trips → size_of ride.shift ≤ time_limit
       → Riding sl.tables ctx.counts.timetable sl.delay_rows sl.stop_rows adj ctx.lay ride
   riding_on adj ride k i s =
       record { ground = G.laid.netted.ground; known = k; stops = G.laid.netted.stops; trips = G.laid.netted.trips; trip = i; shift = s }
 
   -- A SCAN, from working numbers w1 in which `bookings` are noted
-  module _ (flagged : Bool) (adj : Found) (shift trip x off : ℕ) (bookings : Tables → Query → Boardings → Boardings) {w1 : List ℕ} {b : Memory} {q' : List ℕ}
+  module _ (flagged : Bool) (adj : Option ℕ) (shift trip x off : ℕ) (bookings : Tables → Query → Boardings → Boardings) {w1 : List ℕ} {b : Memory} {q' : List ℕ}
       (row : (Q : Query) (stops : List ℕ) → Q.delays ≡ delay_tables sl.delay_rows stops → hit_of adj ≡ delay_of Q trip)
       (k : Kept ctx.lay w w1) (ar : arrivals_of ctx.lay (memory w1 l m h) q ≡ arrivals_of ctx.lay (memory w l m h) q) (fl : Falls ctx.lay w w1) (ch : Chains ctx.lay stamp w1)
       (bk : (T : Tables) (Q : Query) → Rides ctx sl w T Q → (c : Boardings) → Books ctx.lay stamp T Q w c → Books ctx.lay stamp T Q w1 (bookings T Q c))

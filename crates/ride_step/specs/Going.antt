@@ -1,8 +1,7 @@
 -- What the parts of the ride phase need, and what they do. Definitions only.
 -- Inner: nobody has to believe this.
-use Rattle.std.specs.Prelude.{ℕ, ◌≡◌, Bool, false, List, length}
-use Rattle.frequency.specs.declared.FreqBoard.{FreqBoard}
-use Rattle.frequency.specs.declared.FreqBoard.TheVariants.{Nothing, Board}
+use Rattle.std.specs.Prelude.{ℕ, ◌≡◌, Bool, false, List, length, Option, None, Some}
+use Rattle.frequency.specs.declared.BoardedRun.{BoardedRun}
 use Rattle.departures.specs.declared.DepartureRow.{DepartureRow}
 use Rattle.model.specs.Tables.{Tables, Query, change_before}
 use Rattle.model.specs.Search.{Segment, State, delay_of, boarding, board, scan_trip_forward}
@@ -37,9 +36,9 @@ pub record Changing (ctx : Context) (sl : Slices) (round change : ℕ) (w : List
   pub before : change_before Q round ≡ change
 
 -- one listed departure of stop x, tried and, where it is boarded so, taken
-abbrev pub taken_by : Tables → Query → Bool → ℕ → ℕ → ℕ → DepartureRow → FreqBoard → State → State
-taken_by T Q flagged round stamp x d Nothing s = s
-taken_by T Q flagged round stamp x d (Board b) s =
+abbrev pub taken_by : Tables → Query → Bool → ℕ → ℕ → ℕ → DepartureRow → Option BoardedRun → State → State
+taken_by T Q flagged round stamp x d None s = s
+taken_by T Q flagged round stamp x d (Some b) s =
     record {
       arrivals = scan_trip_forward T Q flagged stamp (delay_of Q d.trip) b.time_shift_s d.trip x d.offset s.arrivals;
       boardings = board T Q round stamp (delay_of Q d.trip) d.trip d.offset b.departure s.boardings;

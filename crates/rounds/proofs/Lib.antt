@@ -1,4 +1,3 @@
-pub mod Tests
 pub mod Keep
 pub mod States
 pub mod Opening

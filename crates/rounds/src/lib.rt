@@ -109,7 +109,7 @@ fn turn(
         (filled at.even queue_a.new queue_b.new) }
 {
     if at.even {
-        return round(
+        round(
             ctx,
             at.round,
             tables,
@@ -125,48 +125,40 @@ fn turn(
             label_distances,
             queue_b,
             h,
-        );
+        )
+    } else {
+        round(
+            ctx,
+            at.round,
+            tables,
+            delay_rows,
+            stop_rows,
+            built,
+            patterns,
+            transfers,
+            distances,
+            queue_b,
+            work,
+            labels,
+            label_distances,
+            queue_a,
+            h,
+        )
     }
-    round(
-        ctx,
-        at.round,
-        tables,
-        delay_rows,
-        stop_rows,
-        built,
-        patterns,
-        transfers,
-        distances,
-        queue_b,
-        work,
-        labels,
-        label_distances,
-        queue_a,
-        h,
-    )
 }
 
 // Is no stop left to board at and, flagged, no segment to ride?
 fn idle(flagged: bool, h: Head) -> bool
     ensures { result ≡ idle_head flagged h }
 {
-    if h.count != 0 {
-        return false;
-    }
-    if !flagged {
-        return true;
-    }
-    h.queued == 0
+    h.count == 0 && (!flagged || h.queued == 0)
 }
 
 // Do the rounds end: did a segment not fit, or is nothing left to do?
 fn ends(flagged: bool, h: Head) -> bool
     ensures { result ≡ (h.full || idle_head flagged h) }
 {
-    if h.full {
-        return true;
-    }
-    idle(flagged, h)
+    h.full || idle(flagged, h)
 }
 
 // THE ROUNDS of a query.
@@ -196,8 +188,7 @@ pub fn rounds(
     let limit = walk_time::tbr_max_rounds(query[2], query[3]);
     let mut g = h;
     let mut even = true;
-    let mut r: u32 = 0;
-    while r < limit {
+    for r in 0..limit {
         if ends(ctx.flagged, g) {
             return g;
         }
@@ -220,7 +211,6 @@ pub fn rounds(
             g,
         );
         even = !even;
-        r += 1;
     }
     g
 }

@@ -3,7 +3,7 @@ use Prim.Native.Nat.{ℕ, ◌+◌, ◌*◌, ◌-◌, ◌≤◌, ◌<◌}
 use mathlib.Core.Path.{◌≡◌, refl, sym, ap, ap₂, ◌∙◌}
 use mathlib.Core.List.{List}
 use native.Mathlib.Omega.{arith}
-use lib.ListN.{length, get_or, set, take, drop, length-set, length-drop}
+use lib.ListN.{length, get_or, set, take, drop, replicate, length-set, length-drop}
 use lib.Seq.{length-take-le, get_or-take, get_or-set_same, get_or-set_other}
 use borrow.Rule.Slice.PartMut.{put_mid}
 use Rattle.loops.specs.Count.{tab}
@@ -19,7 +19,8 @@ use Rattle.line_layout.specs.Layout.{line_trips_in, position_in, fifo_of, positi
 use Rattle.line_layout.specs.Listed.{LinesListed}
 use Rattle.event_transfers.specs.Transfers.{events_before}
 use Rattle.event_transfers.proofs.Counting.{events_step}
-use Rattle.search_state.proofs.Part.{drop_at}
+use Rattle.search_state.proofs.Part.{drop_at, tab_one}
+use Rattle.words.specs.Filled.{Filled}
 use Rattle.words.proofs.Filling.{same_or}
 use Rattle.search_begin.specs.Laying.{Put}
 
@@ -56,6 +57,22 @@ put_part a e n f w z s h g =
 -- how long that part is
 pub part_long : (a e n : ℕ) (w : List ℕ) → a + n ≡ e → e ≤ length w → length (take (e - a) (drop a w)) ≡ n
 part_long a e n w s h = let r : e - a ≡ n = omega (arith, s) in length-take-le (e - a) (drop a w) (simp length-drop (omega (arith, s, h))) ∙ r
+
+-- the part from a up to e, filled with one number
+pub fill_part : (a e v : ℕ) (w z : List ℕ) → a ≤ e → e ≤ length w → z ≡ replicate (length (take (e - a) (drop a w))) v → Filled a e v w (put_mid a (e - a) w z)
+fill_part a e v w z s h g =
+    let r : a + (e - a) ≡ e = omega (arith, s) in
+    let p = put_part a e (e - a) (λ i. v) w z r h (g ∙ ap (λ (n : ℕ). replicate n v) (part_long a e (e - a) w r h) ∙ sym (tab_one v 0 (e - a))) in
+    record {
+      size = p.size;
+      inside = λ i u l. let q : a + (i - a) ≡ i = omega (arith, u) in rw q at (p.inside (i - a) (omega (arith, u, l)));
+      below = p.below;
+      above = λ i u. p.above i (omega (arith, r, u));
+    }
+
+-- the same with the ends by other names
+pub filled_at : {a b v : ℕ} {w z : List ℕ} (n : ℕ) → a ≡ b → Filled a (a + n) v w z → Filled b (b + n) v w z
+filled_at n e f = rw (sym e) f
 
 -- the lines by their sections
 pub lines_read : {c : Counts} {n : ℕ} {r s runs entries : List ℕ} → LinesListed c n runs entries → r ≡ runs → s ≡ entries → LinesListed c n r s

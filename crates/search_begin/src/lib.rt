@@ -33,9 +33,9 @@ fn zero_all(work: &mut [u32], labels: &mut [u32], label_distances: &mut [f64])
     ensures labels_new { labels.new ≡ replicate (length labels.old) 0 }
     ensures label_distances_new { label_distances.new ≡ replicate (length label_distances.old) no_distance }
 {
-    words::clear_words(work);
-    words::clear_words(labels);
-    label::zero_distances(label_distances);
+    work.fill(0);
+    labels.fill(0);
+    label_distances.fill(0.0);
 }
 
 // A new query's state.
@@ -46,8 +46,8 @@ fn reset(lay: Lay, work: &mut [u32], labels: &mut [u32], label_distances: &mut [
 {
     zero_all(work, labels, label_distances);
     let reach = query_types::reach_at(lay);
-    words::fill(work, 0, lay.stops, 4294967295);
-    words::fill(work, reach, reach + lay.trips, 4294967295);
+    work[0..lay.stops].fill(4294967295);
+    work[reach..reach + lay.trips].fill(4294967295);
     Head {
         best: 4294967295,
         count: 0,
@@ -65,9 +65,8 @@ fn put_egress(lay: Lay, query: &[u32], at: usize, work: &mut [u32])
     ensures { work.new ≡ set work.old (rest_at lay + get_or query.now at 0)
         (get_or query.now (at + 1) 0 + 1) }
 {
-    let i = query_types::rest_at(lay) + words::field(query, at);
-    let d = query[at + 1];
-    work[i] = d + 1;
+    let i = query_types::rest_at(lay) + query[at] as usize;
+    work[i] = query[at + 1] + 1;
 }
 
 // All of them, into an empty egress table, the last row first.
@@ -77,9 +76,7 @@ fn put_egresses(lay: Lay, query: &[u32], first: usize, n: usize, work: &mut [u32
     requires egressed { Egressed [] lay work.old work.old }
     ensures { Egressed (egress_of query.now first n) lay work.old work.new }
 {
-    let mut k = n;
-    while 0 < k {
-        k -= 1;
+    for k in (0..n).rev() {
         put_egress(lay, query, first + 2 * k, work);
     }
 }
@@ -91,7 +88,7 @@ fn fill_egress(lay: Lay, query: &[u32], first: usize, n: usize, work: &mut [u32]
     ensures { Egressed (egress_of query.now first n) lay work.old work.new }
 {
     let rest = query_types::rest_at(lay);
-    words::clear_part(work, rest, rest + lay.stops);
+    work[rest..rest + lay.stops].fill(0);
     put_egresses(lay, query, first, n, work);
 }
 
@@ -100,11 +97,9 @@ fn turn(lay: Lay) -> Lay
     ensures { result ≡ turned lay }
 {
     Lay {
-        stops: lay.stops,
-        trips: lay.trips,
-        lines: lay.lines,
         list: lay.other,
         other: lay.list,
+        ..lay
     }
 }
 
@@ -202,13 +197,10 @@ fn put_events(counts: QueryCounts, tables: &[u32], lay: Lay, work: &mut [u32])
 {
     let c = counts.timetable;
     let a = query_types::events_at(lay);
-    let trips = lay.trips;
     let mut before: usize = 0;
-    let mut i: usize = 0;
-    while i < trips {
+    for i in 0..lay.trips {
         work[a + i] = before as u32;
         before += tables::trip(tables, c, i, 1);
-        i += 1;
     }
 }
 
@@ -285,10 +277,8 @@ fn access(
         (memory work.old labels.old label_distances.old h)
         (memory work.new labels.new label_distances.new result) }
 {
-    let end = counts.origins;
     let mut x = h;
-    let mut k: usize = 0;
-    while k < end {
+    for k in 0..counts.origins {
         x = set_out_at(
             counts,
             distances,
@@ -300,7 +290,6 @@ fn access(
             label_distances,
             x,
         );
-        k += 1;
     }
     x
 }

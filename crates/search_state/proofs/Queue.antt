@@ -252,12 +252,3 @@ module _ (lay : Lay) (stamp : ℕ) (w l : List ℕ) (m : List Float) (h : Head) 
         size = k;
         room = omega (arith, f, ap (λ (z : ℕ). z / 4) k);
       }
-
--- a choice, by what is chosen
-pub pick_no : (p : Bool) (x y : List ℕ) → not p ≡ true → y ≡ cond p x y
-pick_no true x y e = absurd (clash e refl)
-pick_no false x y e = refl
-
-pub pick_yes : (p : Bool) (x y : List ℕ) → not p ≡ false → x ≡ cond p x y
-pick_yes true x y e = refl
-pick_yes false x y e = absurd (clash refl e)

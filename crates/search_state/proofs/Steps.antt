@@ -7,7 +7,7 @@ use native.Mathlib.Omega.{arith}
 use lib.ListN.{length, get_or}
 use lib.Dec.{ltb}
 use lib.Ieee.{Float}
-use borrow.Author.Tests.{eq-eqb, ne_eqb, lt-ltb, le-ltb}
+use borrow.Author.Tests.{ne_eqb, lt-ltb, le-ltb}
 use Rattle.label.specs.declared.Label.{Label}
 use Rattle.label.specs.Label.{row_of}
 use Rattle.label.specs.Table.{InTable, record_of, put_words, put_distance}
@@ -23,20 +23,6 @@ use Rattle.search_state.specs.Step.{Ready, Step, Marked, best_by}
 use Rattle.search_state.proofs.Part.{first_at, drop_at}
 use Rattle.search_state.proofs.Labels.{labels_put, written_put}
 use Rattle.search_state.proofs.Marking.{same_refl, same_then}
-
--- the best total, case by case
-module _ (g v b : ℕ) where
-  pub best_none : g ≡ 0 → b ≡ best_by g v b
-  unfolding best_by
-  best_none e = rw (eq-eqb g 0 e) refl
-
-  pub best_less : (g ≡ 0 → ⊥) → v + (g - 1) < b → v + (g - 1) ≡ best_by g v b
-  unfolding best_by
-  best_less n l = rw (ne_eqb g 0 n, lt-ltb (v + (g - 1)) b l) refl
-
-  pub best_more : (g ≡ 0 → ⊥) → b ≤ v + (g - 1) → b ≡ best_by g v b
-  unfolding best_by
-  best_more n l = rw (ne_eqb g 0 n, le-ltb (v + (g - 1)) b l) refl
 
 best_word : (t : Bool) (d v b : ℕ) → best_by (egress_word t d) v b ≡ cond (t && ltb (v + d) b) (v + d) b
 unfolding best_by

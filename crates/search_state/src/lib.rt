@@ -24,16 +24,17 @@ use query_types::{Head, Lay, Ride, Seg};
 use tables::Counts;
 
 // The best total after an arrival at `v` at a stop with this number in the egress table.
+#[tactic(auto, unfolding(crate::specs::Step::best_by))]
 fn best_after(word: u32, v: u32, best: u32) -> u32
     requires word_bound { word ≤ 1048576 }
     requires v_bound { v < 134217728 }
     ensures { result ≡ best_by word v best }
 {
     if word == 0 {
-        return best;
+        best
+    } else {
+        best.min(v + (word - 1))
     }
-    let total = v + (word - 1);
-    if total < best { total } else { best }
 }
 
 // Stop `s`, reached at `v`, is stamped and put at the end of the list.
@@ -90,12 +91,7 @@ fn improve(
     let row = 13 * s + (stamp - 1) as usize;
     let count = mark(lay, stamp, s, v, work, h.count);
     label::store_label(how, labels, label_distances, row);
-    Head {
-        best,
-        count,
-        queued: h.queued,
-        full: h.full,
-    }
+    Head { best, count, ..h }
 }
 
 // The same, where it is earlier than the stop's earliest arrival.
@@ -124,6 +120,7 @@ pub fn relax(
 }
 
 // A segment into row `k` of a queue.
+#[tactic(auto, unfolding(crate::specs::View::put_segment))]
 fn put_segment(seg: Seg, queue: &mut [u32], k: usize)
     requires { 4 * k + 4 ≤ length queue.old }
     ensures { queue.new ≡ put_segment (record { trip = seg.trip; offset = seg.offset; stop = seg.stop; shift = seg.shift })
@@ -141,10 +138,9 @@ fn lower(plain: bool, at: usize, offset: u32, work: &mut [u32])
     requires { at < length work.old }
     ensures { work.new ≡ cond plain (set work.old at offset) work.old }
 {
-    if !plain {
-        return;
+    if plain {
+        work[at] = offset;
     }
-    work[at] = offset;
 }
 
 // A segment is queued; `plain`: its trip has no windows.
@@ -159,29 +155,18 @@ fn enqueue(lay: Lay, plain: bool, seg: Seg, work: &mut [u32], queue: &mut [u32],
     let at = query_types::reach_at(lay) + seg.trip as usize;
     let offset = seg.offset;
     let queued = h.queued;
-    if door::both(plain, work[at] <= offset) {
-        return Head {
-            best: h.best,
-            count: h.count,
-            queued,
-            full: false,
-        };
+    if plain && work[at] <= offset {
+        return Head { full: false, ..h };
     }
     if queue.len() / 4 <= queued {
-        return Head {
-            best: h.best,
-            count: h.count,
-            queued,
-            full: true,
-        };
+        return Head { full: true, ..h };
     }
     put_segment(seg, queue, queued);
     lower(plain, at, offset, work);
     Head {
-        best: h.best,
-        count: h.count,
         queued: queued + 1,
         full: false,
+        ..h
     }
 }
 
@@ -211,12 +196,7 @@ pub fn set_out(
     let at = query_types::rest_at(lay) + s;
     let best = best_after(work[at], v, h.best);
     if work[s] <= v {
-        return Head {
-            best,
-            count,
-            queued: h.queued,
-            full: h.full,
-        };
+        return Head { best, ..h };
     }
     enter(lay, 1, s, v, work, count);
     let how = Label::Access {
@@ -229,8 +209,7 @@ pub fn set_out(
     Head {
         best,
         count: count + 1,
-        queued: h.queued,
-        full: h.full,
+        ..h
     }
 }
 

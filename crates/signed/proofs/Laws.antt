@@ -35,12 +35,6 @@ moved_low t b h = ap (λ (z : ℤ). floored (pos t +ℤ z)) (of_low b h)
 pub moved_high : (t b : ℕ) → 2147483648 ≤ b → floored (pos t +ℤ of_bits b) ≡ t - suc (4294967296 - suc b)
 moved_high t b h = ap (λ (z : ℤ). floored (pos t +ℤ z)) (of_high b h) ∙ floored_sub t (suc (4294967296 - suc b))
 
-pub sub_up : (a b : ℕ) → b ≤ a → bits_of (sub_ℕ a b) ≡ a - b
-sub_up a b h = ap (λ (t : Bool). bits_of (cond t (negsuc (b - suc a)) (pos (a - b)))) (le-ltb a b h)
-
-pub sub_down : (a b : ℕ) → a < b → bits_of (sub_ℕ a b) ≡ 4294967296 - suc (b - suc a)
-sub_down a b h = ap (λ (t : Bool). bits_of (cond t (negsuc (b - suc a)) (pos (a - b)))) (lt-ltb a b h)
-
 -- the bits of a difference mean it
 pub of_sub : (a b : ℕ) → a < 2147483648 → b < 2147483648 → of_bits (bits_of (sub_ℕ a b)) ≡ sub_ℕ a b
 of_sub a b u v = go (ltb a b) refl

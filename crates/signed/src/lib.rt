@@ -1,4 +1,4 @@
-// signed: signed seconds, carried as the 32 bits of an i32 in a u32 (the prover's arithmetic reads unsigned numbers).
+// signed: signed seconds, carried as the 32 bits of an i32 in a u32, as the lent tables hold them.
 // Place: the foundation.
 // Specs (a claim): what the bits mean is the language's own reading of an i32 (`to_z w32`); a time moved by signed seconds stops at 0.
 // Proves: size, moved time and difference are those of the integers that the bits mean.
@@ -13,10 +13,7 @@ ghost use Rattle.signed.specs.Signed.{of_bits, floored, bits_of};
 pub fn size(bits: u32) -> u32
     ensures { result ≡ nat_abs (of_bits bits) }
 {
-    if bits < 2147483648 {
-        return bits;
-    }
-    4294967295 - bits + 1
+    bits.cast_signed().unsigned_abs()
 }
 
 // A time moved by signed seconds, no lower than 0.
@@ -24,14 +21,7 @@ pub fn moved(time: u32, bits: u32) -> u32
     requires { time < 2147483648 }
     ensures { result ≡ floored (pos time +ℤ of_bits bits) }
 {
-    if bits < 2147483648 {
-        return time + bits;
-    }
-    let less = 4294967295 - bits;
-    if less < time {
-        return time - less - 1;
-    }
-    0
+    (i64::from(time) + i64::from(bits.cast_signed())).max(0) as u32
 }
 
 // a - b, as signed seconds.
@@ -40,8 +30,5 @@ pub fn difference(a: u32, b: u32) -> u32
     requires b_bound { b < 2147483648 }
     ensures { result ≡ bits_of (sub_ℕ a b) }
 {
-    if b <= a {
-        return a - b;
-    }
-    4294967295 - (b - a) + 1
+    (a.cast_signed() - b.cast_signed()).cast_unsigned()
 }

@@ -1,5 +1,4 @@
 // sized_calls: the calls whose counts a caller hands in one number each, over the call crates, which take them as one record.
-// An answer that is an enum inside is document 01's number and value here.
 // Place: beside `exports`, below the tally.
 // Specs (a claim): what a call shows of an outcome (Shown).
 // Proves: each call's whole outcome is the call crate's definition of it.
@@ -7,10 +6,11 @@
 #![tactic(auto)]
 
 ghost use Rattle.std.specs.Prelude.{◌≡◌};
+ghost use Rattle.door.specs.Door.{answer_of, code_of};
 ghost use Rattle.departures_call.specs.Call.{sort_areas, sort_outcome_of, sort_outcome};
-ghost use Rattle.lines_call.specs.Call.{line_areas, lines_answer, lines_outcome};
+ghost use Rattle.lines_call.specs.Call.{line_areas, lines_outcome};
 ghost use Rattle.layout_call.specs.Call.{layout_areas, layout_outcome_of, layout_outcome};
-ghost use Rattle.transfers_call.specs.Call.{transfer_areas, transfers_answer, transfer_lent, transfers_outcome};
+ghost use Rattle.transfers_call.specs.Call.{transfer_areas, transfer_lent, transfers_outcome};
 ghost use Rattle.query_input.specs.Lent.{lent};
 ghost use Rattle.query_call.specs.Workspace.{workspace_answer};
 ghost use Rattle.query_reply.specs.Outcome.{query_areas};
@@ -18,11 +18,9 @@ ghost use Rattle.query_call.specs.Call.{run_tbr_outcome, query_outcome};
 ghost use Rattle.sizes.specs.Counts.{counts_of, query_counts_of};
 ghost use Rattle.sized_calls.specs.Shown.{shown, shown_of, shown_transfers, shown_transfers_of};
 
-use door::{Answer, Settings};
-use lines_call::Grouped;
+use door::{Refusal, Settings};
 use query_reply::Reply;
 use sizes::QuerySizes;
-use transfers_call::Built;
 
 pub fn sort_stop_departures(
     settings: Settings,
@@ -38,8 +36,8 @@ pub fn sort_stop_departures(
     marks: &mut [u32],
     work: &mut [u64],
     other: &mut [u64],
-) -> u32
-    ensures { sort_outcome_of result (sort_areas rows.new marks.new work.new other.new)
+) -> Result<(), Refusal>
+    ensures { sort_outcome_of (code_of result) (sort_areas rows.new marks.new work.new other.new)
         ≡ sort_outcome settings tables.now (counts_of stops trips times windows edges) departures runs.now
         (sort_areas rows.old marks.old work.old other.old) }
 {
@@ -57,15 +55,6 @@ pub fn sort_stop_departures(
     )
 }
 
-fn lines_answer(g: Grouped) -> Answer
-    ensures { result ≡ lines_answer g }
-{
-    match g {
-        Grouped::Refused(v) => door::refused(v),
-        Grouped::Lines(n) => door::given(n),
-    }
-}
-
 pub fn compute_line_groups(
     settings: Settings,
     stops: u32,
@@ -79,15 +68,13 @@ pub fn compute_line_groups(
     entries: &mut [u32],
     work: &mut [u64],
     other: &mut [u64],
-) -> Answer
-    ensures { shown result (line_areas lines.new runs.new entries.new work.new other.new)
+) -> Result<u32, Refusal>
+    ensures { shown (answer_of result) (line_areas lines.new runs.new entries.new work.new other.new)
         ≡ shown_of (lines_outcome settings tables.now (counts_of stops trips times windows edges)
         (line_areas lines.old runs.old entries.old work.old other.old)) }
 {
     let c = sizes::counts(stops, trips, times, windows, edges);
-    lines_answer(lines_call::compute_line_groups(
-        settings, tables, c, lines, runs, entries, work, other,
-    ))
+    lines_call::compute_line_groups(settings, tables, c, lines, runs, entries, work, other)
 }
 
 pub fn line_layout(
@@ -104,8 +91,8 @@ pub fn line_layout(
     entries: &[u32],
     positions: &mut [u32],
     fifo: &mut [u32],
-) -> u32
-    ensures { layout_outcome_of result (layout_areas positions.new fifo.new)
+) -> Result<(), Refusal>
+    ensures { layout_outcome_of (code_of result) (layout_areas positions.new fifo.new)
         ≡ layout_outcome settings tables.now (counts_of stops trips times windows edges) lines entry_count runs.now
         entries.now (layout_areas positions.old fifo.old) }
 {
@@ -123,15 +110,6 @@ pub fn line_layout(
     )
 }
 
-fn transfers_answer(b: Built) -> Answer
-    ensures { result ≡ transfers_answer b }
-{
-    match b {
-        Built::Refused(v) => door::refused(v),
-        Built::Rows(n) => door::given(n),
-    }
-}
-
 pub fn compute_trip_transfers(
     settings: Settings,
     stops: u32,
@@ -147,14 +125,14 @@ pub fn compute_trip_transfers(
     rows: &[u32],
     area: &mut [u32],
     transfer_runs: &mut [u32],
-) -> Answer
-    ensures { shown_transfers result (transfer_areas area.new transfer_runs.new)
+) -> Result<u32, Refusal>
+    ensures { shown_transfers (answer_of result) (transfer_areas area.new transfer_runs.new)
         ≡ shown_transfers_of (transfers_outcome (transfer_lent settings tables.now (counts_of stops trips times windows edges) line_count
         lines.now departures runs.now rows.now)
         (transfer_areas area.old transfer_runs.old)) }
 {
     let c = sizes::counts(stops, trips, times, windows, edges);
-    transfers_answer(transfers_call::compute_trip_transfers(
+    transfers_call::compute_trip_transfers(
         settings,
         tables,
         c,
@@ -165,11 +143,11 @@ pub fn compute_trip_transfers(
         rows,
         area,
         transfer_runs,
-    ))
+    )
 }
 
-pub fn work_size(settings: Settings, sizes: QuerySizes) -> Answer
-    ensures { result ≡ workspace_answer (query_counts_of settings sizes) }
+pub fn work_size(settings: Settings, sizes: QuerySizes) -> Result<u32, Refusal>
+    ensures { answer_of result ≡ workspace_answer (query_counts_of settings sizes) }
 {
     query_call::workspace(sizes::query_counts(settings, sizes))
 }

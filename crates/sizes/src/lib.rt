@@ -6,7 +6,7 @@
 #![tactic(auto)]
 
 ghost use Rattle.std.specs.Prelude.{◌≡◌};
-ghost use Rattle.sizes.specs.Counts.{counts_of, gathered, query_counts_of};
+ghost use Rattle.sizes.specs.Counts.{counts_of, query_counts_of};
 
 use door::Settings;
 use query_types::QueryCounts;
@@ -45,54 +45,22 @@ pub struct QuerySizes {
     pub egress: u32,
 }
 
-fn gather(
-    settings: Settings,
-    timetable: Counts,
-    cells: u32,
-    patterns: u32,
-    lines: u32,
-    entries: u32,
-    departures: u32,
-    transfers: u32,
-    delays: u32,
-    stop_rows: u32,
-    origins: u32,
-    egress: u32,
-) -> QueryCounts
-    ensures { result ≡ gathered settings timetable cells patterns lines entries departures transfers delays stop_rows origins egress }
-{
-    QueryCounts {
-        settings: settings,
-        timetable: timetable,
-        cells: cells as usize,
-        patterns: patterns as usize,
-        lines: lines as usize,
-        entries: entries as usize,
-        departures: departures as usize,
-        transfers: transfers as usize,
-        delays: delays as usize,
-        stop_rows: stop_rows as usize,
-        origins: origins as usize,
-        egress: egress as usize,
-    }
-}
-
 pub fn query_counts(settings: Settings, s: QuerySizes) -> QueryCounts
     ensures { result ≡ query_counts_of settings s }
 {
     let timetable = counts(s.stops, s.trips, s.times, s.windows, s.edges);
-    gather(
+    QueryCounts {
         settings,
         timetable,
-        s.cells,
-        s.patterns,
-        s.lines,
-        s.entries,
-        s.departures,
-        s.transfers,
-        s.delays,
-        s.stop_rows,
-        s.origins,
-        s.egress,
-    )
+        cells: s.cells as usize,
+        patterns: s.patterns as usize,
+        lines: s.lines as usize,
+        entries: s.entries as usize,
+        departures: s.departures as usize,
+        transfers: s.transfers as usize,
+        delays: s.delays as usize,
+        stop_rows: s.stop_rows as usize,
+        origins: s.origins as usize,
+        egress: s.egress as usize,
+    }
 }

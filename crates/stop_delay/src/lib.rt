@@ -13,7 +13,7 @@ ghost use Rattle.stop_delay.specs.Times.{departure_given, arrival_given, skipped
 ghost use Rattle.stop_delay.specs.Door.{size_ok};
 
 // The delays of one stop time. Its trip has no delay row: all 0. It has no stop row: flags, departure_delay and arrival_delay 0.
-#[derive(Clone, Copy)]
+#[derive(Clone, Copy, Default)]
 pub struct StopDelay {
     pub trip_delay: u32,
     pub flags: u32,
@@ -21,16 +21,11 @@ pub struct StopDelay {
     pub arrival_delay: u32,
 }
 
-// A trip without a delay row.
+// A trip without a delay row: all numbers 0.
 pub fn no_delay() -> StopDelay
     ensures { result ≡ no_delay }
 {
-    StopDelay {
-        trip_delay: 0,
-        flags: 0,
-        departure_delay: 0,
-        arrival_delay: 0,
-    }
+    StopDelay::default()
 }
 
 // Flag 1.
@@ -59,10 +54,12 @@ pub fn rt_effective_dep_s(departure: u32, d: StopDelay) -> u32
     requires { departure < 2147483648 }
     ensures { result ≡ effective_departure departure d }
 {
-    if departure_given(d.flags) {
-        return signed::moved(departure, d.departure_delay);
-    }
-    signed::moved(departure, d.trip_delay)
+    let delay = if departure_given(d.flags) {
+        d.departure_delay
+    } else {
+        d.trip_delay
+    };
+    signed::moved(departure, delay)
 }
 
 // The arrival with its own delay, else the trip's, if the stop row gives either time; else with the shift. No lower than 0.
@@ -71,13 +68,12 @@ pub fn rt_effective_arr_s(arrival: u32, time_shift_s: u32, d: StopDelay) -> u32
     ensures { result ≡ effective_arrival arrival time_shift_s d }
 {
     let own = arrival_given(d.flags);
-    if !door::either(departure_given(d.flags), own) {
-        return signed::moved(arrival, time_shift_s);
-    }
-    if own {
-        return signed::moved(arrival, d.arrival_delay);
-    }
-    signed::moved(arrival, d.trip_delay)
+    let delay = if departure_given(d.flags) || own {
+        if own { d.arrival_delay } else { d.trip_delay }
+    } else {
+        time_shift_s
+    };
+    signed::moved(arrival, delay)
 }
 
 // Exported calls

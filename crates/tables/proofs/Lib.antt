@@ -1,2 +1,1 @@
 pub mod Yes
-pub mod Rows

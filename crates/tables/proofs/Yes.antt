@@ -1,6 +1,6 @@
 -- What a yes to each question gives.
-use Prim.Native.Nat.{ℕ, suc, max, ◌+◌, ◌*◌, ◌^◌, ◌<◌}
-use mathlib.Core.Path.{◌≡◌, ◌∙◌, ap, ap₂, sym, refl}
+use Prim.Native.Nat.{ℕ, suc, max, ◌+◌, ◌-◌, ◌*◌, ◌^◌, ◌<◌, ◌≤◌}
+use mathlib.Core.Path.{◌≡◌, ◌∙◌, ap, ap₂, refl}
 use mathlib.Core.Bool.{Bool, true, false, ◌&&◌}
 use mathlib.Core.List.{List}
 use native.Mathlib.Omega.{arith}
@@ -8,12 +8,12 @@ use native.Mathlib.Numerals.{add-one}
 use lib.ListN.{length, get_or}
 use lib.Dec.{leb, ltb}
 use lib.Bits.{bit_or}
-use borrow.Author.Tests.{eqb-true, le-leb, leb-true, ltb-true}
-use Rattle.loops.proofs.Iter.{and_left, and_right, every_in_at}
+use borrow.Author.Tests.{eqb-true, leb-true, ltb-true}
+use Rattle.loops.specs.Iter.{every_in}
+use Rattle.loops.proofs.Iter.{and_left, and_right, every_in_at, every_keep, every_kept, every_both}
 use Rattle.loops.proofs.Most.{max_most, or_most}
 use Rattle.tables.specs.declared.Counts.{Counts}
-use Rattle.tables.specs.declared.Check.{Check}
-use Rattle.tables.specs.declared.Check.TheVariants.{TripRuns, StopTimeNumbers, EdgeNumbers, StopTimeRanges, TripRanges, WindowRanges, EdgeRanges, EdgeOrder}
+use Rattle.tables.specs.Door.{Check, TripRuns, StopTimeNumbers, EdgeNumbers, StopTimeRanges, TripRanges, WindowRanges, EdgeRanges, EdgeOrder}
 use Rattle.tables.specs.Tables.{count_of, first_of, timetable_size, trip_of, edge_of, time_of, window_of}
 use Rattle.tables.specs.Door.{counts_ok, slices_ok, trip_runs, stop_time_numbers, edge_numbers, stop_time_ranges, trip_ranges, window_ranges, edge_ranges, edge_rises, row_count_of, row_ok, every_row, runs_ok, numbers_ok, ranges_ok, order_ok}
 use Rattle.tables.specs.Sane.{CountsOk, SlicesOk, RunsOk, NumbersOk, RangesOk, OrderOk, Sane}
@@ -137,21 +137,6 @@ order_yes t c h = record { rise = λ i l. rw add-one (leb-true (edge_of t c i 0)
 pub sane : (t : List ℕ) (c : Counts) → counts_ok c ≡ true → slices_ok t c ≡ true → runs_ok t c ≡ true → numbers_ok t c ≡ true → ranges_ok t c ≡ true → Sane t c
 sane t c a b d e f = record { counts = counts_yes c a; slices = slices_yes t c b; runs = runs_yes t c d; numbers = numbers_yes t c e; ranges = ranges_yes t c f }
 
--- questions 4 and 5 at once
-pub rows_both : (t : List ℕ) (c : Counts)
-    → ((every_row t c StopTimeNumbers && every_row t c StopTimeRanges) && (every_row t c EdgeNumbers && every_row t c TripRanges)) && (every_row t c WindowRanges && every_row t c EdgeRanges)
-    ≡ numbers_ok t c && ranges_ok t c
-unfolding numbers_ok ranges_ok
-rows_both t c =
-    go (every_row t c StopTimeNumbers) (every_row t c StopTimeRanges) (every_row t c EdgeNumbers) (every_row t c TripRanges) (every_row t c WindowRanges && every_row t c EdgeRanges)
-  where
-    go : (n s a b x : Bool) → ((n && s) && (a && b)) && x ≡ (n && a) && ((s && b) && x)
-    go true true true b x = refl
-    go true true false b x = refl
-    go true false true b x = refl
-    go true false false b x = refl
-    go false s a b x = refl
-
 -- questions 4 and 5 of a stop time, and what the loop over the stop times keeps of those that it passed: the greatest stop plus one, all
 -- bits of the times and of the codes
 abbrev pub in_range : List ℕ → Counts → ℕ → Bool
@@ -180,15 +165,16 @@ kept_turn t c i m a k =
     go true false true x true p = refl
     go true false true x false p = refl
 
--- as that loop begins
-pub kept_none : (c : Counts) (b : Bool) → b ≡ kept c 0 0 0 && b
-kept_none c b = sym (ap (λ (x : Bool). (x && (leb 0 1048575 && leb 0 3)) && b) (le-leb 0 c.stops (omega arith)))
-
--- one turn of that loop, by the numbers as they were read
-pub kept_next : (t : List ℕ) (c : Counts) (i m a k : ℕ) {s l w1 w2 w4 w5 : ℕ} → s ≡ get_or t (i * 6) 0 → l ≡ max m (s + 1) → w1 ≡ get_or t (i * 6 + 1) 0 → w2 ≡ get_or t (i * 6 + 2) 0
-    → w4 ≡ get_or t (i * 6 + 4) 0 → w5 ≡ get_or t (i * 6 + 5) 0 → kept c l (bit_or a (bit_or w1 w2)) (bit_or k (bit_or w4 w5)) ≡ kept c m a k && in_range t c i
+-- one turn of that loop, by the numbers as they were read, and its end
+pub kept_next : (t : List ℕ) (c : Counts) (i m a k : ℕ) {whole : Bool} {l : ℕ} → whole ≡ kept c m a k && every_in (in_range t c) i c.times → l ≡ max m (get_or t (i * 6) 0 + 1) → i < c.times
+    → whole ≡ kept c l (bit_or a (bit_or (get_or t (i * 6 + 1) 0) (get_or t (i * 6 + 2) 0))) (bit_or k (bit_or (get_or t (i * 6 + 4) 0) (get_or t (i * 6 + 5) 0))) && every_in (in_range t c) (i + 1) c.times
 unfolding time_of
-kept_next t c i m a k {s} es el e1 e2 e4 e5 =
+kept_next t c i m a k h e u =
     let z : i * 6 ≡ i * 6 + 0 = omega arith in
-    let e0 : s ≡ get_or t (i * 6 + 0) 0 = es ∙ ap (λ (x : ℕ). get_or t x 0) z in
-    rw (el, e0, e1, e2, e4, e5) (kept_turn t c i m a k)
+    let q = e ∙ ap (λ (x : ℕ). max m (get_or t x 0 + 1)) z in
+    every_keep (in_range t c) i c.times (kept c m a k) h (rw q (kept_turn t c i m a k)) u
+
+pub kept_all : (t : List ℕ) (c : Counts) (i m a k : ℕ) → every_in (in_range t c) 0 c.times ≡ kept c m a k && every_in (in_range t c) i c.times → c.times ≤ i
+    → kept c m a k ≡ every_row t c StopTimeNumbers && every_row t c StopTimeRanges
+kept_all t c i m a k h u =
+    every_kept (in_range t c) i c.times (kept c m a k) h u ∙ every_both (row_ok t c StopTimeNumbers) (row_ok t c StopTimeRanges) 0 (c.times - 0)

@@ -10,10 +10,9 @@
 ghost use Rattle.std.specs.Prelude.{◌≡◌, ◌&&◌, ◌+◌, ◌*◌, ◌<◌};
 ghost use Rattle.tables.specs.Tables.{time_of, trip_of, edge_of, window_of, stop_time_at, trip_at, window_at, edge_at};
 ghost use Rattle.tables.specs.Door.{counts_ok, slices_ok, trip_runs, stop_time_numbers, edge_numbers, stop_time_ranges, trip_ranges, window_ranges};
-ghost use Rattle.tables.specs.Door.{edge_ranges, edge_rises, row_count_of, row_ok, every_row, runs_ok, numbers_ok, ranges_ok, order_ok};
+ghost use Rattle.tables.specs.Door.{edge_ranges, edge_rises, every_row, runs_ok, numbers_ok, ranges_ok, order_ok};
+ghost use Rattle.tables.specs.Door.{StopTimeNumbers, StopTimeRanges, EdgeNumbers, TripRanges, WindowRanges, EdgeRanges};
 ghost use Rattle.tables.specs.Sane.{CountsOk, SlicesOk};
-
-use door::both;
 
 // How many there are of each.
 #[derive(Clone, Copy)]
@@ -64,20 +63,8 @@ pub struct EdgeRow {
     pub pattern: usize,
 }
 
-// What is asked of every row of a table.
-#[derive(Clone, Copy)]
-pub enum Check {
-    TripRuns,
-    StopTimeNumbers,
-    EdgeNumbers,
-    StopTimeRanges,
-    TripRanges,
-    WindowRanges,
-    EdgeRanges,
-    EdgeOrder,
-}
-
 // Field k of stop time i: stop, arrival, departure, sequence, pickup, drop-off.
+#[tactic(auto, unfolding(crate::specs::Tables::time_of))]
 pub fn time(tables: &[u32], c: Counts, i: usize, k: usize) -> usize
     requires counts_ok { CountsOk c }
     requires slices_ok { SlicesOk tables.now c }
@@ -86,10 +73,11 @@ pub fn time(tables: &[u32], c: Counts, i: usize, k: usize) -> usize
     ensures value { result ≡ time_of tables.now i k }
     ensures bound { result < 4294967296 }
 {
-    words::field(tables, i * 6 + k)
+    tables[i * 6 + k] as usize
 }
 
 // Field k of trip i: first stop time, count, mode, wheelchair, first window, window count, active, excluded.
+#[tactic(auto, unfolding(crate::specs::Tables::trip_of))]
 pub fn trip(tables: &[u32], c: Counts, i: usize, k: usize) -> usize
     requires counts_ok { CountsOk c }
     requires slices_ok { SlicesOk tables.now c }
@@ -98,10 +86,11 @@ pub fn trip(tables: &[u32], c: Counts, i: usize, k: usize) -> usize
     ensures value { result ≡ trip_of tables.now c i k }
     ensures bound { result < 4294967296 }
 {
-    words::field(tables, c.times * 6 + i * 8 + k)
+    tables[c.times * 6 + i * 8 + k] as usize
 }
 
 // Field k of window i: start, end, headway.
+#[tactic(auto, unfolding(crate::specs::Tables::window_of))]
 fn window(tables: &[u32], c: Counts, i: usize, k: usize) -> usize
     requires counts_ok { CountsOk c }
     requires slices_ok { SlicesOk tables.now c }
@@ -110,10 +99,11 @@ fn window(tables: &[u32], c: Counts, i: usize, k: usize) -> usize
     ensures value { result ≡ window_of tables.now c i k }
     ensures bound { result < 4294967296 }
 {
-    words::field(tables, c.times * 6 + c.trips * 8 + i * 3 + k)
+    tables[c.times * 6 + c.trips * 8 + i * 3 + k] as usize
 }
 
 // Field k of walk edge i: from, to, duration, mode, pattern.
+#[tactic(auto, unfolding(crate::specs::Tables::edge_of))]
 pub fn edge(tables: &[u32], c: Counts, i: usize, k: usize) -> usize
     requires counts_ok { CountsOk c }
     requires slices_ok { SlicesOk tables.now c }
@@ -122,10 +112,7 @@ pub fn edge(tables: &[u32], c: Counts, i: usize, k: usize) -> usize
     ensures value { result ≡ edge_of tables.now c i k }
     ensures bound { result < 4294967296 }
 {
-    words::field(
-        tables,
-        c.times * 6 + c.trips * 8 + c.windows * 3 + i * 5 + k,
-    )
+    tables[c.times * 6 + c.trips * 8 + c.windows * 3 + i * 5 + k] as usize
 }
 
 // Rows by value.
@@ -196,15 +183,15 @@ pub fn edge_row(tables: &[u32], c: Counts, i: usize) -> EdgeRow
 }
 
 // Question 1.
+#[tactic(auto, unfolding(crate::specs::Door::counts_ok))]
 pub fn counts_ok(c: Counts) -> bool
     ensures { result ≡ counts_ok c }
 {
-    let a = both(c.stops <= 4096, c.trips <= 4096);
-    let b = both(c.times <= 65536, c.windows <= 65536);
-    both(a, both(b, c.edges <= 65536))
+    c.stops <= 4096 && c.trips <= 4096 && c.times <= 65536 && c.windows <= 65536 && c.edges <= 65536
 }
 
 // Question 2.
+#[tactic(auto, unfolding(crate::specs::Door::slices_ok))]
 pub fn slices_ok(tables: &[u32], c: Counts) -> bool
     requires { CountsOk c }
     ensures { result ≡ slices_ok tables.now c }
@@ -213,6 +200,7 @@ pub fn slices_ok(tables: &[u32], c: Counts) -> bool
 }
 
 // Question 3 of one trip.
+#[tactic(auto, unfolding(crate::specs::Door::trip_runs))]
 fn trip_runs(r: TripRow, c: Counts) -> bool
     requires first_bound { r.first < 4294967296 }
     requires count_bound { r.count < 4294967296 }
@@ -220,194 +208,187 @@ fn trip_runs(r: TripRow, c: Counts) -> bool
     requires windows_bound { r.windows < 4294967296 }
     ensures { result ≡ trip_runs c r }
 {
-    both(
-        0 < r.count,
-        both(
-            r.first + r.count <= c.times,
-            r.window + r.windows <= c.windows,
-        ),
-    )
+    0 < r.count && r.first + r.count <= c.times && r.window + r.windows <= c.windows
 }
 
 // Question 4 of one stop time and of one walk edge.
+#[tactic(auto, unfolding(crate::specs::Door::stop_time_numbers))]
 fn stop_time_numbers(r: StopTimeRow, c: Counts) -> bool
     ensures { result ≡ stop_time_numbers c r }
 {
     r.stop < c.stops
 }
 
+#[tactic(auto, unfolding(crate::specs::Door::edge_numbers))]
 fn edge_numbers(r: EdgeRow, c: Counts) -> bool
     ensures { result ≡ edge_numbers c r }
 {
-    both(r.from < c.stops, r.to < c.stops)
+    r.from < c.stops && r.to < c.stops
 }
 
 // Question 5 of one row of each table.
+#[tactic(auto, unfolding(crate::specs::Door::stop_time_ranges))]
 fn stop_time_ranges(r: StopTimeRow) -> bool
     ensures { result ≡ stop_time_ranges r }
 {
-    let a = both(r.arrival <= 1048575, r.departure <= 1048575);
-    both(a, both(r.pickup <= 3, r.drop_off <= 3))
+    r.arrival <= 1048575 && r.departure <= 1048575 && r.pickup <= 3 && r.drop_off <= 3
 }
 
+#[tactic(auto, unfolding(crate::specs::Door::trip_ranges))]
 fn trip_ranges(r: TripRow) -> bool
     ensures { result ≡ trip_ranges r }
 {
-    let a = both(r.mode <= 6, r.wheelchair <= 2);
-    both(a, both(r.active <= 1, r.excluded <= 1))
+    r.mode <= 6 && r.wheelchair <= 2 && r.active <= 1 && r.excluded <= 1
 }
 
+#[tactic(auto, unfolding(crate::specs::Door::window_ranges))]
 fn window_ranges(r: WindowRow) -> bool
     ensures { result ≡ window_ranges r }
 {
-    both(
-        r.start <= 1048575,
-        both(r.end <= 1048575, r.headway <= 1048575),
-    )
+    r.start <= 1048575 && r.end <= 1048575 && r.headway <= 1048575
 }
 
+#[tactic(auto, unfolding(crate::specs::Door::edge_ranges))]
 fn edge_ranges(r: EdgeRow) -> bool
     ensures { result ≡ edge_ranges r }
 {
-    both(r.duration <= 1048575, r.pathway <= 7)
+    r.duration <= 1048575 && r.pathway <= 7
 }
 
 // Question 6 of a walk edge: it does not leave a lower stop than the one before it.
+#[tactic(auto, unfolding(crate::specs::Door::edge_rises))]
 fn edge_rises(tables: &[u32], c: Counts, i: usize) -> bool
     requires counts_ok { CountsOk c }
     requires slices_ok { SlicesOk tables.now c }
     requires i_bound { i < c.edges }
     ensures { result ≡ edge_rises tables.now c i }
 {
-    if i == 0 {
-        return true;
-    }
-    edge(tables, c, i - 1, 0) <= edge(tables, c, i, 0)
+    i == 0 || edge(tables, c, i - 1, 0) <= edge(tables, c, i, 0)
 }
 
-// How many rows a check looks at.
-fn rows_of(k: Check, c: Counts) -> usize
-    ensures { result ≡ row_count_of k c }
-{
-    match k {
-        Check::TripRuns => c.trips,
-        Check::StopTimeNumbers => c.times,
-        Check::EdgeNumbers => c.edges,
-        Check::StopTimeRanges => c.times,
-        Check::TripRanges => c.trips,
-        Check::WindowRanges => c.windows,
-        Check::EdgeRanges => c.edges,
-        Check::EdgeOrder => c.edges,
-    }
-}
-
-// A check of one row.
-fn row_ok(tables: &[u32], c: Counts, k: Check, i: usize) -> bool
-    requires counts_ok { CountsOk c }
-    requires slices_ok { SlicesOk tables.now c }
-    requires i_bound { i < row_count_of k c }
-    ensures { result ≡ row_ok tables.now c k i }
-{
-    match k {
-        Check::TripRuns => trip_runs(trip_row(tables, c, i), c),
-        Check::StopTimeNumbers => stop_time_numbers(stop_time_row(tables, c, i), c),
-        Check::EdgeNumbers => edge_numbers(edge_row(tables, c, i), c),
-        Check::StopTimeRanges => stop_time_ranges(stop_time_row(tables, c, i)),
-        Check::TripRanges => trip_ranges(trip_row(tables, c, i)),
-        Check::WindowRanges => window_ranges(window_row(tables, c, i)),
-        Check::EdgeRanges => edge_ranges(edge_row(tables, c, i)),
-        Check::EdgeOrder => edge_rises(tables, c, i),
-    }
-}
-
-// A check of every row.
-fn every_row(tables: &[u32], c: Counts, k: Check) -> bool
-    requires counts_ok { CountsOk c }
-    requires slices_ok { SlicesOk tables.now c }
-    ensures { result ≡ every_row tables.now c k }
-{
-    let n = rows_of(k, c);
-    let mut i: usize = 0;
-    while i < n {
-        if !row_ok(tables, c, k, i) {
-            return false;
-        }
-        i += 1;
-    }
-    true
-}
-
-// Questions 3, 4, 5 and 6 of the whole timetable.
+// Question 3 of every trip.
+#[tactic(auto, unfolding(crate::specs::Door::runs_ok))]
 pub fn runs_ok(tables: &[u32], c: Counts) -> bool
     requires counts_ok { CountsOk c }
     requires slices_ok { SlicesOk tables.now c }
     ensures { result ≡ runs_ok tables.now c }
 {
-    every_row(tables, c, Check::TripRuns)
+    (0..c.trips).all(|i| trip_runs(trip_row(tables, c, i), c))
 }
 
+// Question 4 of every stop time, and of every walk edge.
+fn stop_times_known(tables: &[u32], c: Counts) -> bool
+    requires counts_ok { CountsOk c }
+    requires slices_ok { SlicesOk tables.now c }
+    ensures { result ≡ every_row tables.now c StopTimeNumbers }
+{
+    (0..c.times).all(|i| stop_time_numbers(stop_time_row(tables, c, i), c))
+}
+
+fn edges_known(tables: &[u32], c: Counts) -> bool
+    requires counts_ok { CountsOk c }
+    requires slices_ok { SlicesOk tables.now c }
+    ensures { result ≡ every_row tables.now c EdgeNumbers }
+{
+    (0..c.edges).all(|i| edge_numbers(edge_row(tables, c, i), c))
+}
+
+// Of both.
+#[tactic(auto, unfolding(crate::specs::Door::numbers_ok))]
 pub fn numbers_ok(tables: &[u32], c: Counts) -> bool
     requires counts_ok { CountsOk c }
     requires slices_ok { SlicesOk tables.now c }
     ensures { result ≡ numbers_ok tables.now c }
 {
-    let a = every_row(tables, c, Check::StopTimeNumbers);
-    let b = every_row(tables, c, Check::EdgeNumbers);
-    both(a, b)
+    stop_times_known(tables, c) && edges_known(tables, c)
 }
 
+// Question 5 of every row of each table.
+fn stop_times_in_range(tables: &[u32], c: Counts) -> bool
+    requires counts_ok { CountsOk c }
+    requires slices_ok { SlicesOk tables.now c }
+    ensures { result ≡ every_row tables.now c StopTimeRanges }
+{
+    (0..c.times).all(|i| stop_time_ranges(stop_time_row(tables, c, i)))
+}
+
+fn trips_in_range(tables: &[u32], c: Counts) -> bool
+    requires counts_ok { CountsOk c }
+    requires slices_ok { SlicesOk tables.now c }
+    ensures { result ≡ every_row tables.now c TripRanges }
+{
+    (0..c.trips).all(|i| trip_ranges(trip_row(tables, c, i)))
+}
+
+fn windows_in_range(tables: &[u32], c: Counts) -> bool
+    requires counts_ok { CountsOk c }
+    requires slices_ok { SlicesOk tables.now c }
+    ensures { result ≡ every_row tables.now c WindowRanges }
+{
+    (0..c.windows).all(|i| window_ranges(window_row(tables, c, i)))
+}
+
+fn edges_in_range(tables: &[u32], c: Counts) -> bool
+    requires counts_ok { CountsOk c }
+    requires slices_ok { SlicesOk tables.now c }
+    ensures { result ≡ every_row tables.now c EdgeRanges }
+{
+    (0..c.edges).all(|i| edge_ranges(edge_row(tables, c, i)))
+}
+
+// Of all.
+#[tactic(auto, unfolding(crate::specs::Door::ranges_ok))]
 pub fn ranges_ok(tables: &[u32], c: Counts) -> bool
     requires counts_ok { CountsOk c }
     requires slices_ok { SlicesOk tables.now c }
     ensures { result ≡ ranges_ok tables.now c }
 {
-    let a = every_row(tables, c, Check::StopTimeRanges);
-    let b = every_row(tables, c, Check::TripRanges);
-    let d = every_row(tables, c, Check::WindowRanges);
-    let e = every_row(tables, c, Check::EdgeRanges);
-    both(both(a, b), both(d, e))
+    stop_times_in_range(tables, c)
+        && trips_in_range(tables, c)
+        && windows_in_range(tables, c)
+        && edges_in_range(tables, c)
 }
 
 // Questions 4 and 5 of every stop time, each read once and no branch between them: kept are the greatest stop plus one, and all bits of the
 // times and of the codes.
+#[tactic(auto, using(crate::proofs::Yes::kept_all))]
 fn stop_times_ok(tables: &[u32], c: Counts) -> bool
     requires counts_ok { CountsOk c }
     requires slices_ok { SlicesOk tables.now c }
-    ensures { result ≡ every_row tables.now c Check.StopTimeNumbers && every_row tables.now c Check.StopTimeRanges }
+    ensures { result ≡ every_row tables.now c StopTimeNumbers && every_row tables.now c StopTimeRanges }
 {
-    let n = c.times;
     let mut stops: usize = 0;
     let mut times: u32 = 0;
     let mut codes: u32 = 0;
-    let mut i: usize = 0;
-    while i < n {
+    for i in 0..c.times {
         let at = i * 6;
-        stops = words::larger(stops, words::field(tables, at) + 1);
-        times = times | (words::word(tables, at + 1) | words::word(tables, at + 2));
-        codes = codes | (words::word(tables, at + 4) | words::word(tables, at + 5));
-        i += 1;
+        stops = stops.max(tables[at] as usize + 1);
+        times |= tables[at + 1] | tables[at + 2];
+        codes |= tables[at + 4] | tables[at + 5];
     }
-    both(stops <= c.stops, both(times <= 1048575, codes <= 3))
+    stops <= c.stops && (times <= 1048575 && codes <= 3)
 }
 
 // Questions 4 and 5 at once, each stop time read once.
+#[tactic(auto, unfolding(crate::specs::Door::numbers_ok, crate::specs::Door::ranges_ok))]
 pub fn rows_ok(tables: &[u32], c: Counts) -> bool
     requires counts_ok { CountsOk c }
     requires slices_ok { SlicesOk tables.now c }
     ensures { result ≡ numbers_ok tables.now c && ranges_ok tables.now c }
 {
-    let x = stop_times_ok(tables, c);
-    let a = every_row(tables, c, Check::EdgeNumbers);
-    let b = every_row(tables, c, Check::TripRanges);
-    let d = every_row(tables, c, Check::WindowRanges);
-    let e = every_row(tables, c, Check::EdgeRanges);
-    both(both(x, both(a, b)), both(d, e))
+    stop_times_ok(tables, c)
+        && edges_known(tables, c)
+        && trips_in_range(tables, c)
+        && windows_in_range(tables, c)
+        && edges_in_range(tables, c)
 }
 
+// Question 6 of every walk edge.
+#[tactic(auto, unfolding(crate::specs::Door::order_ok))]
 pub fn order_ok(tables: &[u32], c: Counts) -> bool
     requires counts_ok { CountsOk c }
     requires slices_ok { SlicesOk tables.now c }
     ensures { result ≡ order_ok tables.now c }
 {
-    every_row(tables, c, Check::EdgeOrder)
+    (0..c.edges).all(|i| edge_rises(tables, c, i))
 }

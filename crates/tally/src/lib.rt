@@ -10,7 +10,7 @@
 #![tactic(auto)]
 
 ghost use Rattle.std.specs.Prelude.{◌≡◌, ◌≤◌};
-ghost use Rattle.tally.specs.Tally.{one_more, with_call, tally_with};
+ghost use Rattle.tally.specs.Tally.{with_call, tally_with};
 
 // The box's record: the answered and refused calls of screens 0 to 63. It is lent to every call, which sees its 128 numbers.
 #[repr(C)]
@@ -27,34 +27,17 @@ pub struct ScreenTally {
     pub refused: u32,
 }
 
-// A count and one more; the greatest stays.
-fn one_more(count: u32) -> u32
-    ensures { result ≡ one_more count }
-{
-    if count == 4294967295 {
-        4294967295
-    } else {
-        count + 1
-    }
-}
-
-// A screen's numbers with one call more, which ended with this code. Both are made before the code is looked at, so that it chooses a number and
-// not a way: an answer that the caller hands on is then not copied once more for each.
+// A screen's numbers with one call more, which ended with this code; the greatest count stays. Both are made before the code is looked at, so that it
+// chooses a number and not a way: an answer that the caller hands on is then not copied once more for each.
 fn counted(t: ScreenTally, code: u32) -> ScreenTally
     ensures { result ≡ with_call t code }
 {
-    let answered = one_more(t.answered);
-    let refused = one_more(t.refused);
+    let answered = t.answered.saturating_add(1);
+    let refused = t.refused.saturating_add(1);
     if code == 0 {
-        ScreenTally {
-            answered: answered,
-            refused: t.refused,
-        }
+        ScreenTally { answered, ..t }
     } else {
-        ScreenTally {
-            answered: t.answered,
-            refused: refused,
-        }
+        ScreenTally { refused, ..t }
     }
 }
 
@@ -75,6 +58,7 @@ fn tallied(t: ScreenTally, code: u32) -> ScreenTally
 }
 
 // The box's numbers count one call more of a screen.
+#[tactic(auto, unfolding(crate::specs::Tally::tally_with))]
 pub fn count_call(tally: &mut [u32; 128], screen: u32, code: u32)
     requires { screen ≤ 63 }
     ensures { tally.new ≡ tally_with tally.old screen code }

@@ -2,8 +2,9 @@
 use Prim.Native.Nat.{ℕ, ◌+◌, ◌-◌, ◌<◌, ◌≤◌, min}
 use mathlib.Core.Path.{◌≡◌, refl, ap, ap₂, sym, ◌∙◌}
 use mathlib.Core.Bool.{Bool, true, false, ◌&&◌}
+use mathlib.Core.Logic.{◌⊎◌, ⊎_elim}
 use mathlib.Core.List.{List}
-use mathlib.Core.Option.{Option, none}
+use Rattle.std.specs.Prelude.{Option, None}
 use native.Mathlib.Omega.{arith}
 use native.Mathlib.Nat.{min-le_left}
 use lib.ListN.{get_or}
@@ -18,6 +19,7 @@ use Rattle.event_transfers.specs.Transfers.{Transfer}
 use Rattle.model.specs.Tables.{never, Tables, Query, trips, position, fifo}
 use Rattle.model.specs.Search.{line_at, line_trips_at, resolve_in, resolve}
 use Rattle.target_resolving.specs.declared.Tried.{Tried}
+use Rattle.target_resolving.specs.declared.Tried.TheVariants.{Next, Stop}
 use Rattle.query_types.specs.declared.Lined.{Lined}
 use Rattle.target_resolving.specs.Resolving.{tried, go_on, TripsAt, Names, line_run_first, line_run_count, LinesOf}
 use Rattle.target_resolving.proofs.Laws.{left_first, left_step, left_end}
@@ -39,18 +41,23 @@ module _ (T : Tables) (Q : Query) (f : Bool) (o after best target scan : ℕ) (q
   abbrev alone : Option (ℕ × BoardedRun)
   alone = resolve_in T Q f o after best (λ p. target) (min 1 Q.settings.line_scan) 0
 
-  pub alone_none : scan ≡ 0 → none ≡ alone
+  pub alone_none : scan ≡ 0 → None ≡ alone
   alone_none z =
       let m : min 1 Q.settings.line_scan ≡ 0 = omega arith in
       left_end T Q f o after best (λ p. target) 0 0 0 (omega arith) ∙ sym (left_first T Q f o after best (λ p. target) 0 0)
       ∙ sym (ap (λ (k : ℕ). resolve_in T Q f o after best (λ p. target) k 0) m)
 
-  pub alone_tried : (r : Tried) → (scan ≡ 0 → ⊥) → r ≡ tried T Q f o after best target → go_on r target none ≡ alone
+  pub alone_tried : (r : Tried) → (scan ≡ 0 → ⊥) → r ≡ tried T Q f o after best target → go_on r target None ≡ alone
   alone_tried r z er =
       let m : min 1 Q.settings.line_scan ≡ 1 = omega arith in
       ap (go_on r target) (left_end T Q f o after best (λ p. target) 1 0 1 (omega arith))
       ∙ sym (left_first T Q f o after best (λ p. target) 1 0 ∙ left_step T Q f o after best (λ p. target) 1 0 0 target r (omega arith) refl er)
       ∙ sym (ap (λ (k : ℕ). resolve_in T Q f o after best (λ p. target) k 0) m)
+
+  pub alone_passed : (r : Tried) → (scan ≡ 0 → ⊥) → (r ≡ Next) ⊎ (r ≡ Stop) → r ≡ tried T Q f o after best target → None ≡ alone
+  alone_passed r z p er =
+      let e : go_on r target None ≡ None = ⊎_elim (λ (n : r ≡ Next). rw n refl) (λ (n : r ≡ Stop). rw n refl) p in
+      sym e ∙ alone_tried r z er
 
 -- `resolve` by the line's trips, the target's position and the line's flag
 module _ (T : Tables) (Q : Query) (e : Transfer) (after best : ℕ) where

@@ -1,19 +1,15 @@
 -- How the code resolves a transfer: one trip of a line tried after the other. Definitions only.
 -- Inner: nobody has to believe this.
-use Rattle.std.specs.Prelude.{ℕ, ◌+◌, ◌*◌, ◌<◌, ◌≤◌, ◌≡◌, Bool, cond, not, ◌&&◌, ◌||◌, List, get_or, length, ltb, leb}
-use Rattle.std.proofs.Math.Option.{Option, none, some}
+use Rattle.std.specs.Prelude.{ℕ, ◌+◌, ◌*◌, ◌<◌, ◌≤◌, ◌≡◌, Bool, cond, not, ◌&&◌, ◌||◌, List, get_or, length, ltb, leb, Option, None, Some}
 use Rattle.loops.specs.Count.{one}
 use Rattle.frequency.specs.declared.BoardedRun.{BoardedRun}
-use Rattle.frequency.specs.declared.FreqBoard.{FreqBoard}
-use Rattle.frequency.specs.declared.FreqBoard.TheVariants.{Nothing, Board}
 use Rattle.model.specs.Tables.{Tables, Query, trips, stop_count, departure, no_pickup, no_windows, position, fifo, usable}
 use Rattle.model.specs.Search.{delay_of, skipped, margin_of, board_at}
 use Rattle.tables.specs.declared.Counts.{Counts}
 use Rattle.event_transfers.specs.Transfers.{Transfer}
 use Rattle.target_resolving.specs.declared.Tried.{Tried}
 use Rattle.target_resolving.specs.declared.Tried.TheVariants.{Next, Stop, Take}
-use Rattle.target_resolving.specs.declared.Resolved.{Resolved}
-use Rattle.target_resolving.specs.declared.Resolved.TheVariants.{Unresolved, Trip}
+use Rattle.target_resolving.specs.declared.BoardedTrip.{BoardedTrip}
 use Rattle.query_types.specs.Layout.{positions_at, fifo_at, lay_for}
 use Rattle.query_types.specs.declared.Lined.{Lined}
 
@@ -22,14 +18,14 @@ pub record TripsAt (trip : ℕ → ℕ) (p : ℕ) (built : List ℕ) (from k : �
   pub place : (j : ℕ) → j < k → trip (p + j) ≡ get_or built (from + j) 0
 
 -- what is found, as the model has it
-abbrev pub resolved_of : Resolved → Option (ℕ × BoardedRun)
-resolved_of Unresolved = none
-resolved_of (Trip t b) = some (t, b)
+abbrev pub resolved_of : Option BoardedTrip → Option (ℕ × BoardedRun)
+resolved_of None = None
+resolved_of (Some x) = Some (x.trip, x.run)
 
 -- a boarding against the best total: taken if earlier; else a FIFO line has no better one
-abbrev pub weighed : Bool → ℕ → FreqBoard → Tried
-weighed is_fifo best Nothing = Next
-weighed is_fifo best (Board b) = cond (ltb b.departure best) (Take b) (cond is_fifo Stop Next)
+abbrev pub weighed : Bool → ℕ → Option BoardedRun → Tried
+weighed is_fifo best None = Next
+weighed is_fifo best (Some b) = cond (ltb b.departure best) (Take b) (cond is_fifo Stop Next)
 
 -- by whether the trip has that offset, is too late, is barred
 abbrev pub choose : Bool → Bool → Bool → Tried → Tried
@@ -46,8 +42,8 @@ tried T Q is_fifo o after best t =
 -- what is found where trip t was tried so, and the places after it give this
 abbrev pub go_on : Tried → ℕ → Option (ℕ × BoardedRun) → Option (ℕ × BoardedRun)
 go_on Next t later = later
-go_on Stop t later = none
-go_on (Take b) t later = some (t, b)
+go_on Stop t later = None
+go_on (Take b) t later = Some (t, b)
 
 -- a transfer to this trip at this offset
 pub record Names (e : Transfer) (target off : ℕ) : Type 0 where

@@ -14,7 +14,7 @@ ghost use Rattle.event_transfers.specs.Transfers.{Transfer};
 ghost use Rattle.trip_boarding.specs.Reads.{Ground, Event, Agree, Asks};
 ghost use Rattle.target_resolving.specs.Resolving.{weighed, tried, resolved_of, TripsAt, Names, lined_of, LinesHeld, LinesOf};
 
-use frequency::{BoardedRun, FreqBoard};
+use frequency::BoardedRun;
 use query_types::{Lined, Terms};
 use tables::Counts;
 
@@ -26,11 +26,11 @@ pub enum Tried {
     Take(BoardedRun),
 }
 
-// What a transfer leads to: the trip that is boarded, and how.
+// What a transfer leads to: the trip that is boarded, and the run of it.
 #[derive(Clone, Copy)]
-pub enum Resolved {
-    Unresolved,
-    Trip(u32, BoardedRun),
+pub struct BoardedTrip {
+    pub trip: u32,
+    pub run: BoardedRun,
 }
 
 // Resolving a transfer
@@ -50,31 +50,24 @@ fn too_late(
     ensures { (T : Tables) (Q : Query) → T.timetable ≡ timetable tables.now c → Asks Q terms → result
         ≡ ((is_fifo && leb (best + margin_of T Q) (departure T trip off)) && no_windows T trip) }
 {
-    let dep = trip_boarding::event_word(tables, c, trip, off, 2) as u64;
-    let late = best as u64 + terms.margin as u64 <= dep;
-    door::both(
-        door::both(is_fifo, late),
-        tables::trip(tables, c, trip, 5) == 0,
-    )
+    let dep = u64::from(trip_boarding::event_word(tables, c, trip, off, 2));
+    let late = u64::from(best) + u64::from(terms.margin) <= dep;
+    is_fifo && late && tables::trip(tables, c, trip, 5) == 0
 }
 
 // A boarding against the best total.
-fn weigh(is_fifo: bool, best: u32, b: FreqBoard) -> Tried
+fn weigh(is_fifo: bool, best: u32, b: Option<BoardedRun>) -> Tried
     ensures { result ≡ weighed is_fifo best b }
 {
-    let FreqBoard::Board(x) = b else {
-        return Tried::Next;
-    };
-    if x.departure < best {
-        return Tried::Take(x);
+    match b {
+        Some(run) if run.departure < best => Tried::Take(run),
+        Some(_) if is_fifo => Tried::Stop,
+        _ => Tried::Next,
     }
-    if is_fifo {
-        return Tried::Stop;
-    }
-    Tried::Next
 }
 
 // One trip of a line. One past the table is passed over.
+#[tactic(auto, unfolding(crate::specs::Resolving::tried))]
 fn try_trip(
     tables: &[u32],
     c: Counts,
@@ -92,10 +85,7 @@ fn try_trip(
     ensures { (T : Tables) (Q : Query) → Agree T Q tables.now c delay_rows.now stop_rows.now
         → Asks Q terms → result ≡ tried T Q is_fifo off after best trip }
 {
-    if c.trips <= trip {
-        return Tried::Next;
-    }
-    if tables::trip(tables, c, trip, 1) <= off {
+    if c.trips <= trip || tables::trip(tables, c, trip, 1) <= off {
         return Tried::Next;
     }
     if too_late(tables, c, terms, is_fifo, trip, off, best) {
@@ -123,7 +113,7 @@ fn resolve_in(
     off: usize,
     after: u32,
     best: u32,
-) -> Resolved
+) -> Option<BoardedTrip>
     requires on_ground { Ground tables.now c delay_rows.now stop_rows.now }
     requires after_bound { after < 134217728 }
     requires from_bound { from + k ≤ length built.now }
@@ -131,26 +121,23 @@ fn resolve_in(
         → Agree T Q tables.now c delay_rows.now stop_rows.now → Asks Q terms
         → TripsAt trip p built.now from k → resolved_of result ≡ resolve_in T Q is_fifo off after best trip k p }
 {
-    let mut j: usize = 0;
-    while j < k {
-        let trip = words::field(built, from + j);
+    for j in 0..k {
+        let trip = built[from + j] as usize;
         let step = try_trip(
             tables, c, delay_rows, stop_rows, terms, is_fifo, trip, off, after, best,
         );
         match step {
-            Tried::Next => {
-                j += 1;
-                continue;
-            }
-            Tried::Stop => {
-                return Resolved::Unresolved;
-            }
-            Tried::Take(b) => {
-                return Resolved::Trip(trip as u32, b);
+            Tried::Next => {}
+            Tried::Stop => return None,
+            Tried::Take(run) => {
+                return Some(BoardedTrip {
+                    trip: trip as u32,
+                    run,
+                });
             }
         }
     }
-    Resolved::Unresolved
+    None
 }
 
 // The line of a trip; a trip past the table has none.
@@ -161,10 +148,11 @@ fn line_at(c: Counts, built: &[u32], trip: usize) -> usize
     ensures meaning { ((T : Tables) (n : Lined) (work : List ℕ) → T.timetable.trips ≡ c.trips → LinesOf T c n built.now work → result
         ≡ line_at T trip) }
 {
-    if c.trips <= trip {
-        return 4294967295;
+    if trip < c.trips {
+        built[trip] as usize
+    } else {
+        4294967295
     }
-    words::field(built, trip)
 }
 
 // Does the trip at place p of a run of `count` entries from `first` on exist, and is it the target?
@@ -172,10 +160,7 @@ fn stands(built: &[u32], first: usize, count: usize, p: usize, target: usize) ->
     requires { first + count ≤ length built.now }
     ensures { result ≡ (ltb p count && eqb (get_or built.now (first + p) 0) target) }
 {
-    if count <= p {
-        return false;
-    }
-    words::field(built, first + p) == target
+    p < count && built[first + p] as usize == target
 }
 
 // The target alone.
@@ -190,29 +175,22 @@ fn resolve_alone(
     off: usize,
     after: u32,
     best: u32,
-) -> Resolved
+) -> Option<BoardedTrip>
     requires on_ground { Ground tables.now c delay_rows.now stop_rows.now }
     requires after_bound { after < 134217728 }
     ensures { (T : Tables) (Q : Query) → Agree T Q tables.now c delay_rows.now stop_rows.now
         → Asks Q terms → resolved_of result ≡ resolve_in T Q is_fifo off after best (λ p. target) (min 1 Q.settings.line_scan) 0 }
 {
     if terms.line_scan == 0 {
-        return Resolved::Unresolved;
+        return None;
     }
     let trip = target as usize;
     let step = try_trip(
         tables, c, delay_rows, stop_rows, terms, is_fifo, trip, off, after, best,
     );
     match step {
-        Tried::Next => {
-            return Resolved::Unresolved;
-        }
-        Tried::Stop => {
-            return Resolved::Unresolved;
-        }
-        Tried::Take(b) => {
-            return Resolved::Trip(target, b);
-        }
+        Tried::Take(run) => Some(BoardedTrip { trip: target, run }),
+        Tried::Next | Tried::Stop => None,
     }
 }
 
@@ -232,7 +210,7 @@ fn resolve_line(
     off: usize,
     after: u32,
     best: u32,
-) -> Resolved
+) -> Option<BoardedTrip>
     requires on_ground { Ground tables.now c delay_rows.now stop_rows.now }
     requires after_bound { after < 134217728 }
     requires lines_held { LinesHeld c lined built.now work.now }
@@ -242,16 +220,16 @@ fn resolve_line(
         stop_rows.now → Asks Q terms → LinesOf T c lined built.now work.now → Names e target off → line
         ≡ line_at T target → resolved_of result ≡ resolve T Q e after best }
 {
-    let is_fifo = words::field(work, lined.fifo + line) == 1;
-    let first = lined.entries + words::field(built, lined.runs + line * 2);
-    let count = words::field(built, lined.runs + line * 2 + 1);
-    let p = words::field(work, lined.positions + target as usize);
+    let is_fifo = work[lined.fifo + line] == 1;
+    let first = lined.entries + built[lined.runs + line * 2] as usize;
+    let count = built[lined.runs + line * 2 + 1] as usize;
+    let p = work[lined.positions + target as usize] as usize;
     if !stands(built, first, count, p, target as usize) {
         return resolve_alone(
             tables, c, delay_rows, stop_rows, terms, is_fifo, target, off, after, best,
         );
     }
-    let k = words::smaller(count - p, terms.line_scan as usize);
+    let k = (count - p).min(terms.line_scan as usize);
     resolve_in(
         tables,
         c,
@@ -282,7 +260,7 @@ pub fn resolve(
     off: usize,
     after: u32,
     best: u32,
-) -> Resolved
+) -> Option<BoardedTrip>
     requires on_ground { Ground tables.now c delay_rows.now stop_rows.now }
     requires after_bound { after < 134217728 }
     requires lines_held { LinesHeld c lined built.now work.now }

@@ -16,7 +16,7 @@ use Rattle.tables.specs.Tables.{edge_of, time_of, trip_of, window_of}
 use Rattle.tables.specs.Door.{counts_ok, edge_numbers, edge_ranges, edge_rises, numbers_ok, order_ok, ranges_ok, runs_ok, slices_ok, stop_time_numbers, stop_time_ranges, trip_ranges, trip_runs, window_ranges}
 use Rattle.departures.specs.Listed.{at_stops_ok, listed_ok, row_at_stop, row_numbers, rows_ok, run_in, stop_rows_ok, stop_runs_ok}
 use Rattle.event_transfers.specs.Transfers.{departures_of_line, events_before, events_of, first_not_before, runs_from, transfer_to, transfers_of, transfer_words}
-use Rattle.transfers_call.specs.Call.{TransferLent, transfers_answer, area_with, transfer_areas, transfer_lent, lines_ok, transfers_outcome, transfers_question1, transfers_question2, transfers_question3, transfers_question4, transfers_question5, transfers_question6, room_ok, transfers_settled, transfer_sizes_ok, transfers_verdict}
+use Rattle.transfers_call.specs.Call.{TransferLent, area_with, transfer_areas, transfer_lent, lines_ok, transfers_outcome, transfers_question1, transfers_question2, transfers_question3, transfers_question4, transfers_question5, transfers_question6, room_ok, transfers_settled, transfer_sizes_ok, transfers_verdict}
 
 -- two lists of numbers are the same
 same : List ℕ → List ℕ → Bool
@@ -38,7 +38,7 @@ pub record Case : Type 0 where
 right : Case → Bool
 right x =
     let o = transfers_outcome x.given (transfer_areas x.area x.transfer_runs) in
-    (eqb (transfers_answer o.answer).code x.code && eqb (transfers_answer o.answer).value x.value) && (same o.areas.area x.area_out && same o.areas.transfer_runs x.runs_out)
+    (eqb o.answer.code x.code && eqb o.answer.value x.value) && (same o.areas.area x.area_out && same o.areas.transfer_runs x.runs_out)
 
 pub all : List Case → Bool
 all [] = true

@@ -20,7 +20,8 @@ use Rattle.tables.specs.Timetable.{Timetable, timetable, time_at}
 use Rattle.departures.specs.declared.DepartureRow.{DepartureRow}
 use Rattle.departures.specs.Departures.{row_departure, run_at, run_first}
 use Rattle.departures.proofs.All.{all_tab}
-use Rattle.transfers_call.specs.declared.Built.TheVariants.{Refused, Rows}
+use Rattle.door.specs.declared.Answer.{Answer}
+use Rattle.door.specs.Door.{refusal, success}
 use Rattle.event_transfers.specs.Transfers.{Input, Transfer, all_transfers, built_transfers, departures_of_line, events_before, events_of, first_not_before, runs_from, transfer_at, transfer_to, transfers_at, transfers_of, transfer_words}
 use Rattle.transfers_call.specs.Call.{TransfersAdmitted, TransferAreas, TransferLent, TransfersOutcome, area_with, input_of, transfers_outcome, transfers_outcome_of, room_ok, transfers_settle, transfers_settled, transfers_verdict, written}
 use Rattle.event_transfers.proofs.Lists.{all_both, all_flatten, all_imp, all_keep, all_kept, all_take, length_keep}
@@ -311,17 +312,17 @@ pub record Answered (x : TransferLent) (s : TransferAreas) (n : ℕ) : Type 0 wh
   pub room : Room (length (all_transfers (input_of x))) (length s.area)
   pub areas : (transfers_outcome x s).areas ≡ written (input_of x) s
 
-answered_by : (x : TransferLent) (s : TransferAreas) (n v : ℕ) → transfers_verdict x (length s.transfer_runs) ≡ v → (transfers_settle v (input_of x) s).answer ≡ Rows n → Answered x s n
+answered_by : (x : TransferLent) (s : TransferAreas) (n v : ℕ) → transfers_verdict x (length s.transfer_runs) ≡ v → (transfers_settle v (input_of x) s).answer ≡ success n → Answered x s n
 unfolding transfers_settled
 answered_by x s n zero e h = go (room_ok (length (all_transfers (input_of x))) (length s.area)) refl
   where
     picks : Bool → TransfersOutcome
-    picks b = cond b (transfers_outcome_of (Rows (length (all_transfers (input_of x)))) (written (input_of x) s)) (transfers_outcome_of (Refused 7) s)
+    picks b = cond b (transfers_outcome_of (success (length (all_transfers (input_of x)))) (written (input_of x) s)) (transfers_outcome_of (refusal 7) s)
 
     go : (b : Bool) → room_ok (length (all_transfers (input_of x))) (length s.area) ≡ b → Answered x s n
     go true q =
-        let z : Rows (length (all_transfers (input_of x))) ≡ Rows n = sym (ap (λ (b : Bool). (picks b).answer) q) ∙ h in
-        let y : length (all_transfers (input_of x)) ≡ n = cc in
+        let z : success (length (all_transfers (input_of x))) ≡ success n = sym (ap (λ (b : Bool). (picks b).answer) q) ∙ h in
+        let y : length (all_transfers (input_of x)) ≡ n = ap (λ (a : Answer). a.value) z in
         record {
           facts = admitted x (length s.transfer_runs) e;
           counted = sym y;
@@ -329,36 +330,33 @@ answered_by x s n zero e h = go (room_ok (length (all_transfers (input_of x))) (
           areas = ap (λ (v : ℕ). (transfers_settle v (input_of x) s).areas) e ∙ ap (λ (b : Bool). (picks b).areas) q;
         }
     go false q =
-        let z : Refused 7 ≡ Rows n = sym (ap (λ (b : Bool). (picks b).answer) q) ∙ h in
-        let y : ◌≡◌ {A = ℕ} 0 1 = cc in
+        let z : refusal 7 ≡ success n = sym (ap (λ (b : Bool). (picks b).answer) q) ∙ h in
+        let y : ◌≡◌ {A = ℕ} 7 0 = ap (λ (a : Answer). a.code) z in
         absurd (omega arith)
-answered_by x s n (suc v) e h = let y : ◌≡◌ {A = ℕ} 0 1 = cc in absurd (omega arith)
+answered_by x s n (suc v) e h = let y : ◌≡◌ {A = ℕ} (suc v) 0 = ap (λ (a : Answer). a.code) h in absurd (omega arith)
 
 -- refused: both slices are as they came
-refused_by : (x : Input) (s : TransferAreas) (n v : ℕ) → (transfers_settle v x s).answer ≡ Refused n → (transfers_settle v x s).areas ≡ s
+refused_by : (x : Input) (s : TransferAreas) (v : ℕ) → ((transfers_settle v x s).answer.code ≡ 0 → ⊥) → (transfers_settle v x s).areas ≡ s
 unfolding transfers_settled
-refused_by x s n zero h = go (room_ok (length (all_transfers x)) (length s.area)) refl
+refused_by x s zero h = go (room_ok (length (all_transfers x)) (length s.area)) refl
   where
     picks : Bool → TransfersOutcome
-    picks b = cond b (transfers_outcome_of (Rows (length (all_transfers x))) (written x s)) (transfers_outcome_of (Refused 7) s)
+    picks b = cond b (transfers_outcome_of (success (length (all_transfers x))) (written x s)) (transfers_outcome_of (refusal 7) s)
 
     go : (b : Bool) → room_ok (length (all_transfers x)) (length s.area) ≡ b → (picks (room_ok (length (all_transfers x)) (length s.area))).areas ≡ s
-    go true q =
-        let z : Rows (length (all_transfers x)) ≡ Refused n = sym (ap (λ (b : Bool). (picks b).answer) q) ∙ h in
-        let y : ◌≡◌ {A = ℕ} 0 1 = cc in
-        absurd (omega arith)
+    go true q = absurd (h (ap (λ (b : Bool). (picks b).answer.code) q))
     go false q = ap (λ (b : Bool). (picks b).areas) q
-refused_by x s n (suc v) h = refl
+refused_by x s (suc v) h = refl
 
 module _ (x : TransferLent) (s : TransferAreas) (n : ℕ) where
-  pub answered : (transfers_outcome x s).answer ≡ Rows n → Answered x s n
+  pub answered : (transfers_outcome x s).answer ≡ success n → Answered x s n
   answered h = answered_by x s n (transfers_verdict x (length s.transfer_runs)) refl h
 
-  pub refused_kept : (transfers_outcome x s).answer ≡ Refused n → (transfers_outcome x s).areas ≡ s
-  refused_kept h = refused_by (input_of x) s n (transfers_verdict x (length s.transfer_runs)) h
+  pub refused_kept : ((transfers_outcome x s).answer.code ≡ 0 → ⊥) → (transfers_outcome x s).areas ≡ s
+  refused_kept h = refused_by (input_of x) s (transfers_verdict x (length s.transfer_runs)) h
 
   -- AFTER A SUCCESS the run and the area say of every event its transfers
-  pub answered_transfers : (transfers_outcome x s).answer ≡ Rows n → (trip off : ℕ) → trip < x.c.trips → off < count_of x.t x.c trip
+  pub answered_transfers : (transfers_outcome x s).answer ≡ success n → (trip off : ℕ) → trip < x.c.trips → off < count_of x.t x.c trip
       → transfers_at (transfers_outcome x s).areas.area (run_at (transfers_outcome x s).areas.transfer_runs (events_before (timetable x.t x.c) trip + off)) ≡ built_transfers (input_of x) trip off
   answered_transfers h trip off u v =
       ap (λ (a : TransferAreas). transfers_at a.area (run_at a.transfer_runs (events_before (timetable x.t x.c) trip + off))) (answered h).areas

@@ -16,7 +16,7 @@ use Rattle.sorts.proofs.Within.{within_whole}
 use Rattle.tables.specs.Timetable.{Timetable}
 use Rattle.departures.specs.declared.DepartureRow.{DepartureRow}
 use Rattle.departures.specs.Departures.{sort_stops}
-use Rattle.transfers_call.specs.declared.Built.TheVariants.{Refused, Rows}
+use Rattle.door.specs.Door.{refusal, success}
 use Rattle.event_transfers.specs.Transfers.{Input, all_transfers, built_transfers, events_before, events_of, runs_from, transfer_of, transfer_words}
 use Rattle.event_transfers.specs.Packed.{AreaSoFar, LineEnds, Most, Prepared, SortedRuns, AreaWalk, all_keys, lay_events, prepared, area_walk}
 use Rattle.transfers_call.specs.Settled.{settled_keys, walk_areas}
@@ -129,38 +129,32 @@ module _ (x : TransferLent) (s : TransferAreas) (a : TransfersAdmitted x (length
       keyed : Bool → TransfersOutcome
       keyed b =
           cond b
-          (transfers_outcome_of (Rows (min (length (flatten (all_keys (prepared_of x)))) 65537)) (walk_areas (lay_events x.settings.transfer_time 0 (all_keys (prepared_of x)) (area_walk 0 s.area s.transfer_runs))))
-          (transfers_outcome_of (Refused 7) s)
+          (transfers_outcome_of (success (min (length (flatten (all_keys (prepared_of x)))) 65537)) (walk_areas (lay_events x.settings.transfer_time 0 (all_keys (prepared_of x)) (area_walk 0 s.area s.transfer_runs))))
+          (transfers_outcome_of (refusal 7) s)
 
       defined : Bool → TransfersOutcome
-      defined b = cond b (transfers_outcome_of (Rows (length (all_transfers (input_of x)))) (written (input_of x) s)) (transfers_outcome_of (Refused 7) s)
+      defined b = cond b (transfers_outcome_of (success (length (all_transfers (input_of x)))) (written (input_of x) s)) (transfers_outcome_of (refusal 7) s)
 
       go : (b : Bool) → room_ok (length (all_transfers (input_of x))) (length s.area) ≡ b → settled_keys (prepared_of x) s ≡ transfers_settled (input_of x) s
       go true e =
           let r = room_yes (length (all_transfers (input_of x))) (length s.area) e in
           let n : min (length (flatten (all_keys (prepared_of x)))) 65537 ≡ length (all_transfers (input_of x)) = omega (arith, counted, r.few) in
           ap keyed (asked ∙ e)
-          ∙ ap₂ transfers_outcome_of (ap Rows n) (ap₂ transfer_areas (area_is r.few r.space) (runs-is r.few))
+          ∙ ap₂ transfers_outcome_of (ap success n) (ap₂ transfer_areas (area_is r.few r.space) (runs-is r.few))
           ∙ sym (ap defined e)
       go false e = ap keyed (asked ∙ e) ∙ sym (ap defined e)
 
--- one step of the call: refused by 7, or written
-pub settle_no : (p : Prepared) (s : TransferAreas) (n : ℕ) (b : Bool) → n ≡ min (length (flatten (all_keys p))) 65537 → b ≡ room_ok n (length s.area) → b ≡ false → transfers_outcome_of (Refused 7) s ≡ settled_keys p s
-unfolding settled_keys
-settle_no p s n b e f g =
-    let z : room_ok (min (length (flatten (all_keys p))) 65537) (length s.area) ≡ false = ap (λ (m : ℕ). room_ok m (length s.area)) (sym e) ∙ sym f ∙ g in
-    simp z
-
+-- one step of the call: written
 pub settle_yes : (p : Prepared) (s : TransferAreas) (n m : ℕ) (b : Bool) (a' v' : List ℕ) → n ≡ min (length (flatten (all_keys p))) 65537 → b ≡ room_ok n (length s.area) → b ≡ true
-    → area_walk m a' v' ≡ lay_events p.time 0 (all_keys p) (area_walk 0 s.area s.transfer_runs) → transfers_outcome_of (Rows n) (transfer_areas a' v') ≡ settled_keys p s
+    → area_walk m a' v' ≡ lay_events p.time 0 (all_keys p) (area_walk 0 s.area s.transfer_runs) → transfers_outcome_of (success n) (transfer_areas a' v') ≡ settled_keys p s
 unfolding settled_keys
 settle_yes p s n m b a' v' e f g h =
     let z : room_ok (min (length (flatten (all_keys p))) 65537) (length s.area) ≡ true = ap (λ (m : ℕ). room_ok m (length s.area)) (sym e) ∙ sym f ∙ g in
-    ap₂ (λ (k : ℕ) (w : AreaWalk). transfers_outcome_of (Rows k) (walk_areas w)) e h ∙ simp z
+    ap₂ (λ (k : ℕ) (w : AreaWalk). transfers_outcome_of (success k) (walk_areas w)) e h ∙ simp z
 
 -- written at once, where there is room for no fewer
 pub settle_most : (p : Prepared) (s : TransferAreas) (most m : ℕ) (b : Bool) (a' v' : List ℕ) → Most 0 (length (flatten (all_keys p))) most 0 → b ≡ room_ok most (length s.area) → b ≡ true
-    → area_walk m a' v' ≡ lay_events p.time 0 (all_keys p) (area_walk 0 s.area s.transfer_runs) → transfers_outcome_of (Rows m) (transfer_areas a' v') ≡ settled_keys p s
+    → area_walk m a' v' ≡ lay_events p.time 0 (all_keys p) (area_walk 0 s.area s.transfer_runs) → transfers_outcome_of (success m) (transfer_areas a' v') ≡ settled_keys p s
 settle_most p s most m b a' v' k f g h =
     let r = room_yes most (length s.area) (sym f ∙ g) in
     let t = total_is p.time (all_keys p) m a' s.area v' s.transfer_runs h in

@@ -11,8 +11,6 @@ use Rattle.tables.specs.Door.{counts_ok, slices_ok, runs_ok, numbers_ok, ranges_
 use Rattle.tables.specs.Sane.{Sane}
 use Rattle.departures.specs.Departures.{listed_at}
 use Rattle.departures.specs.Listed.{stop_runs_ok, listed_ok, RowsListed}
-use Rattle.transfers_call.specs.declared.Built.{Built}
-use Rattle.transfers_call.specs.declared.Built.TheVariants.{Refused, Rows}
 use Rattle.event_transfers.specs.Transfers.{Input, all_transfers, events_of, events_before, transfer_words, runs_from}
 
 -- what is lent: the settings, the timetable and its counts, each trip's line and how many lines there are, the listed departures
@@ -40,11 +38,6 @@ input_of x =
       listed = listed_at x.runs x.rows;
       time = x.settings.transfer_time;
     }
-
--- the answer as document 01 numbers it: the question answered no, or 0 and how many transfers were written
-abbrev pub transfers_answer : Built → Answer
-transfers_answer (Refused n) = refusal n
-transfers_answer (Rows n) = success n
 
 -- what is lent to be written: the transfers' area, the events' runs
 pub record TransferAreas : Type 0 where
@@ -111,23 +104,24 @@ area_with x area = transfer_words (all_transfers x) ++ drop (length (all_transfe
 abbrev pub written : Input → TransferAreas → TransferAreas
 written x s = transfer_areas (area_with x s.area) (runs_from 0 (events_of x))
 
--- THE OUTCOME: the answer and the slices at exit. A refusal leaves both slices as they came.
+-- THE OUTCOME: the answer as document 01 numbers it, the question answered no, or 0 and how many transfers were written; and the slices at exit.
+-- A refusal leaves both slices as they came.
 pub record TransfersOutcome : Type 0 where
-  pub answer : Built
+  pub answer : Answer
   pub areas : TransferAreas
 
-abbrev pub transfers_outcome_of : Built → TransferAreas → TransfersOutcome
-transfers_outcome_of g s = record { answer = g; areas = s }
+abbrev pub transfers_outcome_of : Answer → TransferAreas → TransfersOutcome
+transfers_outcome_of a s = record { answer = a; areas = s }
 
 unfoldable pub transfers_settled : Input → TransferAreas → TransfersOutcome
 transfers_settled x s =
     cond (room_ok (length (all_transfers x)) (length s.area))
-    (transfers_outcome_of (Rows (length (all_transfers x))) (written x s))
-    (transfers_outcome_of (Refused 7) s)
+    (transfers_outcome_of (success (length (all_transfers x))) (written x s))
+    (transfers_outcome_of (refusal 7) s)
 
 abbrev pub transfers_settle : ℕ → Input → TransferAreas → TransfersOutcome
 transfers_settle zero x s = transfers_settled x s
-transfers_settle (suc n) x s = transfers_outcome_of (Refused (suc n)) s
+transfers_settle (suc n) x s = transfers_outcome_of (refusal (suc n)) s
 
 abbrev pub transfers_outcome : TransferLent → TransferAreas → TransfersOutcome
 transfers_outcome x s = transfers_settle (transfers_verdict x (length s.transfer_runs)) (input_of x) s

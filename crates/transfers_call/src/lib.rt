@@ -9,6 +9,7 @@
 
 ghost use Rattle.std.specs.Prelude.{◌≡◌, ◌&&◌, ◌≤◌, ◌<◌, length, get_or};
 ghost use Rattle.loops.specs.Count.{tab};
+ghost use Rattle.door.specs.Door.{answer_of, code_of};
 ghost use Rattle.door.specs.Settings.{transfer_time_limit};
 ghost use Rattle.tables.specs.Door.{slices_ok};
 ghost use Rattle.tables.specs.Sane.{CountsOk, SlicesOk, Sane};
@@ -19,26 +20,21 @@ ghost use Rattle.transfers_call.specs.Call.{transfer_lent, input_of, transfer_ar
 ghost use Rattle.transfers_call.specs.Call.{transfers_settled, transfers_outcome, transfers_outcome_of, TransfersAdmitted, LinesBelow};
 
 use departures::DepartureRow;
-use door::Settings;
+use door::{Refusal, Settings};
 use tables::Counts;
 
-// What the call answers: the number of the question that was answered no, or how many transfers were written.
-#[derive(Clone, Copy)]
-pub enum Built {
-    Refused(u32),
-    Rows(u32),
-}
-
 // Question 7.
+#[tactic(auto, unfolding(crate::specs::Call::room_ok))]
 fn room_ok(n: usize, area: usize) -> bool
     requires { n ≤ 131072 }
     ensures { result ≡ room_ok n area }
 {
-    door::both(n <= 65536, n * 4 <= area)
+    n <= 65536 && n * 4 <= area
 }
 
-// The transfers, or 7, from the sorted departures. Where there is room for one to each line that has a departure left, they
+// The transfers, or question 7's refusal, from the sorted departures. Where there is room for one to each line that has a departure left, they
 // are written at once; else they are first counted.
+#[tactic(auto, unfolding(crate::specs::Settled::settled_keys))]
 fn settle(
     tables: &[u32],
     c: Counts,
@@ -49,12 +45,12 @@ fn settle(
     area: &mut [u32],
     transfer_runs: &mut [u32],
     time: usize,
-) -> Built
+) -> Result<u32, Refusal>
     requires sane { Sane tables.now c }
     requires runs_listed { RunsListed c runs.now d }
     requires sorted_runs { SortedRuns c runs.now work.now ends.now d }
     requires time_bound { time ≤ transfer_time_limit }
-    ensures { transfers_outcome_of result (transfer_areas area.new transfer_runs.new)
+    ensures { transfers_outcome_of (answer_of result) (transfer_areas area.new transfer_runs.new)
         ≡ settled_keys (prepared tables.now c runs.now work.now time)
         (transfer_areas area.old transfer_runs.old) }
 {
@@ -71,14 +67,12 @@ fn settle(
             transfer_runs,
             time,
         );
-        return Built::Rows(m as u32);
+        return Ok(m as u32);
     }
     let n = event_transfers::total(tables, c, runs, d, work, ends, time);
-    if !room_ok(n, area.len()) {
-        return Built::Refused(7);
-    }
+    door::ask(Refusal::Room, room_ok(n, area.len()))?;
     event_transfers::all_events(tables, c, runs, d, work, ends, area, transfer_runs, time);
-    Built::Rows(n as u32)
+    Ok(n as u32)
 }
 
 // A row as one number: its line and its departure above, its trip and offset below.
@@ -89,7 +83,7 @@ fn pack_line(tables: &[u32], c: Counts, lines: &[u32], r: DepartureRow) -> u64
     requires lines_word { get_or lines.now r.trip 0 < 4096 }
     ensures { result ≡ pack_line tables.now c lines.now r }
 {
-    let line = words::field(lines, r.trip);
+    let line = lines[r.trip] as usize;
     let at = tables::trip(tables, c, r.trip, 0) + r.offset;
     let departure = tables::time(tables, c, at, 2);
     ((line * 1048576 + departure) * 4294967296 + r.trip * 65536 + r.offset) as u64
@@ -110,14 +104,13 @@ fn pack_lines(
     requires work_length { length work.old ≡ d }
     ensures { work.new ≡ tab (packed_line_at tables.now c lines.now rows.now) d }
 {
-    let mut k: usize = 0;
-    while k < work.len() {
+    for k in 0..d {
         work[k] = pack_line(tables, c, lines, departures::departure_row(rows, k));
-        k += 1;
     }
 }
 
 // Question 2: is each slice as long as the counts say?
+#[tactic(auto, unfolding(crate::specs::Call::transfer_sizes_ok))]
 fn sizes_ok(
     tables: &[u32],
     c: Counts,
@@ -133,13 +126,11 @@ fn sizes_ok(
     ensures { result ≡ transfer_sizes_ok tables.now c d lines runs rows evs }
 {
     let events = event_transfers::event_count(tables, c);
-    door::both(
-        door::both(lines == c.trips, runs == c.stops * 2),
-        door::both(rows == d * 2, evs == events * 2),
-    )
+    lines == c.trips && runs == c.stops * 2 && rows == d * 2 && evs == events * 2
 }
 
 // First the timetable's own slice, whose counts the others are measured by.
+#[tactic(auto, using(tables::proofs::Yes::slices_yes))]
 fn lent_ok(
     tables: &[u32],
     c: Counts,
@@ -153,27 +144,18 @@ fn lent_ok(
     requires d_bound { d ≤ 65536 }
     ensures { result ≡ (slices_ok tables.now c && transfer_sizes_ok tables.now c d lines runs rows evs) }
 {
-    if !tables::slices_ok(tables, c) {
-        return false;
-    }
-    sizes_ok(tables, c, d, lines, runs, rows, evs)
+    tables::slices_ok(tables, c) && sizes_ok(tables, c, d, lines, runs, rows, evs)
 }
 
 // Question 4: is each trip's line below the count?
 fn lines_ok(lines: &[u32], line_count: usize) -> bool
     ensures { result ≡ lines_ok lines.now (length lines.now) line_count }
 {
-    let mut i: usize = 0;
-    while i < lines.len() {
-        if line_count <= words::field(lines, i) {
-            return false;
-        }
-        i += 1;
-    }
-    true
+    (0..lines.len()).all(|i| (lines[i] as usize) < line_count)
 }
 
-// The questions 1, 14 and 2 to 6: the number of the first that is answered no, or 0.
+// The questions 1, 14 and 2 to 6, in order: the first no refuses.
+#[tactic(auto, unfolding(crate::specs::Call::transfers_verdict, crate::specs::Call::transfers_question1, crate::specs::Call::transfers_question2, crate::specs::Call::transfers_question3, crate::specs::Call::transfers_question4, crate::specs::Call::transfers_question5, crate::specs::Call::transfers_question6), using(crate::proofs::Asking::yes))]
 fn questions(
     settings: Settings,
     tables: &[u32],
@@ -184,34 +166,21 @@ fn questions(
     runs: &[u32],
     rows: &[u32],
     evs: usize,
-) -> u32
-    ensures { result ≡ transfers_verdict (transfer_lent settings tables.now c line_count lines.now d
+) -> Result<(), Refusal>
+    ensures { code_of result ≡ transfers_verdict (transfer_lent settings tables.now c line_count lines.now d
         runs.now rows.now) evs }
 {
-    let few = door::both(line_count <= 4096, d <= 65536);
-    let no = door::limits(door::both(tables::counts_ok(c), few), settings);
-    if no != 0 {
-        return no;
-    }
-    if !lent_ok(tables, c, d, lines.len(), runs.len(), rows.len(), evs) {
-        return 2;
-    }
+    let few = tables::counts_ok(c) && line_count <= 4096 && d <= 65536;
+    door::limits(few, settings)?;
+    let lent = lent_ok(tables, c, d, lines.len(), runs.len(), rows.len(), evs);
+    door::ask(Refusal::Sizes, lent)?;
     let within = departures::stop_runs_ok(runs, c, d);
-    if !door::both(tables::runs_ok(tables, c), within) {
-        return 3;
-    }
+    door::ask(Refusal::Runs, tables::runs_ok(tables, c) && within)?;
     let listed = departures::listed_ok(tables, c, runs, rows, d);
-    let known = door::both(lines_ok(lines, line_count), listed);
-    if !door::both(tables::numbers_ok(tables, c), known) {
-        return 4;
-    }
-    if !tables::ranges_ok(tables, c) {
-        return 5;
-    }
-    if !tables::order_ok(tables, c) {
-        return 6;
-    }
-    0
+    let known = lines_ok(lines, line_count) && listed;
+    door::ask(Refusal::Numbers, tables::numbers_ok(tables, c) && known)?;
+    door::ask(Refusal::Ranges, tables::ranges_ok(tables, c))?;
+    door::ask(Refusal::Order, tables::order_ok(tables, c))
 }
 
 // What an admitted call writes. The sort works in `work` and `other`, of d numbers each.
@@ -228,12 +197,12 @@ fn build_in(
     transfer_runs: &mut [u32],
     work: &mut [u64],
     other: &mut [u64],
-) -> Built
+) -> Result<u32, Refusal>
     requires transfers_admitted { TransfersAdmitted (transfer_lent settings tables.now c line_count lines.now d runs.now rows.now)
         (length transfer_runs.old) }
     requires work_length { length work.old ≡ d }
     requires other_length { length other.old ≡ d }
-    ensures { transfers_outcome_of result (transfer_areas area.new transfer_runs.new)
+    ensures { transfers_outcome_of (answer_of result) (transfer_areas area.new transfer_runs.new)
         ≡ transfers_settled (input_of (transfer_lent settings tables.now c line_count lines.now d runs.now
         rows.now)) (transfer_areas area.old transfer_runs.old) }
 {
@@ -258,12 +227,12 @@ fn build(
     transfer_runs: &mut [u32],
     work: &mut [u64],
     other: &mut [u64],
-) -> Built
+) -> Result<u32, Refusal>
     requires transfers_admitted { TransfersAdmitted (transfer_lent settings tables.now c line_count lines.now d runs.now rows.now)
         (length transfer_runs.old) }
     requires d_bound { d ≤ length work.old }
     requires d_bound_2 { d ≤ length other.old }
-    ensures { transfers_outcome_of result (transfer_areas area.new transfer_runs.new)
+    ensures { transfers_outcome_of (answer_of result) (transfer_areas area.new transfer_runs.new)
         ≡ transfers_settled (input_of (transfer_lent settings tables.now c line_count lines.now d runs.now
         rows.now)) (transfer_areas area.old transfer_runs.old) }
 {
@@ -298,12 +267,12 @@ pub fn compute_trip_transfers(
     rows: &[u32],
     area: &mut [u32],
     transfer_runs: &mut [u32],
-) -> Built
-    ensures { transfers_outcome_of result (transfer_areas area.new transfer_runs.new)
+) -> Result<u32, Refusal>
+    ensures { transfers_outcome_of (answer_of result) (transfer_areas area.new transfer_runs.new)
         ≡ transfers_outcome (transfer_lent settings tables.now c line_count lines.now d runs.now
         rows.now) (transfer_areas area.old transfer_runs.old) }
 {
-    let v = questions(
+    questions(
         settings,
         tables,
         c,
@@ -313,10 +282,7 @@ pub fn compute_trip_transfers(
         runs,
         rows,
         transfer_runs.len(),
-    );
-    if v != 0 {
-        return Built::Refused(v);
-    }
+    )?;
     let mut work = [0u64; 65536];
     let mut other = [0u64; 65536];
     build(

@@ -1,13 +1,11 @@
 -- What boarding reads, and which tables and queries agree with it. Definitions only.
 -- Inner: nobody has to believe this.
-use Rattle.std.specs.Prelude.{ℕ, ◌<◌, ◌≡◌, List}
+use Rattle.std.specs.Prelude.{ℕ, ◌<◌, ◌≡◌, List, Option, None, Some}
 use Rattle.loops.specs.Iter.{Hit, hit, miss}
 use Rattle.tables.specs.declared.Counts.{Counts}
 use Rattle.tables.specs.Tables.{count_of}
 use Rattle.tables.specs.Timetable.{timetable}
 use Rattle.tables.specs.Sane.{Sane}
-use Rattle.delay_rows.specs.declared.Found.{Found}
-use Rattle.delay_rows.specs.declared.Found.TheVariants.{At, Nothing}
 use Rattle.delay_rows.specs.Delays.{margin}
 use Rattle.delay_rows.specs.Flat.{delay_row_count, stop_row_count, delay_row_at, stop_row_at, delay_tables}
 use Rattle.delay_lookup.specs.Sane.{DelayRows, StopRows}
@@ -15,13 +13,13 @@ use Rattle.model.specs.Tables.{Tables, Query}
 use Rattle.query_types.specs.declared.Terms.{Terms}
 
 -- a delay row found, as the model has it
-abbrev pub hit_of : Found → Hit
-hit_of (At i) = hit i
-hit_of Nothing = miss
+abbrev pub hit_of : Option ℕ → Hit
+hit_of (Some i) = hit i
+hit_of None = miss
 
 -- a delay row found is one of the table's
-pub record Known (rows : List ℕ) (adj : Found) : Type 0 where
-  pub below : (i : ℕ) → adj ≡ At i → i < delay_row_count rows
+pub record Known (rows : List ℕ) (adj : Option ℕ) : Type 0 where
+  pub below : (i : ℕ) → adj ≡ Some i → i < delay_row_count rows
 
 -- the slices that boarding reads are as the door leaves them
 pub record Ground (t : List ℕ) (c : Counts) (rows stops : List ℕ) : Type 0 where

@@ -20,8 +20,7 @@ ghost use Rattle.model.specs.Search.{delay_of, delay_at, skipped, departure_now,
 ghost use Rattle.trip_boarding.specs.Reads.{hit_of, Known, Ground, Event, Agree, Asks};
 ghost use Rattle.trip_boarding.specs.Frequency.{freq_board_at};
 
-use delay_rows::Found;
-use frequency::FreqBoard;
+use frequency::BoardedRun;
 use query_types::Terms;
 use stop_delay::StopDelay;
 use tables::Counts;
@@ -29,29 +28,29 @@ use tables::Counts;
 // Trips
 
 // Is a mode wanted?
+#[tactic(auto, unfolding(model::specs::Tables::mode_wanted))]
 fn mode_wanted(modes: u32, mode: u32) -> bool
     requires { mode < 32 }
     ensures { result ≡ mode_wanted modes mode }
 {
-    door::either(modes == 0, (modes >> mode) % 2 == 1)
+    modes == 0 || (modes >> mode) % 2 == 1
 }
 
 // Active, not excluded, and fit for a wheelchair where one is asked for.
+#[tactic(auto, unfolding(model::specs::Tables::usable))]
 fn usable(tables: &[u32], c: Counts, terms: Terms, i: usize) -> bool
     requires sane { Sane tables.now c }
     requires i_bound { i < c.trips }
     ensures { (T : Tables) (Q : Query) → T.timetable ≡ timetable tables.now c → Asks Q terms
         → result ≡ usable T Q i }
 {
-    let active = door::both(
-        tables::trip(tables, c, i, 6) == 1,
-        tables::trip(tables, c, i, 7) == 0,
-    );
-    let barred = door::both(terms.wheelchair, tables::trip(tables, c, i, 3) == 2);
-    door::both(active, !barred)
+    tables::trip(tables, c, i, 6) == 1
+        && tables::trip(tables, c, i, 7) == 0
+        && !(terms.wheelchair && tables::trip(tables, c, i, 3) == 2)
 }
 
 // Usable, and of a wanted mode.
+#[tactic(auto, unfolding(model::specs::Tables::permitted))]
 pub fn permitted(tables: &[u32], c: Counts, terms: Terms, i: usize) -> bool
     requires sane { Sane tables.now c }
     requires i_bound { i < c.trips }
@@ -59,13 +58,13 @@ pub fn permitted(tables: &[u32], c: Counts, terms: Terms, i: usize) -> bool
         → result ≡ permitted T Q i }
 {
     let mode = tables::trip(tables, c, i, 2) as u32;
-    door::both(usable(tables, c, terms, i), mode_wanted(terms.modes, mode))
+    usable(tables, c, terms, i) && mode_wanted(terms.modes, mode)
 }
 
 // Delays
 
 // The delay row of a trip.
-pub fn delay_of(delay_rows: &[u32], trip: u32) -> Found
+pub fn delay_of(delay_rows: &[u32], trip: u32) -> Option<usize>
     requires { DelayRows (delay_row_count delay_rows.now) (delay_row_at delay_rows.now) }
     ensures known { Known delay_rows.now result }
     ensures meaning { ((Q : Query) (stops : List ℕ) → Q.delays ≡ delay_tables delay_rows.now stops
@@ -90,7 +89,7 @@ fn delay_at(
     c: Counts,
     delay_rows: &[u32],
     stop_rows: &[u32],
-    adj: Found,
+    adj: Option<usize>,
     trip: usize,
     off: usize,
 ) -> StopDelay
@@ -103,8 +102,8 @@ fn delay_at(
 {
     let sequence = event_word(tables, c, trip, off, 3);
     match adj {
-        Found::At(i) => delay_lookup::stop_delay(delay_rows, stop_rows, i, sequence),
-        Found::Nothing => stop_delay::no_delay(),
+        Some(i) => delay_lookup::stop_delay(delay_rows, stop_rows, i, sequence),
+        None => stop_delay::no_delay(),
     }
 }
 
@@ -114,7 +113,7 @@ pub fn skipped(
     c: Counts,
     delay_rows: &[u32],
     stop_rows: &[u32],
-    adj: Found,
+    adj: Option<usize>,
     trip: usize,
     off: usize,
 ) -> bool
@@ -133,7 +132,7 @@ fn departure_now(
     c: Counts,
     delay_rows: &[u32],
     stop_rows: &[u32],
-    adj: Found,
+    adj: Option<usize>,
     trip: usize,
     off: usize,
 ) -> u32
@@ -154,7 +153,7 @@ pub fn arrival_now(
     c: Counts,
     delay_rows: &[u32],
     stop_rows: &[u32],
-    adj: Found,
+    adj: Option<usize>,
     shift: u32,
     trip: usize,
     off: usize,
@@ -174,7 +173,7 @@ pub fn arrival_now(
 // Boarding
 
 // The earliest run of a frequency trip that leaves a stop time, whose effective departure is dep, not before `after`.
-fn freq_board_at(tables: &[u32], c: Counts, trip: usize, dep: u32, after: u32) -> FreqBoard
+fn freq_board_at(tables: &[u32], c: Counts, trip: usize, dep: u32, after: u32) -> Option<BoardedRun>
     requires sane { Sane tables.now c }
     requires trip_bound { trip < c.trips }
     requires dep_bound { dep ≤ 2097150 }
@@ -188,16 +187,17 @@ fn freq_board_at(tables: &[u32], c: Counts, trip: usize, dep: u32, after: u32) -
 }
 
 // Boarding a trip at an offset, not before `after`.
+#[tactic(auto, unfolding(model::specs::Search::board_at))]
 pub fn board_at(
     tables: &[u32],
     c: Counts,
     delay_rows: &[u32],
     stop_rows: &[u32],
-    adj: Found,
+    adj: Option<usize>,
     trip: usize,
     off: usize,
     after: u32,
-) -> FreqBoard
+) -> Option<BoardedRun>
     requires on_ground { Ground tables.now c delay_rows.now stop_rows.now }
     requires known { Known delay_rows.now adj }
     requires event { Event tables.now c trip off }
@@ -210,10 +210,10 @@ pub fn board_at(
         return freq_board_at(tables, c, trip, dep, after);
     }
     if dep < after {
-        return FreqBoard::Nothing;
+        return None;
     }
     let planned = event_word(tables, c, trip, off, 2);
-    FreqBoard::Board(frequency::board_ordinary(planned, dep, after))
+    Some(frequency::board_ordinary(planned, dep, after))
 }
 
 // Is the trip not usable, without pickup at the offset, or skipping it? Modes are not asked.
@@ -223,7 +223,7 @@ pub fn barred(
     delay_rows: &[u32],
     stop_rows: &[u32],
     terms: Terms,
-    adj: Found,
+    adj: Option<usize>,
     trip: usize,
     off: usize,
 ) -> bool
@@ -233,17 +233,13 @@ pub fn barred(
     ensures { (T : Tables) (Q : Query) → Agree T Q tables.now c delay_rows.now stop_rows.now
         → Asks Q terms → result ≡ ((not (usable T Q trip) || no_pickup T trip off) || skipped T Q (hit_of adj) trip off) }
 {
-    let unfit = door::either(
-        !usable(tables, c, terms, trip),
-        event_word(tables, c, trip, off, 4) == 1,
-    );
-    door::either(
-        unfit,
-        skipped(tables, c, delay_rows, stop_rows, adj, trip, off),
-    )
+    !usable(tables, c, terms, trip)
+        || event_word(tables, c, trip, off, 4) == 1
+        || skipped(tables, c, delay_rows, stop_rows, adj, trip, off)
 }
 
 // The change time before a boarding in round r: none in the first.
+#[tactic(auto, unfolding(model::specs::Tables::change_before))]
 pub fn change_before(r: u32, change: u32) -> u32
     ensures { (Q : Query) → Q.change ≡ change → change_before Q r ≡ result }
 {

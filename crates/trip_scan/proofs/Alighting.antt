@@ -1,7 +1,7 @@
 -- The first loop of scan_trip_forward, turn by turn. Assumes nothing.
 use Prim.Native.Nat.{ℕ, suc, ◌+◌, ◌-◌, ◌≤◌, ◌<◌}
 use mathlib.Core.Path.{◌≡◌, refl, sym, ap, ◌∙◌}
-use mathlib.Core.Bool.{Bool, true, false, cond, ◌||◌}
+use mathlib.Core.Bool.{Bool, true, false, cond, ◌&&◌, ◌||◌}
 use mathlib.Core.List.{List}
 use lib.Dec.{ltb, eqb}
 use Rattle.loops.specs.Iter.{Hit}
@@ -17,9 +17,11 @@ use Rattle.trip_scan.proofs.Turning.{turn, turn_shut, turn_cut, turn_go, turn_en
 pub drop_off_is : (T : Tables) (t : List ℕ) (c : Counts) (i o k : ℕ) → T.timetable ≡ timetable t c → k ≡ time_of t (first_of t c i + o) 5 → eqb k 1 ≡ no_drop_off T i o
 drop_off_is T t c i o k e ek = ap (λ (x : ℕ). eqb x 1) ek ∙ sym (ap (λ (u : Timetable). eqb (time_at u i o).drop_off 1) e)
 
--- a choice, where it is known
-pub shut_by : (s b : Bool) (x y : Bool) → s ≡ b → cond b x y ≡ cond s x y
-shut_by s b x y e = sym (ap (λ (z : Bool). cond z x y) e)
+-- a second test, asked only where s is true
+pub shut_is : (s x y : Bool) → (x || (s && y)) ≡ cond s (x || y) x
+shut_is true x y = refl
+shut_is false true y = refl
+shut_is false false y = refl
 
 -- the stop of a stop time
 pub stop_read : (T : Tables) (t : List ℕ) (c : Counts) (i o f s : ℕ) → T.timetable ≡ timetable t c → f ≡ trip_of t c i 0 → s ≡ time_of t (f + o) 0 → s ≡ stop_at T i o

@@ -3,7 +3,7 @@ use Prim.Native.Nat.{ℕ, suc, ◌+◌, ◌-◌, ◌≤◌, ◌<◌}
 use mathlib.Core.Path.{◌≡◌, refl, sym, ap, ap₂, subst, ◌∙◌}
 use mathlib.Core.Bool.{Bool, true, false, not, cond, ◌||◌}
 use mathlib.Core.List.{List, [], ◌∷◌}
-use mathlib.Core.Option.{Option, none, some}
+use Rattle.std.specs.Prelude.{Option, None, Some}
 use native.Mathlib.Omega.{arith}
 use native.Mathlib.Nat.{le_refl}
 use native.Mathlib.Numerals.{add-one}
@@ -29,8 +29,7 @@ use Rattle.query_types.specs.declared.Lay.{Lay}
 use Rattle.search_state.specs.Places.{EgressTable}
 use Rattle.search_state.specs.View.{Memory, arrivals_of}
 use Rattle.search_state.specs.Step.{QueueStep}
-use Rattle.target_resolving.specs.declared.Resolved.{Resolved}
-use Rattle.target_resolving.specs.declared.Resolved.TheVariants.{Unresolved, Trip}
+use Rattle.target_resolving.specs.declared.BoardedTrip.{BoardedTrip}
 use Rattle.target_resolving.specs.Resolving.{resolved_of}
 use Rattle.trip_scan.specs.Scan.{BoardedAt, boarded}
 use Rattle.trip_scan.proofs.Alighting.{stop_read}
@@ -61,8 +60,8 @@ module _ (T : Tables) (Q : Query) (stamp v x : ℕ) where
   -- one transfer, by whether its pattern holds a target and by what it resolves to
   abbrev took : Bool → Option (ℕ × BoardedRun) → Transfer → Arrivals → Arrivals
   took false r e a = a
-  took true none e a = a
-  took true (some b) e a =
+  took true None e a = a
+  took true (Some b) e a =
       enqueue T Q b.0 e.offset (stop_at T b.0 e.offset) b.1.time_shift_s
       (relax T Q stamp (stop_at T b.0 e.offset) b.1.departure (Walk b.1.departure x (stop_at T b.0 e.offset) e.time no_distance (stamp - 1)) a)
 
@@ -74,11 +73,11 @@ module _ (T : Tables) (Q : Query) (stamp v x : ℕ) where
       go : (h : Bool) (r : Option (ℕ × BoardedRun))
           → elim h as (λ z. Arrivals) [
             | false ↦ take_transfers T Q stamp v x es a
-            | true ↦ elim r as (λ z. Arrivals) [ none ↦ take_transfers T Q stamp v x es a | some b ↦ take_transfers T Q stamp v x es (took true (some b) e a) ]
+            | true ↦ elim r as (λ z. Arrivals) [ None ↦ take_transfers T Q stamp v x es a | Some b ↦ take_transfers T Q stamp v x es (took true (Some b) e a) ]
           ] ≡ take_transfers T Q stamp v x es (took h r e a)
       go false r = refl
-      go true none = refl
-      go true (some b) = refl
+      go true None = refl
+      go true (Some b) = refl
 
   take_end : (a : Arrivals) → take_transfers T Q stamp v x [] a ≡ a
   unfolding take_transfers
@@ -86,8 +85,8 @@ module _ (T : Tables) (Q : Query) (stamp v x : ℕ) where
 
   took_grows : (h : Bool) (r : Option (ℕ × BoardedRun)) (e : Transfer) (a : Arrivals) → length a.seg_queue ≤ length (took h r e a).seg_queue
   took_grows false r e a = le_refl _
-  took_grows true none e a = le_refl _
-  took_grows true (some b) e a =
+  took_grows true None e a = le_refl _
+  took_grows true (Some b) e a =
       let s = stop_at T b.0 e.offset in
       let how = Walk b.1.departure x s e.time no_distance (stamp - 1) in
       omega (arith, enqueue_grows T Q b.0 e.offset s b.1.time_shift_s (relax T Q stamp s b.1.departure how a), ap length (relax_queue T Q stamp s b.1.departure how a))
@@ -111,17 +110,18 @@ module _ (T : Tables) (Q : Query) (stamp v x : ℕ) where
     pub take_skip : (h : Bool) → h ≡ holds_target T Q e.pattern → not h ≡ true → a ≡ take_transfers T Q stamp v x (e ∷ []) a
     take_skip h p n = took_is false (resolve T Q e (v + e.time) a.best) (sym (not-true h n) ∙ p) refl
 
-    pub take_none : (h : Bool) (f : Resolved) → h ≡ holds_target T Q e.pattern → not h ≡ false → f ≡ Unresolved → resolved_of f ≡ resolve T Q e (v + e.time) a.best
+    pub take_none : (h : Bool) (f : Option BoardedTrip) → h ≡ holds_target T Q e.pattern → not h ≡ false → f ≡ None → resolved_of f ≡ resolve T Q e (v + e.time) a.best
         → a ≡ take_transfers T Q stamp v x (e ∷ []) a
-    take_none h f p n i r = took_is true none (sym (not-false h n) ∙ p) (sym (ap resolved_of i) ∙ r)
+    take_none h f p n i r = took_is true None (sym (not-false h n) ∙ p) (sym (ap resolved_of i) ∙ r)
 
-    pub take_some : (h : Bool) (f : Resolved) (trip off : ℕ) (b : BoardedRun) → h ≡ holds_target T Q e.pattern → not h ≡ false → f ≡ Trip trip b
+    pub take_some : (h : Bool) (f : Option BoardedTrip) (off : ℕ) (b : BoardedTrip) → h ≡ holds_target T Q e.pattern → not h ≡ false → f ≡ Some b
         → resolved_of f ≡ resolve T Q e (v + e.time) a.best → off ≡ e.offset
-        → enqueue T Q trip off (stop_at T trip off) b.time_shift_s (relax T Q stamp (stop_at T trip off) b.departure (Walk b.departure x (stop_at T trip off) e.time no_distance (stamp - 1)) a)
+        → enqueue T Q b.trip off (stop_at T b.trip off) b.run.time_shift_s
+        (relax T Q stamp (stop_at T b.trip off) b.run.departure (Walk b.run.departure x (stop_at T b.trip off) e.time no_distance (stamp - 1)) a)
         ≡ take_transfers T Q stamp v x (e ∷ []) a
-    take_some h f trip off b p n i r z =
-        ap (λ (k : ℕ). enqueue T Q trip k (stop_at T trip k) b.time_shift_s (relax T Q stamp (stop_at T trip k) b.departure (Walk b.departure x (stop_at T trip k) e.time no_distance (stamp - 1)) a)) z
-        ∙ took_is true (some (trip, b)) (sym (not-false h n) ∙ p) (sym (ap resolved_of i) ∙ r)
+    take_some h f off b p n i r z =
+        ap (λ (k : ℕ). enqueue T Q b.trip k (stop_at T b.trip k) b.run.time_shift_s (relax T Q stamp (stop_at T b.trip k) b.run.departure (Walk b.run.departure x (stop_at T b.trip k) e.time no_distance (stamp - 1)) a)) z
+        ∙ took_is true (Some (b.trip, b.run)) (sym (not-false h n) ∙ p) (sym (ap resolved_of i) ∙ r)
 
   -- the transfers of a run from its j-th on
   abbrev pub take_from : List ℕ → ℕ → ℕ → ℕ → Arrivals → Arrivals
@@ -149,16 +149,16 @@ module _ (T : Tables) (Q : Query) (stamp v x : ℕ) where
   from_start area first n a = let e : n - 0 ≡ n = omega arith in ap (λ (m : ℕ). take_transfers T Q stamp v x (tab_from (λ k. transfer_at area (first + k)) 0 m) a) e
 
 -- what a transfer resolves to is in the table, and early
-pub boards_in : (T : Tables) (Q : Query) (D : Door T Q) (t : List ℕ) (c : Counts) → T.timetable ≡ timetable t c → (e : Transfer) (after best trip off : ℕ) (b : BoardedRun) (f : Resolved)
-    → f ≡ Trip trip b → resolved_of f ≡ resolve T Q e after best → off ≡ e.offset → BoardedAt t c trip off b.departure
-boards_in T Q D t c u e after best trip off b f i r z = rw z (of (subst (Found T Q e.offset after) (sym r ∙ ap resolved_of i) (resolve_finds T Q e after best)))
+pub boards_in : (T : Tables) (Q : Query) (D : Door T Q) (t : List ℕ) (c : Counts) → T.timetable ≡ timetable t c → (e : Transfer) (after best off : ℕ) (b : BoardedTrip) (f : Option BoardedTrip)
+    → f ≡ Some b → resolved_of f ≡ resolve T Q e after best → off ≡ e.offset → BoardedAt t c b.trip off b.run.departure
+boards_in T Q D t c u e after best off b f i r z = rw z (of (subst (Found T Q e.offset after) (sym r ∙ ap resolved_of i) (resolve_finds T Q e after best)))
   where
-    of : Found T Q e.offset after (some (trip, b)) → BoardedAt t c trip e.offset b.departure
+    of : Found T Q e.offset after (Some (b.trip, b.run)) → BoardedAt t c b.trip e.offset b.run.departure
     of (found g z) =
         record {
           trip_in = omega (arith, g.trip, ap (λ (z : Timetable). z.trips) u);
-          offset_in = omega (arith, g.inside, ap (λ (z : Timetable). (z.trip trip).count) u);
-          early = omega (arith, (boards_soon T Q D trip e.offset g.trip g.inside g.after b g.boards).departs);
+          offset_in = omega (arith, g.inside, ap (λ (z : Timetable). (z.trip b.trip).count) u);
+          early = omega (arith, (boards_soon T Q D b.trip e.offset g.trip g.inside g.after b.run g.boards).departs);
         }
 
 -- a boarding taken, its stop and windows read from the table

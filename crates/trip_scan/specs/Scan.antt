@@ -1,10 +1,9 @@
 -- What the scan of a trip reads, and which tables and queries agree with it. Definitions only.
 -- Inner: nobody has to believe this.
-use Rattle.std.specs.Prelude.{ℕ, ◌+◌, ◌-◌, ◌*◌, ◌/◌, ◌<◌, ◌≤◌, ◌≡◌, false, List, length, get_or}
+use Rattle.std.specs.Prelude.{ℕ, ◌+◌, ◌-◌, ◌*◌, ◌/◌, ◌<◌, ◌≤◌, ◌≡◌, false, List, length, get_or, Option}
 use Rattle.door.specs.Door.{time_limit}
 use Rattle.stop_delay.specs.Times.{size_of}
 use Rattle.tables.specs.declared.Counts.{Counts}
-use Rattle.delay_rows.specs.declared.Found.{Found}
 use Rattle.frequency.specs.declared.BoardedRun.{BoardedRun}
 use Rattle.label.specs.declared.Label.TheVariants.{Walk}
 use Rattle.label.specs.Label.{no_distance}
@@ -28,7 +27,7 @@ use Rattle.query_types.specs.Slices.{Slices}
 use Rattle.query_types.specs.declared.Context.{Context}
 
 -- a ride whose trip is in the table, with a small shift; its trip's delay row is adj
-pub record Riding (t : List ℕ) (c : Counts) (rows stop_rows : List ℕ) (adj : Found) (lay : Lay) (ride : Ride) : Type 0 where
+pub record Riding (t : List ℕ) (c : Counts) (rows stop_rows : List ℕ) (adj : Option ℕ) (lay : Lay) (ride : Ride) : Type 0 where
   pub ground : Ground t c rows stop_rows
   pub known : Known rows adj
   pub stops : c.stops ≡ lay.stops

@@ -19,12 +19,10 @@ ghost use Rattle.event_transfers.specs.Transfers.{transfer_at, transfers_at};
 ghost use Rattle.search_state.specs.Places.{EgressTable};
 ghost use Rattle.query_types.specs.Slices.{slices};
 
-use delay_rows::Found;
 use departures::StopRun;
 use frequency::BoardedRun;
 use query_types::{Head, Scan, Seg};
 use tables::Counts;
-use target_resolving::Resolved;
 
 // Is drop-off 1 at a trip's stop time?
 fn no_drop_off(
@@ -50,7 +48,7 @@ fn shut(
     c: Counts,
     delay_rows: &[u32],
     stop_rows: &[u32],
-    adj: Found,
+    adj: Option<usize>,
     tested: bool,
     trip: usize,
     off: usize,
@@ -61,14 +59,8 @@ fn shut(
     ensures { (T : Tables) (Q : Query) → Agree T Q tables.now c delay_rows.now stop_rows.now
         → result ≡ cond tested (no_drop_off T trip off || skips T Q (hit_of adj) trip off) (no_drop_off T trip off) }
 {
-    let barred = no_drop_off(tables, c, delay_rows, stop_rows, trip, off);
-    if !tested {
-        return barred;
-    }
-    door::either(
-        barred,
-        trip_boarding::skipped(tables, c, delay_rows, stop_rows, adj, trip, off),
-    )
+    no_drop_off(tables, c, delay_rows, stop_rows, trip, off)
+        || tested && trip_boarding::skipped(tables, c, delay_rows, stop_rows, adj, trip, off)
 }
 
 // Alighting at the trip's stop times from offset `p` on, until one is not before the best total.
@@ -97,8 +89,7 @@ fn alightings(
     let adj = s.adj;
     let n = tables::trip(tables, s.context.counts.timetable, trip, 1);
     let mut x = h;
-    let mut o = p;
-    while o < n {
+    for o in p..n {
         if shut(
             tables,
             s.context.counts.timetable,
@@ -109,7 +100,6 @@ fn alightings(
             trip,
             o,
         ) {
-            o += 1;
             continue;
         }
         let v = trip_boarding::arrival_now(
@@ -137,7 +127,6 @@ fn alightings(
             label_distances,
             x,
         );
-        o += 1;
     }
     x
 }
@@ -232,13 +221,13 @@ fn take_transfer(
         patterns,
         s.context.net.patterns,
         target,
-        words::field(transfers, at + 3),
+        transfers[at + 3] as usize,
     ) {
         return h;
     }
     let time = transfers[at + 2];
-    let off = words::field(transfers, at + 1);
-    let found = target_resolving::resolve(
+    let off = transfers[at + 1] as usize;
+    let Some(found) = target_resolving::resolve(
         tables,
         s.context.counts.timetable,
         delay_rows,
@@ -251,8 +240,7 @@ fn take_transfer(
         off,
         v + time,
         h.best,
-    );
-    let Resolved::Trip(trip, b) = found else {
+    ) else {
         return h;
     };
     take_boarding(
@@ -261,8 +249,8 @@ fn take_transfer(
         from,
         off,
         time,
-        trip,
-        b,
+        found.trip,
+        found.run,
         work,
         labels,
         label_distances,
@@ -303,8 +291,7 @@ fn take_transfers(
         (memory work.new labels.new label_distances.new result) queue.old queue.new }
 {
     let mut x = h;
-    let mut j: usize = 0;
-    while j < run.length {
+    for j in 0..run.length {
         let k = run.first + j;
         x = take_transfer(
             tables,
@@ -326,7 +313,6 @@ fn take_transfers(
         if x.full {
             return x;
         }
-        j += 1;
     }
     x
 }
@@ -364,9 +350,9 @@ fn take_event(
     let trip = s.ride.trip as usize;
     let i = tables::trip(tables, s.context.counts.timetable, trip, 0);
     let from = tables::time(tables, s.context.counts.timetable, i + off, 0) as u32;
-    let at = s.context.net.runs + (words::field(work, s.context.net.events + trip) + off) * 2;
-    let first = words::field(built, at);
-    let length = words::field(built, at + 1);
+    let at = s.context.net.runs + (work[s.context.net.events + trip] as usize + off) * 2;
+    let first = built[at] as usize;
+    let length = built[at + 1] as usize;
     let run = StopRun { first, length };
     take_transfers(
         tables,
@@ -419,8 +405,7 @@ fn transferring(
     let adj = s.adj;
     let n = tables::trip(tables, s.context.counts.timetable, trip, 1);
     let mut x = h;
-    let mut o = p;
-    while o < n {
+    for o in p..n {
         if shut(
             tables,
             s.context.counts.timetable,
@@ -431,7 +416,6 @@ fn transferring(
             trip,
             o,
         ) {
-            o += 1;
             continue;
         }
         let v = trip_boarding::arrival_now(
@@ -466,7 +450,6 @@ fn transferring(
         if x.full {
             return x;
         }
-        o += 1;
     }
     x
 }

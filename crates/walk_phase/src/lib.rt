@@ -31,11 +31,7 @@ fn skips(ctx: Context, patterns: &[u8], p: usize) -> bool
     ensures { (T : Tables) (Q : Query) → Patterned T patterns.now ctx.net.patterns
         → ctx.net.target ≡ target_words T Q → result ≡ (ctx.flagged && not (holds_target T Q p)) }
 {
-    if !ctx.flagged {
-        return false;
-    }
-    let targets = ctx.net.target;
-    !arc_flags::holds_target(patterns, ctx.net.patterns, targets, p)
+    ctx.flagged && !arc_flags::holds_target(patterns, ctx.net.patterns, ctx.net.target, p)
 }
 
 // The first walk edge whose from-stop is not below x, by halving; the number of edges where there is none.
@@ -50,9 +46,9 @@ fn first_edge(tables: &[u32], c: Counts, x: usize) -> usize
         let mid = lo + (hi - lo) / 2;
         if tables::edge(tables, c, mid, 0) < x {
             lo = mid + 1;
-            continue;
+        } else {
+            hi = mid;
         }
-        hi = mid;
     }
     lo
 }
@@ -135,9 +131,8 @@ fn walk_from(
     ensures falls { Falls lay work.old work.new }
 {
     let c = ctx.counts.timetable;
-    let mut e = first_edge(tables, c, x);
     let mut g = h;
-    while e < c.edges {
+    for e in first_edge(tables, c, x)..c.edges {
         if tables::edge(tables, c, e, 0) != x {
             return g;
         }
@@ -156,7 +151,6 @@ fn walk_from(
             label_distances,
             g,
         );
-        e += 1;
     }
     g
 }
@@ -185,10 +179,8 @@ fn walk_all(
     ensures falls { Falls lay work.old work.new }
 {
     let mut g = h;
-    let mut i: usize = 0;
-    while i < n {
-        let at = lay.other + i;
-        let x = work[at] as usize;
+    for i in 0..n {
+        let x = work[lay.other + i] as usize;
         let v = work[x];
         g = walk_from(
             lay,
@@ -204,7 +196,6 @@ fn walk_all(
             label_distances,
             g,
         );
-        i += 1;
     }
     g
 }
@@ -234,12 +225,9 @@ fn append_stamped(lay: Lay, stamp: u32, n: usize, work: &mut [u32], count: usize
         (bearing lay stamp work.old (part work.old lay.other n)) }
 {
     let mut k = count;
-    let mut i: usize = 0;
-    while i < n {
-        let at = lay.other + i;
-        let s = work[at] as usize;
+    for i in 0..n {
+        let s = work[lay.other + i] as usize;
         k = append_one(lay, stamp, s, work, k);
-        i += 1;
     }
     k
 }
@@ -266,19 +254,12 @@ pub fn walk_phase(
         (memory work.new labels.new label_distances.new result) }
 {
     let back = Lay {
-        stops: ctx.lay.stops,
-        trips: ctx.lay.trips,
-        lines: ctx.lay.lines,
         list: ctx.lay.other,
         other: ctx.lay.list,
+        ..ctx.lay
     };
     let n = h.count;
-    let g = Head {
-        best: h.best,
-        count: 0,
-        queued: h.queued,
-        full: h.full,
-    };
+    let g = Head { count: 0, ..h };
     let x = walk_all(
         back,
         ctx,
@@ -296,10 +277,5 @@ pub fn walk_phase(
         return x;
     }
     let count = append_stamped(back, stamp, n, work, x.count);
-    Head {
-        best: x.best,
-        count,
-        queued: x.queued,
-        full: x.full,
-    }
+    Head { count, ..x }
 }

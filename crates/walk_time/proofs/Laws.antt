@@ -2,21 +2,12 @@
 use Prim.Native.Nat.{ℕ, ◌+◌, ◌*◌, ◌≤◌, min, max}
 use mathlib.Core.Path.{◌≡◌, refl, sym, ◌∙◌}
 use mathlib.Core.Bool.{Bool, true, false, cond, ◌&&◌}
-use native.Mathlib.Nat.{min-eq_left, min-eq_right}
+use native.Mathlib.Nat.{min-eq_left}
 use native.Mathlib.Omega.{arith}
 use lib.Dec.{leb}
 use borrow.Author.Tests.{leb-true, leb-false}
 use Rattle.door.specs.Door.{time_limit}
 use Rattle.walk_time.specs.Walk.{stairs_or_escalator, effective_duration, round_count}
-
--- the two cases of an effective duration
-pub duration_hard : (d m : ℕ) (w : Bool) → w && stairs_or_escalator m ≡ true → effective_duration d m w ≡ d * 100
-unfolding effective_duration
-duration_hard d m w e = rw e
-
-pub duration_plain : (d m : ℕ) (w : Bool) → w && stairs_or_escalator m ≡ false → effective_duration d m w ≡ d
-unfolding effective_duration
-duration_plain d m w e = rw e
 
 -- an effective duration is never below the duration
 pub duration_least : (d m : ℕ) (w : Bool) → d ≤ effective_duration d m w
@@ -63,18 +54,3 @@ rounds_saturated w t = go (leb (t + 2) 4294967295) refl
     go false e =
         let l = leb-false (t + 2) 4294967295 e in
         full w (t + 2) (omega arith) ∙ sym (full w (min (t + 2) 4294967295) (omega arith))
-
--- the wanted rounds count up to 12, the transfers up to 10
-pub rounds_capped : (w t : ℕ) → max (max (min w 12) (min t 10 + 2)) 4 ≡ round_count w t
-unfolding round_count
-rounds_capped w t = go (leb w 12) refl
-  where
-    low : w ≤ 12 → max (max w (min t 10 + 2)) 4 ≡ min 12 (max w (max (t + 2) 4))
-    low h = omega arith
-
-    high : 12 ≤ w → max (max 12 (min t 10 + 2)) 4 ≡ min 12 (max w (max (t + 2) 4))
-    high h = omega arith
-
-    go : (b : Bool) → leb w 12 ≡ b → max (max (min w 12) (min t 10 + 2)) 4 ≡ min 12 (max w (max (t + 2) 4))
-    go true e = let q = min-eq_left (leb-true w 12 e) in rw q (low (leb-true w 12 e))
-    go false e = let l : 12 ≤ w = omega (arith, leb-false w 12 e) in let q = min-eq_right l in rw q (high l)

@@ -21,28 +21,26 @@ const ESCALATOR: u32 = 4;
 fn stairs_or_escalator(pathway_mode: u32) -> bool
     ensures { result ≡ stairs_or_escalator pathway_mode }
 {
-    if pathway_mode == STAIRS {
-        return true;
-    }
-    pathway_mode == ESCALATOR
+    pathway_mode == STAIRS || pathway_mode == ESCALATOR
 }
 
 // Effective walk duration: stairs and escalators count 100 times in a wheelchair query.
+#[tactic(auto, unfolding(crate::specs::Walk::effective_duration))]
 pub fn effective_duration_s(duration: u32, pathway_mode: u32, wheelchair: bool) -> u32
     requires { duration ≤ time_limit }
     ensures { result ≡ effective_duration duration pathway_mode wheelchair }
 {
-    if door::both(wheelchair, stairs_or_escalator(pathway_mode)) {
-        return duration * 100;
+    if wheelchair && stairs_or_escalator(pathway_mode) {
+        duration * 100
+    } else {
+        duration
     }
-    duration
 }
 
 // The round count of a query, for any wanted rounds and transfers. Ten transfers already ask for all 12 rounds.
+#[tactic(auto, unfolding(crate::specs::Walk::round_count))]
 pub fn tbr_max_rounds(wanted: u32, transfers: u32) -> u32
     ensures { result ≡ round_count wanted transfers }
 {
-    let rounds = words::smaller_word(wanted, 12);
-    let changes = words::smaller_word(transfers, 10) + 2;
-    words::larger_word(words::larger_word(rounds, changes), 4)
+    wanted.min(12).max(transfers.min(10) + 2).max(4)
 }

@@ -1,54 +1,48 @@
 // A query put to the compiled call, and its answer printed.
+use crate::building::{Built, STOPS};
 use crate::legs::{Caller, arrival, joined, label_at, legs};
-use crate::telling::{at, part, refused, say, tell, wide};
+use crate::telling::{Fault, Refused, Time, admitted, told, value};
 use door::Settings;
 use query_reply::Reply;
 use sizes::QuerySizes;
 use std::io;
 
 // The total of "no way".
-const NEVER: u32 = 4294967295;
+const NEVER: u32 = u32::MAX;
 
-// The last leg: from the candidate's stop, reached at its label's arrival, on foot.
-fn egress(rt: &impl Print, total: u32, stop: u32, reached: u32) -> io::Result<()> {
-    if total < reached {
-        return Ok(());
-    }
-    tell(rt, b"walk # s from stop #\n", &[total - reached, stop])
+// The best journey of a reply: its total, its stop, and how many candidates there are; none where there is no way.
+fn best_of(reply: Reply) -> Result<Option<Reply>, Refused> {
+    admitted(reply.code)?;
+    Ok((reply.total != NEVER).then_some(reply))
 }
 
-// The total, and the legs where they join.
+// The total, and the legs where they join; the last leg is from the candidate's stop, reached at its label's arrival, on foot.
 fn candidate(
     rt: &impl Print,
     tally: &mut [u32; 128],
     by: Caller,
-    k: u32,
     tables: &[u32],
     query: &[u32],
-    candidates: &[u32],
+    [total, stop, row]: [u32; 3],
     labels: &[u32],
     distances: &[f64],
 ) -> io::Result<()> {
-    let i = wide(k) * 3;
-    let total = at(candidates, i);
-    let stop = at(candidates, i + 1);
-    let row = at(candidates, i + 2);
-    tell(
-        rt,
-        b"  candidate of row #, at stop #, @:\n    ",
-        &[row, stop, total],
-    )?;
-    if joined(tally, by, tables, query, labels, distances, stop, row) {
-        legs(
-            rt, tally, by, 27, tables, query, labels, distances, stop, row,
-        )?;
-        let found = label_at(tally, by, stop, row, labels, distances);
-        let l = found.label;
-        return egress(rt, total, stop, arrival(l));
+    let time = Time(total);
+    print!(rt; "  candidate of row {row}, at stop {stop}, {time}:\n    ")?;
+    if !joined(tally, by, tables, query, labels, distances, stop, row) {
+        return println!(rt; "no card");
     }
-    say(rt, b"no card\n")
+    legs(
+        rt, tally, by, 27, tables, query, labels, distances, stop, row,
+    )?;
+    let found = label_at(tally, by, stop, row, labels, distances);
+    match total.checked_sub(arrival(found.label)) {
+        Some(seconds) => println!(rt; "walk {seconds} s from stop {stop}"),
+        None => Ok(()),
+    }
 }
 
+// The best total and its stop, and each candidate; or that there is no way.
 fn show(
     rt: &impl Print,
     tally: &mut [u32; 128],
@@ -56,23 +50,18 @@ fn show(
     reply: Reply,
     tables: &[u32],
     query: &[u32],
-    candidates: &[u32],
+    candidates: &[[u32; 3]],
     labels: &[u32],
     distances: &[f64],
-) -> io::Result<()> {
-    if reply.code != 0 {
-        return refused(rt, reply.code);
-    }
-    if reply.total == NEVER {
-        return say(rt, b"  no way\n");
-    }
-    tell(rt, b"  best @ at stop #\n", &[reply.total, reply.stop])?;
-    let mut k: u32 = 0;
-    while k < reply.candidates {
-        candidate(
-            rt, tally, by, k, tables, query, candidates, labels, distances,
-        )?;
-        k += 1;
+) -> Result<(), Fault> {
+    let Some(best) = best_of(reply)? else {
+        println!(rt; "  no way")?;
+        return Ok(());
+    };
+    let (total, stop) = (Time(best.total), best.stop);
+    println!(rt; "  best {total} at stop {stop}")?;
+    for &row in candidates.iter().take(best.candidates as usize) {
+        candidate(rt, tally, by, tables, query, row, labels, distances)?;
     }
     Ok(())
 }
@@ -82,114 +71,72 @@ fn replied(
     tally: &mut [u32; 128],
     by: Caller,
     tables: &[u32],
-    built: &[u32],
-    area: &[u32],
+    built: &Built,
     distances: &[f64],
     query: &[u32],
     labels: &mut [u32],
     label_distances: &mut [f64],
     work: &mut [u32],
-    candidates: &mut [u32],
+    candidates: &mut [[u32; 3]],
 ) -> Reply {
-    let mut queue_a = [0u32; 256];
-    let mut queue_b = [0u32; 256];
     exports::savoiky_query(
         tally,
         by.screen,
         by.settings,
         by.sizes,
         tables,
-        built,
-        area,
+        built.words(),
+        &built.transfers.area,
         b"",
         distances,
         query,
         labels,
         label_distances,
         work,
-        &mut queue_a,
-        &mut queue_b,
-        candidates,
+        &mut [0; 256],
+        &mut [0; 256],
+        candidates.as_flattened_mut(),
     )
 }
 
-// Asks with these labels and this workspace, and prints.
-fn ask_in(
+// Asks and prints. There is room for the labels of STOPS stops and for 384 numbers of workspace.
+fn asked(
     rt: &impl Print,
     tally: &mut [u32; 128],
     by: Caller,
     tables: &[u32],
-    built: &[u32],
-    area: &[u32],
+    built: &Built,
     distances: &[f64],
     query: &[u32],
-    labels: &mut [u32],
-    label_distances: &mut [f64],
-    work: &mut [u32],
-) -> io::Result<()> {
-    let mut candidates = [0u32; 39];
+) -> Result<(), Fault> {
+    let stops = (by.sizes.stops as usize).min(STOPS);
+    let labels = &mut [0; STOPS * 104][..stops * 104];
+    let metres = &mut [0.0; STOPS * 13][..stops * 13];
+    let size = exports::savoiky_work_size(tally, by.screen, by.settings, by.sizes);
+    let work = &mut [0; 384][..(value(size)? as usize).min(384)];
+    let mut rows = [[0; 3]; 13];
     let reply = replied(
-        tally,
-        by,
-        tables,
-        built,
-        area,
-        distances,
-        query,
-        labels,
-        label_distances,
-        work,
-        &mut candidates,
+        tally, by, tables, built, distances, query, labels, metres, work, &mut rows,
     );
-    show(
-        rt,
-        tally,
-        by,
-        reply,
-        tables,
-        query,
-        &candidates,
-        labels,
-        label_distances,
-    )
+    show(rt, tally, by, reply, tables, query, &rows, labels, metres)
 }
 
-// Asks and prints. Room for 12 stops and 384 numbers of workspace.
+// Asks, and prints the answer or the refusal.
 pub fn ask(
     rt: &impl Print,
     tally: &mut [u32; 128],
     screen: u32,
     settings: Settings,
-    s: QuerySizes,
+    sizes: QuerySizes,
     tables: &[u32],
-    built: &[u32],
-    area: &[u32],
+    built: &Built,
     distances: &[f64],
     query: &[u32],
 ) -> io::Result<()> {
-    let mut labels = [0u32; 1248];
-    let mut label_distances = [0.0f64; 156];
-    let mut work = [0u32; 384];
-    let words = part(wide(s.stops) * 104, 1248);
-    let records = part(wide(s.stops) * 13, 156);
     let by = Caller {
-        screen: screen,
-        settings: settings,
-        sizes: s,
+        screen,
+        settings,
+        sizes,
     };
-    let size = exports::savoiky_work_size(tally, screen, settings, s);
-    let n = part(wide(size.value), 384);
-    ask_in(
-        rt,
-        tally,
-        by,
-        tables,
-        built,
-        area,
-        distances,
-        query,
-        &mut labels[..words],
-        &mut label_distances[..records],
-        &mut work[..n],
-    )
+    told(rt, asked(rt, tally, by, tables, built, distances, query))
 }

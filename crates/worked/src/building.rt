@@ -1,69 +1,93 @@
 // A timetable built by the exported calls, and what they made of it.
-ghost use Rattle.std.specs.Prelude.{◌<◌};
-
-use crate::telling::{at, part, put, refused, say, say_number, tell, wide};
-use door::{Answer, Settings};
+use crate::telling::{Fault, Refused, admitted, row, value};
+use door::Settings;
 use sizes::QuerySizes;
 use std::io;
 
-// What was built: the question that refused it, or 0; the counts, of lines, entries and transfers too; how many words of
-// `built` it takes.
+// The counts of nothing: a timetable names those that are not 0.
+pub const NONE: QuerySizes = QuerySizes {
+    trips: 0,
+    windows: 0,
+    times: 0,
+    edges: 0,
+    stops: 0,
+    cells: 0,
+    patterns: 0,
+    lines: 0,
+    entries: 0,
+    transfers: 0,
+    departures: 0,
+    delays: 0,
+    stop_rows: 0,
+    origins: 0,
+    egress: 0,
+};
+
+// There is room for so many stops, trips and as many lines, stop times and departures, and for 64 transfers. A timetable with more is refused by
+// the call that is lent too little: by question 2, or by 7 for the transfers.
+pub const STOPS: usize = 12;
+
+const TRIPS: usize = 12;
+
+const TIMES: usize = 48;
+
+const DEPARTURES: usize = 48;
+
+// What is built but for the transfers: each trip's line, the lines' runs and entries, the stops' runs, the departures, the marks, the stop events'
+// runs.
+const WORDS: usize = TRIPS * 4 + STOPS * 3 + DEPARTURES * 2 + TIMES * 2;
+
+// The lines: how many, each trip's line, each line's run of entries, and the entries, which are the lines' trips in order.
 #[derive(Clone, Copy)]
-pub struct Made {
-    pub code: u32,
+pub struct Lines {
+    pub count: u32,
+    pub of_trips: [u32; TRIPS],
+    pub runs: [u32; TRIPS * 2],
+    pub entries: [u32; TRIPS],
+}
+
+// The transfers: how many, the area that holds them, and each stop event's run of them.
+#[derive(Clone, Copy)]
+pub struct Transfers {
+    pub count: u32,
+    pub area: [u32; 256],
+    pub runs: [u32; TIMES * 2],
+}
+
+// What was built of a timetable: the counts, of lines, entries and transfers too; all but the transfers once more, one table after
+// the other.
+#[derive(Clone, Copy)]
+pub struct Built {
     pub sizes: QuerySizes,
-    pub length: usize,
+    pub lines: Lines,
+    pub transfers: Transfers,
+    words: [u32; WORDS],
 }
 
-fn refusal(code: u32, s: QuerySizes) -> Made {
-    Made {
-        code: code,
-        sizes: s,
-        length: 0,
+impl Built {
+    // All but the transfers, as a query is lent it.
+    pub fn words(&self) -> &[u32] {
+        let s = self.sizes;
+        let lines = s.trips as usize * 2 + s.lines as usize * 2;
+        let departures = s.stops as usize * 3 + s.departures as usize * 2;
+        let events = s.times as usize * 2;
+        &self.words[..(lines + departures + events).min(WORDS)]
     }
 }
 
-// Each trip's line, the lines' runs and their entries stand first in `built`.
-fn put_lines(
-    grouped: Answer,
-    s: QuerySizes,
-    lines: &[u32],
-    runs: &[u32],
-    entries: &[u32],
-    built: &mut [u32],
-) -> Made {
-    if grouped.code != 0 {
-        return refusal(grouped.code, s);
-    }
-    let mut n = s;
-    n.lines = grouped.value;
-    n.entries = s.trips;
-    let pairs = part(wide(grouped.value) * 2, runs.len());
-    let a = put(lines, 0, built);
-    let b = put(&runs[..pairs], a, built);
-    let c = put(entries, b, built);
-    Made {
-        code: 0,
-        sizes: n,
-        length: c,
-    }
-}
-
-fn group_in(
+// The lines of the timetable's trips.
+fn group(
     tally: &mut [u32; 128],
     screen: u32,
     settings: Settings,
     s: QuerySizes,
     tables: &[u32],
-    lines: &mut [u32],
-    runs: &mut [u32],
-    entries: &mut [u32],
-    built: &mut [u32],
-) -> Made {
-    let mut work = [0u64; 12];
-    let mut other = [0u64; 12];
-    let n = part(wide(s.trips), 12);
-    let a = exports::savoiky_compute_line_groups(
+) -> Result<Lines, Refused> {
+    let trips = (s.trips as usize).min(TRIPS);
+    let mut of_trips = [0; TRIPS];
+    let mut runs = [0; TRIPS * 2];
+    let mut entries = [0; TRIPS];
+    let count = value(exports::savoiky_compute_line_groups(
         tally,
         screen,
         settings,
@@ -73,79 +97,34 @@ fn group_in(
         s.windows,
         s.edges,
         tables,
-        lines,
+        &mut of_trips[..trips],
+        &mut runs[..trips * 2],
+        &mut entries[..trips],
+        &mut [0; TRIPS][..trips],
+        &mut [0; TRIPS][..trips],
+    ))?;
+    Ok(Lines {
+        count,
+        of_trips,
         runs,
         entries,
-        &mut work[..n],
-        &mut other[..n],
-    );
-    put_lines(a, s, lines, runs, entries, built)
+    })
 }
 
-fn group(
+// Sorts the listed departures in place, and answers the stops' marks.
+fn sort(
     tally: &mut [u32; 128],
     screen: u32,
     settings: Settings,
     s: QuerySizes,
     tables: &[u32],
-    built: &mut [u32],
-) -> Made {
-    let mut lines = [0u32; 12];
-    let mut runs = [0u32; 24];
-    let mut entries = [0u32; 12];
-    let trips = part(wide(s.trips), 12);
-    let pairs = part(wide(s.trips) * 2, 24);
-    group_in(
-        tally,
-        screen,
-        settings,
-        s,
-        tables,
-        &mut lines[..trips],
-        &mut runs[..pairs],
-        &mut entries[..trips],
-        built,
-    )
-}
-
-// The stops' runs, the sorted departures and the marks stand next.
-fn put_sorted(
-    code: u32,
-    m: Made,
-    stop_runs: &[u32],
-    rows: &[u32],
-    marks: &[u32],
-    built: &mut [u32],
-) -> Made {
-    let s = m.sizes;
-    if code != 0 {
-        return refusal(code, s);
-    }
-    let a = put(stop_runs, m.length, built);
-    let b = put(rows, a, built);
-    Made {
-        code: 0,
-        sizes: s,
-        length: put(marks, b, built),
-    }
-}
-
-fn sort_in(
-    tally: &mut [u32; 128],
-    screen: u32,
-    settings: Settings,
-    m: Made,
-    tables: &[u32],
     stop_runs: &[u32],
     rows: &mut [u32],
-    marks: &mut [u32],
-    built: &mut [u32],
-) -> Made {
-    let mut work = [0u64; 48];
-    let mut other = [0u64; 48];
-    let s = m.sizes;
-    let n = part(wide(s.departures), 48);
-    let code = exports::savoiky_sort_stop_departures(
+) -> Result<[u32; STOPS], Refused> {
+    let stops = (s.stops as usize).min(STOPS);
+    let departures = (s.departures as usize).min(DEPARTURES);
+    let mut marks = [0; STOPS];
+    admitted(exports::savoiky_sort_stop_departures(
         tally,
         screen,
         settings,
@@ -158,72 +137,29 @@ fn sort_in(
         tables,
         stop_runs,
         rows,
-        marks,
-        &mut work[..n],
-        &mut other[..n],
-    );
-    put_sorted(code, m, stop_runs, rows, marks, built)
-}
-
-fn sort(
-    tally: &mut [u32; 128],
-    screen: u32,
-    settings: Settings,
-    m: Made,
-    tables: &[u32],
-    stop_runs: &[u32],
-    rows: &mut [u32],
-    built: &mut [u32],
-) -> Made {
-    let mut marks = [0u32; 12];
-    if m.code != 0 {
-        return m;
-    }
-    let s = m.sizes;
-    let stops = part(wide(s.stops), 12);
-    sort_in(
-        tally,
-        screen,
-        settings,
-        m,
-        tables,
-        stop_runs,
-        rows,
         &mut marks[..stops],
-        built,
-    )
+        &mut [0; DEPARTURES][..departures],
+        &mut [0; DEPARTURES][..departures],
+    ))?;
+    Ok(marks)
 }
 
-// The transfer runs stand last; the transfers stand in the area.
-fn put_transfers(a: Answer, m: Made, transfer_runs: &[u32], built: &mut [u32]) -> Made {
-    let mut s = m.sizes;
-    if a.code != 0 {
-        return refusal(a.code, s);
-    }
-    s.transfers = a.value;
-    let n = put(transfer_runs, m.length, built);
-    Made {
-        code: 0,
-        sizes: s,
-        length: n,
-    }
-}
-
-fn link_in(
+// The transfers. Each stop time belongs to one trip, so that there are as many stop events.
+fn link(
     tally: &mut [u32; 128],
     screen: u32,
     settings: Settings,
-    m: Made,
+    s: QuerySizes,
     tables: &[u32],
+    lines: Lines,
     stop_runs: &[u32],
     rows: &[u32],
-    area: &mut [u32],
-    transfer_runs: &mut [u32],
-    built: &mut [u32],
-) -> Made {
-    let s = m.sizes;
-    let trips = part(wide(s.trips), built.len());
-    let a = exports::savoiky_compute_trip_transfers(
+) -> Result<Transfers, Refused> {
+    let trips = (s.trips as usize).min(TRIPS);
+    let events = (s.times as usize).min(TIMES);
+    let mut area = [0; 256];
+    let mut runs = [0; TIMES * 2];
+    let count = value(exports::savoiky_compute_trip_transfers(
         tally,
         screen,
         settings,
@@ -235,125 +171,108 @@ fn link_in(
         s.lines,
         s.departures,
         tables,
-        &built[..trips],
+        &lines.of_trips[..trips],
         stop_runs,
         rows,
-        area,
-        transfer_runs,
-    );
-    put_transfers(a, m, transfer_runs, built)
+        &mut area,
+        &mut runs[..events * 2],
+    ))?;
+    Ok(Transfers { count, area, runs })
 }
 
-fn link(
-    tally: &mut [u32; 128],
-    screen: u32,
-    settings: Settings,
-    m: Made,
-    tables: &[u32],
+// Each piece at the end of what stands before it.
+fn joined<const N: usize>(pieces: &[&[u32]]) -> [u32; N] {
+    let mut words = [0; N];
+    let all = pieces.iter().flat_map(|piece| piece.iter());
+    for (to, word) in words.iter_mut().zip(all) {
+        *to = *word;
+    }
+    words
+}
+
+// What was built but for the transfers, one table after the other.
+fn words_of(
+    s: QuerySizes,
+    lines: Lines,
     stop_runs: &[u32],
     rows: &[u32],
-    area: &mut [u32],
-    built: &mut [u32],
-) -> Made {
-    let mut transfer_runs = [0u32; 96];
-    if m.code != 0 {
-        return m;
-    }
-    let s = m.sizes;
-    let events = part(wide(s.times) * 2, 96);
-    link_in(
-        tally,
-        screen,
-        settings,
-        m,
-        tables,
+    marks: [u32; STOPS],
+    transfers: Transfers,
+) -> [u32; WORDS] {
+    let trips = (s.trips as usize).min(TRIPS);
+    let count = (s.lines as usize).min(TRIPS);
+    let stops = (s.stops as usize).min(STOPS);
+    let events = (s.times as usize).min(TIMES);
+    joined(&[
+        &lines.of_trips[..trips],
+        &lines.runs[..count * 2],
+        &lines.entries[..trips],
         stop_runs,
         rows,
-        area,
-        &mut transfer_runs[..events],
-        built,
-    )
+        &marks[..stops],
+        &transfers.runs[..events * 2],
+    ])
 }
 
-// Builds a timetable: the departures that the caller lists (`rows`, by the stops' runs) are sorted in place. Each stop time
-// belongs to one trip, so that there are as many stop events. Room for 12 stops, 12 trips, 48 stop times, 48 departures.
+// Builds a timetable: the departures that the caller lists (`rows`, by the stops' runs) are sorted in place.
 pub fn build(
     tally: &mut [u32; 128],
     screen: u32,
     settings: Settings,
-    s: QuerySizes,
+    sizes: QuerySizes,
     tables: &[u32],
     stop_runs: &[u32],
     rows: &mut [u32],
-    area: &mut [u32],
-    built: &mut [u32],
-) -> Made {
-    let grouped = group(tally, screen, settings, s, tables, built);
-    let sorted = sort(
-        tally, screen, settings, grouped, tables, stop_runs, rows, built,
-    );
-    link(
-        tally, screen, settings, sorted, tables, stop_runs, rows, area, built,
-    )
+) -> Result<Built, Refused> {
+    let mut s = sizes;
+    let lines = group(tally, screen, settings, s, tables)?;
+    s.lines = lines.count;
+    s.entries = s.trips;
+    let marks = sort(tally, screen, settings, s, tables, stop_runs, rows)?;
+    let transfers = link(tally, screen, settings, s, tables, lines, stop_runs, rows)?;
+    s.transfers = transfers.count;
+    let words = words_of(s, lines, stop_runs, rows, marks, transfers);
+    Ok(Built {
+        sizes: s,
+        lines,
+        transfers,
+        words,
+    })
 }
 
-fn line_trips(rt: &impl Print, first: u32, count: u32, entries: &[u32]) -> io::Result<()> {
-    let mut k: u32 = 0;
-    while k < count {
-        say_number(rt, b" ", at(entries, wide(first) + wide(k)))?;
-        k += 1;
-    }
-    Ok(())
-}
-
-fn line(rt: &impl Print, l: u32, runs: &[u32], entries: &[u32], fifo: &[u32]) -> io::Result<()> {
-    let i = wide(l);
-    tell(rt, b"  line #: trips", &[l])?;
-    line_trips(rt, at(runs, i * 2), at(runs, i * 2 + 1), entries)?;
-    if at(fifo, i) == 1 {
-        return say(rt, b", FIFO\n");
-    }
-    say(rt, b", not FIFO\n")
-}
-
-fn all_lines(
-    rt: &impl Print,
-    count: u32,
-    runs: &[u32],
-    entries: &[u32],
-    fifo: &[u32],
-) -> io::Result<()> {
-    let mut l: u32 = 0;
-    while l < count {
-        line(rt, l, runs, entries, fifo)?;
-        l += 1;
-    }
-    Ok(())
-}
-
-fn lay_out(
-    rt: &impl Print,
+// The lines' FIFO flags.
+fn fifo(
     tally: &mut [u32; 128],
     screen: u32,
     settings: Settings,
     s: QuerySizes,
     tables: &[u32],
-    runs: &[u32],
-    entries: &[u32],
-    positions: &mut [u32],
-    fifo: &mut [u32],
-) -> io::Result<()> {
-    let code = exports::savoiky_line_layout(
-        tally, screen, settings, s.stops, s.trips, s.times, s.windows, s.edges, s.lines, s.entries,
-        tables, runs, entries, positions, fifo,
-    );
-    if code != 0 {
-        return refused(rt, code);
-    }
-    all_lines(rt, s.lines, runs, entries, fifo)
+    lines: &Lines,
+) -> Result<[u32; TRIPS], Refused> {
+    let trips = (s.trips as usize).min(TRIPS);
+    let count = (s.lines as usize).min(TRIPS);
+    let mut flags = [0; TRIPS];
+    admitted(exports::savoiky_line_layout(
+        tally,
+        screen,
+        settings,
+        s.stops,
+        s.trips,
+        s.times,
+        s.windows,
+        s.edges,
+        s.lines,
+        s.entries,
+        tables,
+        &lines.runs[..count * 2],
+        &lines.entries[..trips],
+        &mut [0; TRIPS][..trips],
+        &mut flags[..count],
+    ))?;
+    Ok(flags)
 }
 
-// The lines, their trips in order, their FIFO flags.
+// The lines, their trips in order, whether they are FIFO.
 pub fn show_lines(
     rt: &impl Print,
     tally: &mut [u32; 128],
@@ -361,68 +280,35 @@ pub fn show_lines(
     settings: Settings,
     s: QuerySizes,
     tables: &[u32],
-    built: &[u32],
-) -> io::Result<()> {
-    let mut positions = [0u32; 12];
-    let mut fifo = [0u32; 12];
-    let trips = part(wide(s.trips), 12);
-    let lines = part(wide(s.lines), 12);
-    let a = trips + lines * 2;
-    let e = a + trips;
-    if built.len() < e {
-        return Ok(());
+    lines: &Lines,
+) -> Result<(), Fault> {
+    let flags = fifo(tally, screen, settings, s, tables, lines)?;
+    for (line, flag) in flags.iter().take(s.lines as usize).enumerate() {
+        print!(rt; "  line {line}: trips")?;
+        let [first, count] = row::<2>(&lines.runs, line);
+        for trip in lines
+            .entries
+            .iter()
+            .skip(first as usize)
+            .take(count as usize)
+        {
+            print!(rt; " {trip}")?;
+        }
+        let not = if *flag == 1 { "" } else { "not " };
+        println!(rt; ", {not}FIFO")?;
     }
-    lay_out(
-        rt,
-        tally,
-        screen,
-        settings,
-        s,
-        tables,
-        &built[trips..a],
-        &built[a..e],
-        &mut positions[..trips],
-        &mut fifo[..lines],
-    )
-}
-
-// Where the transfer runs begin in `built`.
-fn transfer_runs_at(s: QuerySizes) -> usize
-    ensures { result < 68719476736 }
-{
-    let lines = wide(s.trips) + wide(s.lines) * 2 + wide(s.entries);
-    lines + wide(s.stops) * 3 + wide(s.departures) * 2
-}
-
-fn transfer(rt: &impl Print, area: &[u32], row: usize) -> io::Result<()>
-    requires { row < 8589934592 }
-{
-    let i = row * 4;
-    tell(
-        rt,
-        b"    to trip # at its offset #\n",
-        &[at(area, i), at(area, i + 1)],
-    )
+    Ok(())
 }
 
 // The transfers of a stop event.
-pub fn show_transfers(
-    rt: &impl Print,
-    s: QuerySizes,
-    event: u32,
-    area: &[u32],
-    built: &[u32],
-) -> io::Result<()> {
-    let i = transfer_runs_at(s) + wide(event) * 2;
-    let first = at(built, i);
-    let count = at(built, i + 1);
+pub fn show_transfers(rt: &impl Print, transfers: &Transfers, event: usize) -> io::Result<()> {
+    let [first, count] = row::<2>(&transfers.runs, event);
     if count == 0 {
-        return say(rt, b"    none\n");
+        return println!(rt; "    none");
     }
-    let mut k: u32 = 0;
-    while k < count {
-        transfer(rt, area, wide(first) + wide(k))?;
-        k += 1;
+    let (area, _) = transfers.area.as_chunks::<4>();
+    for [trip, offset, _, _] in area.iter().skip(first as usize).take(count as usize) {
+        println!(rt; "    to trip {trip} at its offset {offset}")?;
     }
     Ok(())
 }

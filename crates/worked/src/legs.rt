@@ -1,9 +1,7 @@
 // The legs of an answer: the labels followed back from a stop and a row to an access label, and whether they join.
-ghost use Rattle.std.specs.Prelude.{◌<◌};
-
-use crate::telling::{at, part, tell, wide};
+use crate::telling::{Time, row};
 use door::Settings;
-use label::LabelRow;
+use label::Label;
 use sizes::QuerySizes;
 use std::io;
 
@@ -11,7 +9,7 @@ use std::io;
 #[derive(Clone, Copy)]
 pub struct RowLabel {
     pub row: u32,
-    pub label: LabelRow,
+    pub label: Label,
 }
 
 // Who asks: the screen, the settings of the house, the counts of what is asked on.
@@ -30,19 +28,20 @@ fn load(
     labels: &[u32],
     distances: &[f64],
 ) -> RowLabel {
-    let stops = by.sizes.stops;
-    let a = exports::savoiky_label_load(
+    let loaded = exports::savoiky_label_load(
         tally,
         by.screen,
         by.settings,
-        stops,
+        by.sizes.stops,
         stop,
         row,
         labels,
         distances,
     );
-    let l = a.row;
-    RowLabel { row: row, label: l }
+    RowLabel {
+        row,
+        label: Label::from(loaded.row),
+    }
 }
 
 // The label of a stop in this row, or in the next lower row that has one.
@@ -54,42 +53,44 @@ pub fn label_at(
     labels: &[u32],
     distances: &[f64],
 ) -> RowLabel {
-    let mut r = row;
-    while 0 < r {
-        let found = load(tally, by, stop, r, labels, distances);
-        let l = found.label;
-        if l.kind != 0 {
+    for lower in (1..=row).rev() {
+        let found = load(tally, by, stop, lower, labels, distances);
+        if !matches!(found.label, Label::Empty) {
             return found;
         }
-        r -= 1;
     }
     load(tally, by, stop, 0, labels, distances)
 }
 
 // When a label's stop is reached.
-pub fn arrival(l: LabelRow) -> u32 {
-    if l.kind == 1 {
-        return l.word2;
+pub fn arrival(label: Label) -> u32 {
+    match label {
+        Label::Empty => 0,
+        Label::Access { arrival_s, .. } => arrival_s,
+        Label::Transit { arrival_s, .. } => arrival_s,
+        Label::Walk { arrival_s, .. } => arrival_s,
     }
-    l.word1
 }
 
-// The effective departure of a trip's stop time, under the delays at the end of the query.
+// A query's delay rows and its stop rows, which stand after its numbers, its origins and its egress stops.
+fn delay_tables(s: QuerySizes, query: &[u32]) -> (&[u32], &[u32]) {
+    let start = 7 + 2 * (s.origins as usize + s.egress as usize);
+    let (_, tables) = query.split_at(start.min(query.len()));
+    let delays = 2 * s.delays as usize;
+    tables.split_at(delays.min(tables.len()))
+}
+
+// When a trip leaves a stop by its delays: `sequence` and `scheduled` are those of its stop time there.
 fn effective(
     tally: &mut [u32; 128],
     by: Caller,
-    tables: &[u32],
     query: &[u32],
     trip: u32,
-    time: usize,
-) -> u32
-    requires { time < 68719476736 }
-{
+    sequence: u32,
+    scheduled: u32,
+) -> u32 {
     let s = by.sizes;
-    let rows = 7 + wide(s.origins) * 2 + wide(s.egress) * 2;
-    let b = part(rows + wide(s.delays) * 2, query.len());
-    let a = part(rows, b);
-    let sequence = at(tables, time + 3);
+    let (delays, stop_rows) = delay_tables(s, query);
     let d = exports::savoiky_delay_at(
         tally,
         by.screen,
@@ -97,13 +98,12 @@ fn effective(
         s.trips,
         s.delays,
         s.stop_rows,
-        &query[a..b],
-        &query[b..],
+        delays,
+        stop_rows,
         trip,
         sequence,
     );
-    let scheduled = at(tables, time + 2);
-    let e = exports::savoiky_effective_departure(
+    let departs = exports::savoiky_effective_departure(
         tally,
         by.screen,
         by.settings,
@@ -112,7 +112,7 @@ fn effective(
         d.flags,
         d.departure_delay,
     );
-    e.value
+    departs.value
 }
 
 // When a ride leaves: at the effective departure where it was boarded; a frequency trip's run by its shift later.
@@ -121,24 +121,27 @@ fn departure(
     by: Caller,
     tables: &[u32],
     query: &[u32],
-    l: LabelRow,
+    trip: u32,
+    offset: u32,
+    shift: u32,
 ) -> u32 {
-    let times = by.sizes.times;
-    let trip = wide(times) * 6 + wide(l.word2) * 8;
-    let time = (wide(at(tables, trip)) + wide(l.word4)) * 6;
-    let leaves = effective(tally, by, tables, query, l.word2, time);
-    if at(tables, trip + 5) == 0 {
-        return leaves;
+    let (_, trips) = tables.split_at(tables.len().min(6 * by.sizes.times as usize));
+    let [first, _, _, _, _, windows, _, _] = row::<8>(trips, trip as usize);
+    let [_, _, scheduled, sequence, _, _] = row::<6>(tables, first as usize + offset as usize);
+    let leaves = effective(tally, by, query, trip, sequence, scheduled);
+    if windows == 0 {
+        leaves
+    } else {
+        leaves.wrapping_add(shift)
     }
-    std::num::wrapping_add_u32(leaves, l.word7)
 }
 
 // The change time before a ride: none in round 0, which writes row 1.
 fn change(query: &[u32], row: u32) -> u32 {
-    if row < 2 {
-        return 0;
+    match query {
+        [_, change, ..] if 2 <= row => *change,
+        _ => 0,
     }
-    at(query, 1)
 }
 
 // Does a ride or a walk begin no sooner than its stop is reached? A walk begins its duration before it arrives, a ride the
@@ -151,21 +154,36 @@ fn joins(
     reached: u32,
     found: RowLabel,
 ) -> bool {
-    let l = found.label;
-    let from = wide(reached);
-    if l.kind == 3 {
-        return from + wide(l.word4) <= wide(l.word1);
+    let from = u64::from(reached);
+    match found.label {
+        Label::Empty => true,
+        Label::Access { .. } => true,
+        Label::Transit {
+            arrival_s,
+            trip_idx,
+            board_off,
+            time_shift_s,
+            ..
+        } => {
+            let leaves = departure(tally, by, tables, query, trip_idx, board_off, time_shift_s);
+            from + u64::from(change(query, found.row)) <= u64::from(leaves) && leaves <= arrival_s
+        }
+        Label::Walk {
+            arrival_s,
+            duration_s,
+            ..
+        } => from + u64::from(duration_s) <= u64::from(arrival_s),
     }
-    let leaves = departure(tally, by, tables, query, l);
-    from + wide(change(query, found.row)) <= wide(leaves) && leaves <= l.word1
 }
 
-// The stop that a ride or a walk came from.
-fn stop_before(l: LabelRow) -> u32 {
-    if l.kind == 2 {
-        return l.word3;
+// The stop that a ride or a walk came from; none for an access walk, or where there is no label.
+fn stop_before(label: Label) -> Option<u32> {
+    match label {
+        Label::Empty => None,
+        Label::Access { .. } => None,
+        Label::Transit { board_stop, .. } => Some(board_stop),
+        Label::Walk { from_stop, .. } => Some(from_stop),
     }
-    l.word2
 }
 
 // Do the legs to a stop in a row join, at most 26 after an access walk?
@@ -180,61 +198,57 @@ pub fn joined(
     row: u32,
 ) -> bool {
     let mut found = label_at(tally, by, stop, row, labels, distances);
-    let mut k: u32 = 0;
-    while k < 26 {
-        let l = found.label;
-        if l.kind < 2 {
-            return l.kind == 1;
-        }
-        let before = label_at(tally, by, stop_before(l), found.row, labels, distances);
-        let reached = before.label;
-        if joins(tally, by, tables, query, arrival(reached), found) == false {
+    for _ in 0..26 {
+        let Some(from) = stop_before(found.label) else {
+            break;
+        };
+        let before = label_at(tally, by, from, found.row, labels, distances);
+        if !joins(tally, by, tables, query, arrival(before.label), found) {
             return false;
         }
         found = before;
-        k += 1;
     }
-    let first = found.label;
-    first.kind == 1
+    matches!(found.label, Label::Access { .. })
 }
 
-fn access(rt: &impl Print, l: LabelRow) -> io::Result<()> {
-    tell(rt, b"walk # s to stop #; ", &[l.word3, l.word1])
-}
-
-fn ride(
-    rt: &impl Print,
-    tally: &mut [u32; 128],
-    by: Caller,
-    tables: &[u32],
-    query: &[u32],
-    l: LabelRow,
-    stop: u32,
-) -> io::Result<()> {
-    let leaving = departure(tally, by, tables, query, l);
-    let n = [l.word2, l.word3, leaving, stop, l.word1];
-    tell(rt, b"trip # from stop # at @ to stop #, arriving @; ", &n)
-}
-
-fn walk(rt: &impl Print, l: LabelRow) -> io::Result<()> {
-    let n = [l.word4, l.word2, l.word3];
-    tell(rt, b"walk # s from stop # to stop #; ", &n)
-}
-
-// One leg: a ride or a walk.
+// One leg, to a stop: an access walk, a ride or a walk.
 fn leg(
     rt: &impl Print,
     tally: &mut [u32; 128],
     by: Caller,
     tables: &[u32],
     query: &[u32],
-    l: LabelRow,
+    label: Label,
     stop: u32,
 ) -> io::Result<()> {
-    if l.kind == 2 {
-        return ride(rt, tally, by, tables, query, l, stop);
+    match label {
+        Label::Empty => Ok(()),
+        Label::Access {
+            stop_idx,
+            walk_duration,
+            ..
+        } => print!(rt; "walk {walk_duration} s to stop {stop_idx}; "),
+        Label::Transit {
+            arrival_s,
+            trip_idx,
+            board_stop,
+            board_off,
+            time_shift_s,
+            ..
+        } => {
+            let leaves = departure(tally, by, tables, query, trip_idx, board_off, time_shift_s);
+            let (leaving, arriving) = (Time(leaves), Time(arrival_s));
+            print!(rt;
+                "trip {trip_idx} from stop {board_stop} at {leaving} to stop {stop}, arriving {arriving}; "
+            )
+        }
+        Label::Walk {
+            from_stop,
+            to_stop,
+            duration_s,
+            ..
+        } => print!(rt; "walk {duration_s} s from stop {from_stop} to stop {to_stop}; "),
     }
-    walk(rt, l)
 }
 
 // The legs to a stop in a row, at most so many: those to the stop that the label there came from, then this one. A label leads
@@ -254,22 +268,20 @@ pub fn legs(
     if most == 0 {
         return Ok(());
     }
-    let found = label_at(tally, by, stop, row, labels, distances);
-    let l = found.label;
-    if l.kind < 2 {
-        return access(rt, l);
+    let RowLabel { row, label } = label_at(tally, by, stop, row, labels, distances);
+    if let Some(from) = stop_before(label) {
+        legs(
+            rt,
+            tally,
+            by,
+            most - 1,
+            tables,
+            query,
+            labels,
+            distances,
+            from,
+            row,
+        )?;
     }
-    legs(
-        rt,
-        tally,
-        by,
-        most - 1,
-        tables,
-        query,
-        labels,
-        distances,
-        stop_before(l),
-        found.row,
-    )?;
-    leg(rt, tally, by, tables, query, l, stop)
+    leg(rt, tally, by, tables, query, label, stop)
 }

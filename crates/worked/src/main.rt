@@ -15,19 +15,19 @@ mod second;
 mod telling;
 mod town;
 
-use crate::telling::{at, number, refused, say, say_number, signed_number, tell, wide};
-use door::Settings;
+use crate::telling::{Fault, Refused, admitted, told, value};
+use cell_bitset::CellBitSet;
+use cell_set_call::CellSetAnswer;
+use door::{Answer, Settings};
 use frequency_call::FreqAnswer;
-use std::io;
+use std::{fmt, io};
 
 // A value, or the question that refused it.
-fn answer(rt: &impl Print, a: door::Answer) -> io::Result<()> {
-    if a.code != 0 {
-        say_number(rt, b"refused by question ", a.code)?;
-    } else {
-        number(rt, a.value)?;
+fn answer(rt: &impl Print, answer: Answer) -> io::Result<()> {
+    match value(answer) {
+        Ok(n) => println!(rt; "{n}"),
+        Err(refused) => println!(rt; "{refused}"),
     }
-    say(rt, b"\n")
 }
 
 fn rounds(
@@ -37,82 +37,88 @@ fn rounds(
     settings: Settings,
     wanted: u32,
     transfers: u32,
-) -> io::Result<()> {
-    let a = exports::savoiky_max_rounds(tally, screen, settings, wanted, transfers);
-    if a.code != 0 {
-        return refused(rt, a.code);
-    }
-    tell(
-        rt,
-        b"  wanted #, transfers #: # rounds\n",
-        &[wanted, transfers, a.value],
-    )
+) -> Result<(), Fault> {
+    let rounds = value(exports::savoiky_max_rounds(tally, screen, settings, wanted, transfers))?;
+    println!(rt; "  wanted {wanted}, transfers {transfers}: {rounds} rounds")?;
+    Ok(())
 }
 
-// Whole minutes, a begun one counted.
-fn minutes(seconds: u32) -> u32 {
-    let whole = seconds / 60;
-    if seconds % 60 == 0 {
-        return whole;
-    }
-    whole + 1
+// How a boarding of a frequency trip waits: its answer, and the headway of its window.
+#[derive(Clone, Copy)]
+struct Waiting {
+    at: FreqAnswer,
+    headway: u32,
 }
 
-// Every so often, so long to wait: the headway in minutes where it is whole minutes, else in seconds; the wait in minutes.
-fn waiting(rt: &impl Print, headway: u32, wait: u32) -> io::Result<()> {
-    if headway % 60 != 0 {
-        return tell(
-            rt,
-            b"every # seconds, # min to wait",
-            &[headway, minutes(wait)],
-        );
+// Every so often, so long to wait: the headway in minutes where it is whole minutes, else in seconds; the wait in minutes, a begun
+// one counted. Then where the run stands; need, where it is above zero, by the headway.
+impl fmt::Display for Waiting {
+    fn fmt<W: fmt::Write>(&self, f: &mut fmt::Formatter<W>) -> fmt::Result {
+        let FreqAnswer {
+            window,
+            run,
+            quotient,
+            remainder,
+            wait,
+            ..
+        } = self.at;
+        let headway = self.headway;
+        let minutes = wait.div_ceil(60);
+        if headway % 60 == 0 {
+            let every = headway / 60;
+            write!(
+                f,
+                "every {every} minutes, {minutes} to wait (window {window}, run {run}, "
+            )?;
+        } else {
+            write!(
+                f,
+                "every {headway} seconds, {minutes} min to wait (window {window}, run {run}, "
+            )?;
+        }
+        if quotient != 0 || remainder != 0 {
+            write!(f, "need {quotient} * {headway} + {remainder}, ")?;
+        }
+        write!(f, "wait {wait})")
     }
-    tell(
-        rt,
-        b"every # minutes, # to wait",
-        &[headway / 60, minutes(wait)],
-    )
 }
 
-// Where the run stands; need, where it is above zero, by the headway.
-fn place(rt: &impl Print, a: FreqAnswer, headway: u32) -> io::Result<()> {
-    if a.quotient == 0 && a.remainder == 0 {
-        return tell(
-            rt,
-            b" (window #, run #, wait #)\n",
-            &[a.window, a.run, a.wait],
-        );
-    }
-    tell(
-        rt,
-        b" (window #, run #, need # * # + #, wait #)\n",
-        &[a.window, a.run, a.quotient, headway, a.remainder, a.wait],
-    )
+// The boarding of an answer, where there is one.
+fn found(answer: FreqAnswer) -> Result<Option<FreqAnswer>, Refused> {
+    admitted(answer.code)?;
+    Ok((answer.found != 0).then_some(answer))
 }
 
-// A boarding with its waiting (document 02, T-02), of a template from 600, boarding at 660.
+// A boarding with its waiting (document 02, T-02), of a template from 600, boarding at 660. A window is its start, end and headway.
 fn boarding(
     rt: &impl Print,
     tally: &mut [u32; 128],
     screen: u32,
     settings: Settings,
     count: u32,
-    windows: &[u32],
+    windows: &[[u32; 3]],
     wanted: u32,
-) -> io::Result<()> {
-    let a = exports::savoiky_freq_board(tally, screen, settings, count, windows, 600, 660, wanted);
-    if a.code != 0 {
-        return refused(rt, a.code);
-    }
-    if a.found == 0 {
-        return tell(rt, b"  wanted #: none\n", &[wanted]);
-    }
-    tell(rt, b"  wanted #: departs #, shift ", &[wanted, a.departure])?;
-    signed_number(rt, a.time_shift_s)?;
-    say(rt, b"; ")?;
-    let headway = at(windows, 3 * wide(a.window) + 2);
-    waiting(rt, headway, a.wait)?;
-    place(rt, a, headway)
+) -> Result<(), Fault> {
+    let Some(at) = found(exports::savoiky_freq_board(
+        tally,
+        screen,
+        settings,
+        count,
+        windows.as_flattened(),
+        600,
+        660,
+        wanted,
+    ))?
+    else {
+        println!(rt; "  wanted {wanted}: none")?;
+        return Ok(());
+    };
+    let departure = at.departure;
+    let shift = at.time_shift_s.cast_signed();
+    let [_, _, headway] = windows.get(at.window as usize).copied().unwrap_or([0; 3]);
+    let waiting = Waiting { at, headway };
+    println!(rt; "  wanted {wanted}: departs {departure}, shift {shift}; {waiting}")?;
+    Ok(())
 }
 
 fn walk(
@@ -120,16 +126,22 @@ fn walk(
     tally: &mut [u32; 128],
     screen: u32,
     settings: Settings,
-    name: &[u8],
+    name: &str,
     duration: u32,
     mode: u32,
     wheelchair: u32,
 ) -> io::Result<()> {
-    say(rt, name)?;
+    print!(rt; "  {name}: ")?;
     answer(
         rt,
         exports::savoiky_walk_duration(tally, screen, settings, duration, mode, wheelchair),
     )
+}
+
+// The set that a call hands back.
+fn set(answer: CellSetAnswer) -> Result<CellBitSet, Refused> {
+    admitted(answer.code)?;
+    Ok(answer.set)
 }
 
 fn cell(
@@ -137,17 +149,13 @@ fn cell(
     tally: &mut [u32; 128],
     screen: u32,
     settings: Settings,
-    number_of: u32,
-) -> io::Result<()> {
-    let made = exports::savoiky_cell_bitset_new(tally, screen, settings, 65);
-    let with = exports::savoiky_cell_bitset_set_bit(tally, screen, settings, made.set, number_of);
-    let held = exports::savoiky_cell_bitset_get_bit(tally, screen, settings, with.set, number_of);
-    say_number(rt, b"  cell ", number_of)?;
-    if held.value == 1 {
-        say(rt, b" is kept\n")?;
-    } else {
-        say(rt, b" is dropped\n")?;
-    }
+    cell: u32,
+) -> Result<(), Fault> {
+    let made = set(exports::savoiky_cell_bitset_new(tally, screen, settings, 65))?;
+    let with = set(exports::savoiky_cell_bitset_set_bit(tally, screen, settings, made, cell))?;
+    let held = value(exports::savoiky_cell_bitset_get_bit(tally, screen, settings, with, cell))?;
+    let fate = if held == 1 { "kept" } else { "dropped" };
+    println!(rt; "  cell {cell} is {fate}")?;
     Ok(())
 }
 
@@ -156,12 +164,11 @@ fn clock(
     tally: &mut [u32; 128],
     screen: u32,
     settings: Settings,
-    name: &[u8],
     hour: u32,
     minute: u32,
     second: u32,
 ) -> io::Result<()> {
-    say(rt, name)?;
+    print!(rt; "  {hour}:{minute:02}:{second:02} is ")?;
     answer(
         rt,
         exports::savoiky_service_second(tally, screen, settings, hour, minute, second),
@@ -174,10 +181,11 @@ fn query_rounds(
     screen: u32,
     settings: Settings,
 ) -> io::Result<()> {
-    say(rt, b"Rounds of a query\n")?;
-    rounds(rt, tally, screen, settings, 0, 0)?;
-    rounds(rt, tally, screen, settings, 0, 3)?;
-    rounds(rt, tally, screen, settings, 20, 0)
+    println!(rt; "Rounds of a query")?;
+    for (wanted, transfers) in [(0, 0), (0, 3), (20, 0)] {
+        told(rt, rounds(rt, tally, screen, settings, wanted, transfers))?;
+    }
+    Ok(())
 }
 
 fn boardings(
@@ -186,25 +194,23 @@ fn boardings(
     screen: u32,
     settings: Settings,
 ) -> io::Result<()> {
-    let one = [600u32, 1200, 300];
-    let long = [600u32, 7200, 600];
-    let two = [600u32, 1200, 300, 1200, 1800, 90];
-    say(
-        rt,
-        b"Frequency boarding: window 600 to 1200 every 300, template from 600, boarding at 660\n",
+    println!(rt;
+        "Frequency boarding: window 600 to 1200 every 300, template from 600, boarding at 660"
     )?;
-    boarding(rt, tally, screen, settings, 1, &one, 660)?;
-    boarding(rt, tally, screen, settings, 1, &one, 661)?;
-    boarding(rt, tally, screen, settings, 1, &one, 400)?;
-    boarding(rt, tally, screen, settings, 1, &one, 960)?;
-    boarding(rt, tally, screen, settings, 1, &one, 961)?;
-    say(rt, b"The same, window 600 to 7200 every 600\n")?;
-    boarding(rt, tally, screen, settings, 1, &long, 1020)?;
-    say(
+    for wanted in [660, 661, 400, 960, 961] {
+        told(
+            rt,
+            boarding(rt, tally, screen, settings, 1, &[[600, 1200, 300]], wanted),
+        )?;
+    }
+    println!(rt; "The same, window 600 to 7200 every 600")?;
+    told(
         rt,
-        b"The same, windows 600 to 1200 every 300 and 1200 to 1800 every 90\n",
+        boarding(rt, tally, screen, settings, 1, &[[600, 7200, 600]], 1020),
     )?;
-    boarding(rt, tally, screen, settings, 2, &two, 1300)
+    println!(rt; "The same, windows 600 to 1200 every 300 and 1200 to 1800 every 90")?;
+    let two = [[600, 1200, 300], [1200, 1800, 90]];
+    told(rt, boarding(rt, tally, screen, settings, 2, &two, 1300))
 }
 
 fn arrival(
@@ -213,11 +219,10 @@ fn arrival(
     screen: u32,
     settings: Settings,
 ) -> io::Result<()> {
-    say(
-        rt,
-        b"Arrival 200, shift 50, trip delay 10, only a departure delay of 40 given at the stop\n",
+    println!(rt;
+        "Arrival 200, shift 50, trip delay 10, only a departure delay of 40 given at the stop"
     )?;
-    say(rt, b"  arrives at ")?;
+    print!(rt; "  arrives at ")?;
     answer(
         rt,
         exports::savoiky_effective_arrival(tally, screen, settings, 200, 50, 10, 1, 0),
@@ -230,19 +235,11 @@ fn walks(
     screen: u32,
     settings: Settings,
 ) -> io::Result<()> {
-    say(rt, b"Walks of 30 seconds in a wheelchair query\n")?;
-    walk(rt, tally, screen, settings, b"  stairs: ", 30, 2, 1)?;
-    walk(
-        rt,
-        tally,
-        screen,
-        settings,
-        b"  moving sidewalk: ",
-        30,
-        3,
-        1,
-    )?;
-    walk(rt, tally, screen, settings, b"  pathway mode 8: ", 30, 8, 1)
+    println!(rt; "Walks of 30 seconds in a wheelchair query")?;
+    for (name, mode) in [("stairs", 2), ("moving sidewalk", 3), ("pathway mode 8", 8)] {
+        walk(rt, tally, screen, settings, name, 30, mode, 1)?;
+    }
+    Ok(())
 }
 
 fn cells(
@@ -251,9 +248,11 @@ fn cells(
     screen: u32,
     settings: Settings,
 ) -> io::Result<()> {
-    say(rt, b"A set of 65 cells\n")?;
-    cell(rt, tally, screen, settings, 127)?;
-    cell(rt, tally, screen, settings, 128)
+    println!(rt; "A set of 65 cells")?;
+    for number in [127, 128] {
+        told(rt, cell(rt, tally, screen, settings, number))?;
+    }
+    Ok(())
 }
 
 fn clocks(
@@ -262,9 +261,9 @@ fn clocks(
     screen: u32,
     settings: Settings,
 ) -> io::Result<()> {
-    say(rt, b"Service seconds of clock readings\n")?;
-    clock(rt, tally, screen, settings, b"  25:10:00 is ", 25, 10, 0)?;
-    clock(rt, tally, screen, settings, b"  48:00:00 is ", 48, 0, 0)
+    println!(rt; "Service seconds of clock readings")?;
+    clock(rt, tally, screen, settings, 25, 10, 0)?;
+    clock(rt, tally, screen, settings, 48, 0, 0)
 }
 
 fn leaves(
@@ -273,7 +272,7 @@ fn leaves(
     screen: u32,
     settings: Settings,
 ) -> io::Result<()> {
-    say(rt, b"Timetable K: worked examples of the leaves\n\n")?;
+    println!(rt; "Timetable K: worked examples of the leaves\n")?;
     query_rounds(rt, tally, screen, settings)?;
     boardings(rt, tally, screen, settings)?;
     arrival(rt, tally, screen, settings)?;
@@ -285,15 +284,15 @@ fn leaves(
 // The calls of the leaves and of Timetable K are for screen 0, those of the second timetable for screen 1, those of the larger one for screen 2; the
 // last one is for a number that is no screen.
 fn main(rt: HostRuntime) -> io::Result<()> {
-    let settings = door::default_settings();
+    let settings = Settings::default();
     let mut tally = [0u32; 128];
     leaves(&rt, &mut tally, 0, settings)?;
-    k::run(&rt, &mut tally, 0, settings)?;
-    second::run(&rt, &mut tally, 1, settings)?;
-    town::run(&rt, &mut tally, 2, settings)?;
+    told(&rt, k::run(&rt, &mut tally, 0, settings))?;
+    told(&rt, second::run(&rt, &mut tally, 1, settings))?;
+    told(&rt, town::run(&rt, &mut tally, 2, settings))?;
     k::houses(&rt, &mut tally, 0, settings)?;
     let before = screens::show_tally(&rt, &tally)?;
-    say(&rt, b"A call for screen 64\n")?;
-    rounds(&rt, &mut tally, 64, settings, 0, 0)?;
+    println!(rt; "A call for screen 64")?;
+    told(&rt, rounds(&rt, &mut tally, 64, settings, 0, 0))?;
     screens::show_since(&rt, &tally, before)
 }

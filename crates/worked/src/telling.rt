@@ -1,118 +1,80 @@
-// Text, numbers and times on standard output; words of a slice; how long a part of a slice may be.
-ghost use Rattle.std.specs.Prelude.{◌+◌, ◌<◌, ◌≤◌, IfOk, length};
+// What the calls answer, as results: refusals, and what else ends a demonstration early; times and refusals as text.
+ghost use Rattle.std.specs.Prelude.{◌<◌};
 
-use std::io;
+use door::Answer;
+use std::{fmt, io};
 
-pub fn say(rt: &impl Print, text: &[u8]) -> io::Result<()> {
-    rt.write_all(text)
-}
+// A call was refused, by the question of this number.
+#[derive(Clone, Copy, Debug, PartialEq, Eq)]
+pub struct Refused(pub u32);
 
-pub fn number(rt: &impl Print, n: u32) -> io::Result<()> {
-    print!(rt; "{n}")
-}
-
-// A text and a number after it.
-pub fn say_number(rt: &impl Print, text: &[u8], n: u32) -> io::Result<()> {
-    say(rt, text)?;
-    number(rt, n)
-}
-
-// A number that may be below zero: an i32's bits.
-pub fn signed_number(rt: &impl Print, bits: u32) -> io::Result<()> {
-    if bits < 2147483648 {
-        return number(rt, bits);
+impl fmt::Display for Refused {
+    fn fmt<W: fmt::Write>(&self, f: &mut fmt::Formatter<W>) -> fmt::Result {
+        let Refused(question) = *self;
+        write!(f, "refused by question {question}")
     }
-    say_number(rt, b"-", 4294967295 - bits + 1)
 }
 
-fn two_digits(rt: &impl Print, n: u32) -> io::Result<()> {
-    if n < 10 {
-        return say_number(rt, b":0", n);
+// Why a demonstration ends early: a call was refused, or the system took no output.
+#[derive(Debug, Drop)]
+pub enum Fault {
+    Refused(Refused),
+    System(io::Error),
+}
+
+impl From<Refused> for Fault {
+    fn from(refused: Refused) -> Fault {
+        Fault::Refused(refused)
     }
-    say_number(rt, b":", n)
 }
 
-// A service second with its clock reading.
-fn time(rt: &impl Print, n: u32) -> io::Result<()> {
-    number(rt, n)?;
-    say_number(rt, b" s (", n / 3600)?;
-    two_digits(rt, n / 60 % 60)?;
-    two_digits(rt, n % 60)?;
-    say(rt, b")")
+impl From<io::Error> for Fault {
+    fn from(error: io::Error) -> Fault {
+        Fault::System(error)
+    }
 }
 
-// Byte i of a text, or word k for it: '#' is a number, '@' a time. Which word is next.
-fn tell_byte(rt: &impl Print, text: &[u8], i: usize, n: &[u32], k: usize) -> io::Result<usize>
-    requires i_bound { i < length text.now }
-    requires k_bound { k ≤ i }
-    ensures { IfOk result (λ next. next ≤ i + 1) }
+// What the code of a call says: 0 is success.
+pub fn admitted(code: u32) -> Result<(), Refused> {
+    match code {
+        0 => Ok(()),
+        question => Err(Refused(question)),
+    }
+}
+
+// The number that a call answers.
+pub fn value(answer: Answer) -> Result<u32, Refused> {
+    admitted(answer.code)?;
+    Ok(answer.value)
+}
+
+// A refusal is told, and the program goes on; what else ended the demonstration ends the program.
+pub fn told(rt: &impl Print, outcome: Result<(), Fault>) -> io::Result<()> {
+    match outcome {
+        Ok(()) => Ok(()),
+        Err(Fault::Refused(refused)) => println!(rt; "  {refused}"),
+        Err(Fault::System(error)) => Err(error),
+    }
+}
+
+// A service second with its clock reading, as 385 s (0:06:25).
+#[derive(Clone, Copy)]
+pub struct Time(pub u32);
+
+impl fmt::Display for Time {
+    fn fmt<W: fmt::Write>(&self, f: &mut fmt::Formatter<W>) -> fmt::Result {
+        let Time(second_of_day) = *self;
+        let hours = second_of_day / 3600;
+        let minutes = second_of_day / 60 % 60;
+        let seconds = second_of_day % 60;
+        write!(f, "{second_of_day} s ({hours}:{minutes:02}:{seconds:02})")
+    }
+}
+
+// Row i of a table of rows of N words; zeros past the end.
+pub fn row<const N: usize>(table: &[u32], i: usize) -> [u32; N]
+    requires { 0 < N }
 {
-    let b = text[i];
-    if b == 35 {
-        number(rt, at(n, k))?;
-        return Ok(k + 1);
-    }
-    if b == 64 {
-        time(rt, at(n, k))?;
-        return Ok(k + 1);
-    }
-    let e = i + 1;
-    say(rt, &text[i..e])?;
-    Ok(k)
-}
-
-// A text with a word of n for each '#' and '@' in it, in turn.
-pub fn tell(rt: &impl Print, text: &[u8], n: &[u32]) -> io::Result<()> {
-    let mut k: usize = 0;
-    let mut i: usize = 0;
-    while i < text.len() {
-        k = tell_byte(rt, text, i, n, k)?;
-        i += 1;
-    }
-    Ok(())
-}
-
-pub fn refused(rt: &impl Print, code: u32) -> io::Result<()> {
-    say_number(rt, b"  refused by question ", code)?;
-    say(rt, b"\n")
-}
-
-// A number as a length.
-pub fn wide(n: u32) -> usize
-    ensures { result < 4294967296 }
-{
-    n as usize
-}
-
-// So many words, or as many as there is room for: where that is fewer, the call that is lent them refuses them (question 2).
-pub fn part(n: usize, room: usize) -> usize
-    ensures { result ≤ room }
-{
-    if room < n {
-        return room;
-    }
-    n
-}
-
-// Word i, 0 past the end.
-pub fn at(w: &[u32], i: usize) -> u32 {
-    if i < w.len() {
-        return w[i];
-    }
-    0
-}
-
-// Puts the words of a piece into a slice from word `from` on, as many as have room, and says where the next piece begins.
-pub fn put(piece: &[u32], from: usize, to: &mut [u32]) -> usize {
-    let room = to.len();
-    if room < from {
-        return from;
-    }
-    let left = part(piece.len(), room - from);
-    let mut i: usize = 0;
-    while i < left {
-        to[from + i] = at(piece, i);
-        i += 1;
-    }
-    from + i
+    let (rows, _) = table.as_chunks::<N>();
+    rows.get(i).copied().unwrap_or([0; N])
 }

@@ -1,30 +1,25 @@
 // A larger timetable: ten stops, ten trips in five lines, stairs and lifts, a frequency trip, a trip that does not run.
 use crate::asking::ask;
-use crate::building::{Made, build, show_lines};
-use crate::telling::{part, refused, say};
+use crate::building::{Built, NONE, build, show_lines};
+use crate::telling::{Fault, told};
 use door::Settings;
 use sizes::QuerySizes;
 use std::io;
 
-fn sizes() -> QuerySizes {
-    QuerySizes {
-        stops: 10,
-        trips: 10,
-        times: 31,
-        windows: 1,
-        edges: 6,
-        cells: 0,
-        patterns: 0,
-        lines: 0,
-        entries: 0,
-        departures: 21,
-        transfers: 0,
-        delays: 0,
-        stop_rows: 0,
-        origins: 1,
-        egress: 2,
-    }
-}
+const SIZES: QuerySizes = QuerySizes {
+    stops: 10,
+    trips: 10,
+    times: 31,
+    windows: 1,
+    edges: 6,
+    departures: 21,
+    origins: 1,
+    egress: 2,
+    ..NONE
+};
+
+// Metres: the six walk edges, then the origin.
+const DISTANCES: [f64; 7] = [35.0, 40.0, 620.0, 35.0, 40.0, 80.0, 130.0];
 
 #[rattlefmt::skip]
 fn timetable() -> [u32; 309] {
@@ -108,126 +103,33 @@ fn query_delayed(start: u32) -> [u32; 20] {
     ]
 }
 
-fn plain(
-    rt: &impl Print,
-    tally: &mut [u32; 128],
-    screen: u32,
-    settings: Settings,
-    start: u32,
-    wheelchair: u32,
-    s: QuerySizes,
-    tables: &[u32],
-    built: &[u32],
-    area: &[u32],
-) -> io::Result<()> {
-    let d = distances();
-    let q = query(start, wheelchair);
-    ask(rt, tally, screen, settings, s, tables, built, area, &d, &q)
-}
-
-fn delayed(
-    rt: &impl Print,
-    tally: &mut [u32; 128],
-    screen: u32,
-    settings: Settings,
-    start: u32,
-    s: QuerySizes,
-    tables: &[u32],
-    built: &[u32],
-    area: &[u32],
-) -> io::Result<()> {
-    let mut n = s;
-    n.delays = 1;
-    n.stop_rows = 1;
-    let d = distances();
-    let q = query_delayed(start);
-    ask(rt, tally, screen, settings, n, tables, built, area, &d, &q)
-}
-
-// Metres: the six walk edges, then the origin.
-fn distances() -> [f64; 7] {
-    [35.0, 40.0, 620.0, 35.0, 40.0, 80.0, 130.0]
-}
-
 fn queries(
     rt: &impl Print,
     tally: &mut [u32; 128],
     screen: u32,
     settings: Settings,
-    s: QuerySizes,
     tables: &[u32],
-    built: &[u32],
-    area: &[u32],
+    built: &Built,
 ) -> io::Result<()> {
-    say(rt, b"Start 28600 s (7:56:40)\n")?;
-    plain(
-        rt, tally, screen, settings, 28600, 0, s, tables, built, area,
-    )?;
-    say(
-        rt,
-        b"Start 28600 s (7:56:40), trip 3 late by 300 s, at stop 7 by 240 s\n",
-    )?;
-    delayed(rt, tally, screen, settings, 28600, s, tables, built, area)?;
-    say(rt, b"Start 28600 s (7:56:40), in a wheelchair\n")?;
-    plain(
-        rt, tally, screen, settings, 28600, 1, s, tables, built, area,
-    )?;
-    say(rt, b"Start 32400 s (9:00:00)\n")?;
-    plain(
-        rt, tally, screen, settings, 32400, 0, s, tables, built, area,
-    )
-}
-
-fn shown(
-    rt: &impl Print,
-    tally: &mut [u32; 128],
-    screen: u32,
-    settings: Settings,
-    made: Made,
-    tables: &[u32],
-    built: &[u32],
-    area: &[u32],
-) -> io::Result<()> {
-    if made.code != 0 {
-        return refused(rt, made.code);
-    }
-    let n = part(made.length, built.len());
-    show_lines(rt, tally, screen, settings, made.sizes, tables, &built[..n])?;
-    queries(
-        rt,
-        tally,
-        screen,
-        settings,
-        made.sizes,
-        tables,
-        &built[..n],
-        area,
-    )
-}
-
-fn day_in(
-    rt: &impl Print,
-    tally: &mut [u32; 128],
-    screen: u32,
-    settings: Settings,
-    tables: &[u32],
-    rows: &mut [u32],
-    area: &mut [u32],
-    built: &mut [u32],
-) -> io::Result<()> {
-    let runs = runs();
-    let made = build(
-        tally,
-        screen,
-        settings,
-        sizes(),
-        tables,
-        &runs,
-        rows,
-        area,
-        built,
-    );
-    shown(rt, tally, screen, settings, made, tables, built, area)
+    let plain = built.sizes;
+    let delayed = QuerySizes {
+        delays: 1,
+        stop_rows: 1,
+        ..plain
+    };
+    let mut asked = |s: QuerySizes, query: &[u32]| {
+        ask(
+            rt, tally, screen, settings, s, tables, built, &DISTANCES, query,
+        )
+    };
+    println!(rt; "Start 28600 s (7:56:40)")?;
+    asked(plain, &query(28600, 0))?;
+    println!(rt; "Start 28600 s (7:56:40), trip 3 late by 300 s, at stop 7 by 240 s")?;
+    asked(delayed, &query_delayed(28600))?;
+    println!(rt; "Start 28600 s (7:56:40), in a wheelchair")?;
+    asked(plain, &query(28600, 1))?;
+    println!(rt; "Start 32400 s (9:00:00)")?;
+    asked(plain, &query(32400, 0))
 }
 
 pub fn run(
@@ -235,16 +137,23 @@ pub fn run(
     tally: &mut [u32; 128],
     screen: u32,
     settings: Settings,
-) -> io::Result<()> {
+) -> Result<(), Fault> {
+    println!(rt; "\nA larger timetable: ten stops, ten trips, stairs, lifts, a frequency trip")?;
     let tables = timetable();
     let mut rows = listed();
-    let mut area = [0u32; 256];
-    let mut built = [0u32; 288];
-    say(
+    let built = build(tally, screen, settings, SIZES, &tables, &runs(), &mut rows)?;
+    told(
         rt,
-        b"\nA larger timetable: ten stops, ten trips, stairs, lifts, a frequency trip\n",
+        show_lines(
+            rt,
+            tally,
+            screen,
+            settings,
+            built.sizes,
+            &tables,
+            &built.lines,
+        ),
     )?;
-    day_in(
-        rt, tally, screen, settings, &tables, &mut rows, &mut area, &mut built,
-    )
+    queries(rt, tally, screen, settings, &tables, &built)?;
+    Ok(())
 }

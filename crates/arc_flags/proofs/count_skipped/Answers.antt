@@ -12,36 +12,12 @@ use Rattle.arc_flags.proofs.count_skipped.Goals as goal
 
 pub loop-k-init : goal.loop-k-init
 loop-k-init c =
-    ((omega arith, omega arith, refl), λ T Q a. (count_zero (λ i. row_skipped T Q c.args.transfers.now (c.args.from + i)), λ j l. absurd (omega arith)))
-
-pub offset_bounds-counts-k : goal.offset_bounds-counts-k
-offset_bounds-counts-k c = omega (arith, c.requires.rows_in.few)
-
-pub bounds-counts-k : goal.bounds-counts-k
-bounds-counts-k c = omega (arith, c.requires.n_bound, c.loop-k.invariant.0.2)
-
-pub overflow_add-from : goal.overflow_add-from
-overflow_add-from c = omega (arith, c.requires.rows_in.few)
-
-pub row_skipped-requires : goal.row_skipped-requires
-row_skipped-requires c = record { patterns_ok = c.requires.patterns_ok; k_bound = omega (arith, c.requires.rows_in.fit) }
-
-pub overflow_add-skipped : goal.overflow_add-skipped
-overflow_add-skipped c = omega (arith, c.requires.rows_in.few, c.loop-k.invariant.0.1, c.one-skipped.ensures, one_le c.row_skipped.result)
+    ((omega arith, refl), λ T Q a. (count_zero (λ i. row_skipped T Q c.args.transfers.now (c.args.from + i)), λ j l. absurd (omega arith)))
 
 pub loop-k-preserved : goal.loop-k-preserved
 loop-k-preserved c =
-    let w = c.loop-k in ((omega arith, omega (arith, w.invariant.0.1, c.one-skipped.ensures, one_le c.row_skipped.result), simp length-set w.invariant.0.2), λ T Q a. let f : ℕ → Bool = λ i. row_skipped T Q c.args.transfers.now (c.args.from + i) in (ap₂ ◌+◌ (w.invariant.1 T Q a).0 (c.one-skipped.ensures ∙ ap one (c.row_skipped.ensures T Q a)) ∙ sym (count_step f w.k), fill_again (counting.count f) w.k w.counts _ (w.invariant.1 T Q a).1 (ap (set w.counts w.k) (w.invariant.1 T Q a).0) (omega (arith, c.requires.n_bound, w.invariant.0.2))))
-
-pub offset_bounds-counts-n : goal.offset_bounds-counts-n
-offset_bounds-counts-n c = omega (arith, c.requires.rows_in.few)
-
-pub bounds-counts-n : goal.bounds-counts-n
-bounds-counts-n c = omega (arith, c.requires.n_bound, c.loop-k.invariant.0.2)
-
-pub shape_of-counts : goal.shape_of-counts
-shape_of-counts c = simp length-set c.loop-k.invariant.0.2
+    let w = c.loop-k in ((omega (arith, w.invariant.0.0, c.from-skipped.ensures, one_le c.row_skipped.result), simp length-set w.invariant.0.1), λ T Q a. let f : ℕ → Bool = λ i. row_skipped T Q c.args.transfers.now (c.args.from + i) in (ap₂ ◌+◌ (w.invariant.1 T Q a).0 (c.from-skipped.ensures ∙ ap one (c.row_skipped.ensures T Q a)) ∙ sym (count_step f w.k), fill_again (counting.count f) w.k w.counts _ (w.invariant.1 T Q a).1 (ap (set w.counts w.k) (w.invariant.1 T Q a).0) (omega (arith, c.requires.n_bound, w.invariant.0.1))))
 
 pub returns : goal.returns
 returns c =
-    let w = c.loop-k in let e : w.k ≡ c.args.n = omega (arith, w.invariant.0.0) in record { counted = λ T Q a. let f : ℕ → Bool = λ i. row_skipped T Q c.args.transfers.now (c.args.from + i) in record { before = λ j l. fill_again (counting.count f) c.args.n w.counts _ (λ i u. (w.invariant.1 T Q a).1 i (omega arith)) (ap (set w.counts c.args.n) ((w.invariant.1 T Q a).0 ∙ ap (counting.count f) e)) (omega (arith, c.requires.n_bound, w.invariant.0.2)) j (omega arith) } }
+    let w = c.loop-k in let e : w.k ≡ c.args.n = omega (arith, w.auto.k-end) in record { counted = λ T Q a. let f : ℕ → Bool = λ i. row_skipped T Q c.args.transfers.now (c.args.from + i) in record { before = λ j l. fill_again (counting.count f) c.args.n w.counts _ (λ i u. (w.invariant.1 T Q a).1 i (omega arith)) (ap (set w.counts c.args.n) ((w.invariant.1 T Q a).0 ∙ ap (counting.count f) e)) (omega (arith, c.requires.n_bound, w.invariant.0.1)) j (omega arith) } }

@@ -5,5 +5,5 @@ use Rattle.best_target.proofs.better.Goals as goal
 pub returns-then-total-best : goal.returns-then-total-best
 returns-then-total-best c = better_less (target_of c.args.best) c.args.total c.args.stop c.if-total-best.true
 
-pub returns : goal.returns
-returns c = better_not (target_of c.args.best) c.args.total c.args.stop c.if-total-best.false
+pub returns-else-total-best : goal.returns-else-total-best
+returns-else-total-best c = better_not (target_of c.args.best) c.args.total c.args.stop c.if-total-best.false

@@ -13,6 +13,3 @@ abbrev pub invariant-loop-row : goal.invariant-loop-row
 invariant-loop-row l =
     (l.row ≤ l.rounds + 1) × (l.m ≤ l.row) × (length l.candidates ≡ 39) × ZeroFrom l.candidates l.m
     × ((T : Tables) (Q : Query) (a : Arrivals) → Labelled a l.stops l.labels l.label_distances → Q.egress ≡ egress_rows l.egress → Q.settings.candidate_slack ≡ l.slack → candidates_from T Q a l.top (suc l.rounds) 0 never ≡ candidates_in l.candidates l.m ++ rows_ahead T Q a l.top (suc l.rounds) l.row l.last)
-
-abbrev pub decreases-loop-row : goal.decreases-loop-row
-decreases-loop-row l = l.rounds + 1 - l.row

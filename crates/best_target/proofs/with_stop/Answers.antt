@@ -14,5 +14,5 @@ pub overflow_add-v : goal.overflow_add-v
 overflow_add-v c =
     ⊎_elim (λ (h : c.args.v ≡ never). absurd (c.if-v-eq4294967295.false h)) (λ (h : c.args.v < 134217728). omega (arith, c.requires.walk_bound)) c.requires.v_bound
 
-pub returns : goal.returns
-returns c = stop_reached (target_of c.args.best) _ c.args.v c.args.stop c.args.walk c.if-v-eq4294967295.false c.better.ensures
+pub returns-else-v-eq4294967295 : goal.returns-else-v-eq4294967295
+returns-else-v-eq4294967295 c = stop_reached (target_of c.args.best) _ c.args.v c.args.stop c.args.walk c.if-v-eq4294967295.false c.better.ensures

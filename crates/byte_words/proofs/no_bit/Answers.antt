@@ -1,22 +1,19 @@
-use Prim.Native.Nat.{ℕ, ◌*◌}
-use mathlib.Core.Path.{ap, sym, ◌∙◌, refl}
+use Prim.Native.Nat.{◌*◌}
+use Rattle.std.proofs.Common.{rules}
+use borrow.Author.Tests.{tests}
+use mathlib.Core.Path.{◌≡◌, ap, sym, ◌∙◌}
 use mathlib.Core.Bool.{not}
-use mathlib.Core.List.{List}
-use native.Mathlib.Omega.{arith}
 use lib.Dec.{eqb}
-use lib.ListN.{get_or}
-use Rattle.loops.proofs.Iter.{range_again, range_left}
-use Rattle.loops.proofs.Count.{get_d_tab}
+use lib.Bits.{bit_or}
+use Rattle.std.specs.List.{fold}
+use Rattle.std.proofs.lemmas.Iterator.{YieldsList-from_slice}
+use Rattle.std.proofs.lemmas.Iterator.Consumers.{fold_from_yields_List}
 use Rattle.byte_words.specs.ByteWord.{eight_of, has_bit}
-use Rattle.byte_words.proofs.Words.{not_not, word_some, words_taken}
+use Rattle.byte_words.proofs.Words.{not_not, word_some, words_taken, fold_taken}
 use Rattle.byte_words.proofs.no_bit.Goals as goal
 
-pub loop-k-init : goal.loop-k-init
-loop-k-init c = (omega arith, refl)
-
-pub loop-k-preserved : goal.loop-k-preserved
-loop-k-preserved c = (omega arith, range_again _ _ _ c.loop-k.invariant.1 refl (omega arith))
-
 pub returns : goal.returns
-returns c =
-    let words = c.args.words in λ g e. sym (not_not (eqb c.loop-k.all 0)) ∙ ap not (words_taken (λ k. get_or words k 0) (has_bit g) 8 _ (range_left _ _ _ c.loop-k.invariant.1 (omega arith)) (λ w u. ap (λ (x : ℕ). not (eqb x 0)) (ap (λ (m : List ℕ). get_or m w 0) e ∙ get_d_tab (eight_of g) 8 w 0 u) ∙ word_some g (w * 8) 8))
+returns c = λ g e.
+    let all : c.fold.result ≡ fold bit_or 0 c.args.words = fold_from_yields_List _ bit_or 0 _ c.fold.ensures.ran (YieldsList-from_slice c.args.words (cc)) (λ a x b q k. search (rules, tests)) in
+    sym (not_not (eqb c.fold.result 0))
+    ∙ ap not (words_taken (eight_of g) (has_bit g) 8 _ (all ∙ ap (fold bit_or 0) e ∙ fold_taken (eight_of g) 0 8 0) (λ w u. word_some g (w * 8) 8))

@@ -1,14 +1,9 @@
-use Rattle.loops.proofs.Iter.{range_again, range_left}
-use native.Mathlib.Omega.{arith}
-use mathlib.Core.Path.{refl}
+use Rattle.std.proofs.Common.{rules, refl}
+use Rattle.delay_rows.specs.Delays.{given_size, or_larger}
+use Rattle.delay_rows.specs.Flat.{stop_row_at}
+use Rattle.delay_lookup.proofs.Fold.{range_from_fold}
+use borrow.Author.Tests.{tests}
 use Rattle.delay_lookup.proofs.largest_stop.Goals as goal
 
-pub loop-j-init : goal.loop-j-init
-loop-j-init c = (refl, refl)
-
-pub loop-j-preserved : goal.loop-j-preserved
-loop-j-preserved c =
-    (omega arith, range_again _ _ _ c.loop-j.invariant.1 (simp (c.larger_word-most.ensures, c.given_size.ensures, c.stop_row_at.ensures)) (omega arith))
-
 pub returns : goal.returns
-returns c = range_left _ _ _ c.loop-j.invariant.1 (omega arith)
+returns c = range_from_fold _ 0 _ (or_larger (λ j. given_size (stop_row_at c.args.stop_rows.now j))) 0 _ refl c.fold.ensures.ran (λ x i y q k. search (rules, tests))

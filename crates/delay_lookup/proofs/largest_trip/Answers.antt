@@ -1,14 +1,10 @@
-use Rattle.loops.proofs.Iter.{range_again, range_left}
-use native.Mathlib.Omega.{arith}
-use mathlib.Core.Path.{refl}
+use Rattle.std.proofs.Common.{rules, refl}
+use Rattle.stop_delay.specs.Times.{size_of}
+use Rattle.delay_rows.specs.Delays.{or_larger}
+use Rattle.delay_rows.specs.Flat.{delay_row_at}
+use Rattle.delay_lookup.proofs.Fold.{range_from_fold}
+use borrow.Author.Tests.{tests}
 use Rattle.delay_lookup.proofs.largest_trip.Goals as goal
 
-pub loop-i-init : goal.loop-i-init
-loop-i-init c = (refl, refl)
-
-pub loop-i-preserved : goal.loop-i-preserved
-loop-i-preserved c =
-    (omega arith, range_again _ _ _ c.loop-i.invariant.1 (simp (c.larger_word-most.ensures, c.trip_size.ensures, c.delay_row_at.ensures)) (omega arith))
-
 pub returns : goal.returns
-returns c = range_left _ _ _ c.loop-i.invariant.1 (omega arith)
+returns c = range_from_fold _ 0 _ (or_larger (λ i. size_of (delay_row_at c.args.delay_rows.now i).delay)) 0 _ refl c.fold.ensures.ran (λ x i y q k. search (rules, tests))

@@ -3,6 +3,7 @@ use Rattle.departures.specs.Departures.{row_at, row_departure}
 use Rattle.departure_order.specs.Order.{not_earlier, part_order}
 use Rattle.loops.proofs.Iter.{every_again, every_left, every_no}
 use native.Mathlib.Omega.{arith}
+use borrow.Author.Tests.{le-leb, lt-leb}
 use lib.Dec.{leb}
 use mathlib.Core.Bool.{Bool}
 use mathlib.Core.List.{List}
@@ -19,25 +20,20 @@ pub returns-then-count-eq0 : goal.returns-then-count-eq0
 unfolding part_order
 returns-then-count-eq0 c = every_left _ 1 _ refl (omega arith)
 
-pub departure_at-last-requires : goal.departure_at-last-requires
-departure_at-last-requires c = record { rows_known = c.requires; k_bound = omega arith }
-
 pub loop-k-init : goal.loop-k-init
 unfolding part_order
-loop-k-init c = (omega arith, c.departure_at-last.ensures, refl)
+loop-k-init c = (c.departure_at-last.ensures, refl)
 
-pub departure_at-next-requires : goal.departure_at-next-requires
-departure_at-next-requires c = record { rows_known = c.requires; k_bound = omega arith }
-
-pub returns : goal.returns
-returns c = every_left _ _ _ c.loop-k.invariant.2 (omega arith)
-
-pub returns-then-not-in_order : goal.returns-then-not-in_order
-returns-then-not-in_order c =
-    every_no _ _ _ c.loop-k.invariant.2 (tested (timetable c.args.tables.now c.args.c) c.args.rows.now c.loop-k.k c.loop-k.invariant.1 c.departure_at-next.ensures (sym c.in_order.ensures ∙ c.if-not-in_order.true)) (omega arith)
+pub returns-then-next-last : goal.returns-then-next-last
+returns-then-next-last c =
+    let l = c.loop-k in
+    every_no _ _ _ l.invariant.1 (tested (timetable c.args.tables.now c.args.c) c.args.rows.now l.k l.invariant.0 c.departure_at-next.ensures (lt-leb _ _ c.if-next-last.true)) c.loop-k-test.true
 
 pub loop-k-preserved : goal.loop-k-preserved
 loop-k-preserved c =
-    let k = c.loop-k.k in
-    let e : k + 1 - 1 ≡ k = omega arith in
-    (omega arith, rw e c.departure_at-next.ensures, every_again _ _ _ c.loop-k.invariant.2 (tested (timetable c.args.tables.now c.args.c) c.args.rows.now k c.loop-k.invariant.1 c.departure_at-next.ensures (sym c.in_order.ensures ∙ c.if-not-in_order.false)) (omega arith))
+    let l = c.loop-k in
+    let e : l.k + 1 - 1 ≡ l.k = omega arith in
+    (rw e c.departure_at-next.ensures, every_again _ _ _ l.invariant.1 (tested (timetable c.args.tables.now c.args.c) c.args.rows.now l.k l.invariant.0 c.departure_at-next.ensures (le-leb _ _ c.if-next-last.false)) c.loop-k-test.true)
+
+pub returns : goal.returns
+returns c = every_left _ _ _ c.loop-k.invariant.1 (omega arith)

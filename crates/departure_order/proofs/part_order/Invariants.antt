@@ -3,12 +3,9 @@ use Rattle.departures.specs.Departures.{row_at, row_departure}
 use Rattle.departure_order.specs.Order.{not_earlier, part_order}
 use Rattle.loops.specs.Iter.{every_in}
 use mathlib.Core.Path.{◌≡◌}
-use Prim.Native.Nat.{◌-◌, ◌≤◌}
+use Prim.Native.Nat.{◌-◌}
 use Rattle.departure_order.proofs.part_order.Given as goal
 
 abbrev pub invariant-loop-k : goal.invariant-loop-k
 invariant-loop-k l =
-    (1 ≤ l.k) × (l.last ≡ row_departure (timetable l.tables l.c) (row_at l.rows (l.k - 1))) × (part_order (timetable l.tables l.c) l.rows l.count ≡ every_in (not_earlier (timetable l.tables l.c) l.rows) l.k l.count)
-
-abbrev pub decreases-loop-k : goal.decreases-loop-k
-decreases-loop-k l = l.count - l.k
+    (l.last ≡ row_departure (timetable l.tables l.c) (row_at l.rows (l.k - 1))) × (part_order (timetable l.tables l.c) l.rows l.count ≡ every_in (not_earlier (timetable l.tables l.c) l.rows) l.k l.count)

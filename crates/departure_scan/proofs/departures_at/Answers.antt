@@ -1,13 +1,7 @@
 use Rattle.departure_scan.proofs.Runs.{run_fits, run_names}
 use Rattle.query_input.proofs.Parts.{rows_size}
-use lib.ListN.{length}
 use Rattle.query_input.specs.Lent.{departure_rows, stop_runs}
-use native.Mathlib.Omega.{arith}
-use mathlib.Core.Path.{ap}
 use Rattle.departure_scan.proofs.departures_at.Goals as goal
-
-pub stop_run-r-requires : goal.stop_run-r-requires
-stop_run-r-requires c = omega (arith, c.requires.runs_listed.size, c.requires.x_bound, ap length c.stop_runs.ensures)
 
 pub departures_of-requires : goal.departures_of-requires
 departures_of-requires c =

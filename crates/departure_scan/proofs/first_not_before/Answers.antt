@@ -7,9 +7,6 @@ use Rattle.departure_scan.proofs.first_not_before.Goals as goal
 pub loop-lo-init : goal.loop-lo-init
 loop-lo-init c = halved_start _ _
 
-pub departure_row-requires : goal.departure_row-requires
-departure_row-requires c = omega (arith, c.loop-lo.invariant.inside)
-
 pub row_departure-requires : goal.row_departure-requires
 row_departure-requires c =
     record { counts_ok = c.requires.known.counts; slices_ok = c.requires.known.slices; runs_ok = c.requires.known.runs; row_known = rw c.departure_row.ensures (c.requires.known.known _ (omega (arith, c.loop-lo.invariant.inside))) }

@@ -16,9 +16,6 @@ pub loop-i-init : goal.loop-i-init
 loop-i-init c =
     (refl, ride_start _ _ _ _ c.requires.going.ready c.requires.going.chains c.requires.going.room (λ T Q y s. from_start T Q c.args.p.context.flagged c.args.at.has_freq (c.args.p.stamp - 2) c.args.p.stamp c.args.at.stop c.args.at.after c.args.list.now (length c.args.list.now / 2) s))
 
-pub departure_row-d-requires : goal.departure_row-d-requires
-departure_row-d-requires c = omega (arith, c.loop-i-test.true, c.loop-i.invariant.0)
-
 pub too_late-requires : goal.too_late-requires
 too_late-requires c =
     let p = c.loop-i.invariant.1 in let e = c.requires.rows_known.known c.loop-i.i (omega (arith, c.loop-i-test.true, c.loop-i.invariant.0)) in record { sane = c.requires.going.laid.netted.ground.sane; event = subst (λ (z : DepartureRow). Event c.args.tables.now c.args.p.context.counts.timetable z.trip z.offset) (sym c.departure_row-d.ensures) (record { trip = e.trip; offset = e.offset }) }
@@ -58,9 +55,6 @@ shape_of-queue-then-g c = let p = c.loop-i.invariant.1 in c.take_departure-g.ens
 pub returns-then-g : goal.returns-then-g
 returns-then-g c =
     let p = c.loop-i.invariant.1 in ride_over (λ T Q. scan_from T Q c.args.p.context.flagged c.args.at.has_freq (c.args.p.stamp - 2) c.args.p.stamp c.args.at.stop c.args.at.after c.args.list.now (length c.args.list.now / 2) (c.loop-i.i + 1)) p c.take_departure-g.ensures (λ T Q y. rides_kept c.requires.going.laid p.kept y) (λ T Q y s v. from_turn T Q c.args.p.context.flagged c.args.at.has_freq (c.args.p.stamp - 2) c.args.p.stamp c.args.at.stop c.args.at.after c.args.list.now (length c.args.list.now / 2) c.loop-i.i s (omega (arith, c.loop-i-test.true, c.loop-i.invariant.0)) c.departure_row-d.result c.departure_row-d.ensures (late_seen v c.args.at.has_freq _ _ c.too_late.result false (c.too_late.ensures T Q y.nets.agree.timetable y.nets.asks) c.if-too_late.false)) c.if-g.true (λ T Q s. (departures_later T Q c.args.p.context.flagged c.args.at.has_freq (c.args.p.stamp - 2) c.args.p.stamp c.args.at.stop c.args.at.after _ s).queue)
-
-pub overflow_add-i : goal.overflow_add-i
-overflow_add-i c = omega (arith, c.requires.rows_known.few, c.loop-i-test.true, c.loop-i.invariant.0)
 
 pub loop-i-preserved : goal.loop-i-preserved
 loop-i-preserved c =

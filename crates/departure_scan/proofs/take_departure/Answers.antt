@@ -6,20 +6,13 @@ use native.Mathlib.Omega.{arith}
 use Prim.Native.Nat.{◌-◌}
 use Rattle.departure_scan.proofs.take_departure.Goals as goal
 
-pub overflow_cast-trip : goal.overflow_cast-trip
-overflow_cast-trip c = omega (arith, c.requires.event.trip, c.requires.going.laid.netted.ground.sane.counts.trips)
-
-pub overflow_cast-off : goal.overflow_cast-off
-overflow_cast-off c =
-    omega (arith, c.requires.event.offset, c.requires.going.laid.netted.ground.sane.runs.run _ c.requires.event.trip, c.requires.going.laid.netted.ground.sane.counts.times)
-
-pub board_listed-found-requires : goal.board_listed-found-requires
-board_listed-found-requires c =
+pub board_listed-requires : goal.board_listed-requires
+board_listed-requires c =
     record { on_ground = c.requires.going.laid.netted.ground; known = c.delay_of-adj.ensures.known; event = c.requires.event; after_bound = c.requires.after_bound; round_chains = chained c.requires.going }
 
 pub returns-in_default : goal.returns-in_default
 returns-in_default c =
-    taken_none c.requires.going c.args.p.context.flagged c.delay_of-adj.result c.args.at.stop c.args.at.after c.args.d.trip c.args.d.offset (c.args.p.stamp - 2) c.board_listed-found.result c.board_listed-found.ensures.meaning c.delay_of-adj.ensures.meaning c.in_default.is
+    taken_none c.requires.going c.args.p.context.flagged c.delay_of-adj.result c.args.at.stop c.args.at.after c.args.d.trip c.args.d.offset (c.args.p.stamp - 2) c.board_listed.result c.board_listed.ensures.meaning c.delay_of-adj.ensures.meaning c.in_default.is
 
 pub note-requires : goal.note-requires
 note-requires c =
@@ -27,7 +20,7 @@ note-requires c =
 
 pub scan_trip_forward-requires : goal.scan_trip_forward-requires
 scan_trip_forward-requires c =
-    record { netted = noted_netted c.requires.going c.args.p.context.flagged c.delay_of-adj.result c.args.at.stop c.args.at.after c.args.d.trip c.args.d.offset (c.args.p.stamp - 2) c.board_listed-found.result c.board_listed-found.ensures.meaning c.delay_of-adj.ensures.meaning _ c.in-Board.is c.note.ensures; riding = riding_on c.requires.going _ _ c.delay_of-adj.ensures.known c.requires.event.trip (shift_small c.requires.going c.args.p.context.flagged c.delay_of-adj.result c.args.at.stop c.args.at.after c.args.d.trip c.args.d.offset (c.args.p.stamp - 2) c.board_listed-found.result c.board_listed-found.ensures.meaning c.delay_of-adj.ensures.meaning _ c.in-Board.is c.board_listed-found.ensures.as_boarded c.requires.event); ready = ready_noted c.requires.going.ready c.note.ensures; is_open = c.requires.going.room }
+    record { netted = noted_netted c.requires.going c.args.p.context.flagged c.delay_of-adj.result c.args.at.stop c.args.at.after c.args.d.trip c.args.d.offset (c.args.p.stamp - 2) c.board_listed.result c.board_listed.ensures.meaning c.delay_of-adj.ensures.meaning _ c.in-Some.is c.note.ensures; riding = riding_on c.requires.going _ _ c.delay_of-adj.ensures.known c.requires.event.trip (shift_small c.requires.going c.args.p.context.flagged c.delay_of-adj.result c.args.at.stop c.args.at.after c.args.d.trip c.args.d.offset (c.args.p.stamp - 2) c.board_listed.result c.board_listed.ensures.meaning c.delay_of-adj.ensures.meaning _ c.in-Some.is c.board_listed.ensures.as_boarded c.requires.event); ready = ready_noted c.requires.going.ready c.note.ensures; is_open = c.requires.going.room }
 
 pub shape_of-work : goal.shape_of-work
 shape_of-work c = c.scan_trip_forward.ensures.same.size ∙ c.note.ensures.size
@@ -43,4 +36,4 @@ shape_of-queue c = c.scan_trip_forward.ensures.size
 
 pub returns : goal.returns
 returns c =
-    taken_board c.requires.going c.args.p.context.flagged c.delay_of-adj.result c.args.at.stop c.args.at.after c.args.d.trip c.args.d.offset (c.args.p.stamp - 2) c.board_listed-found.result c.board_listed-found.ensures.meaning c.delay_of-adj.ensures.meaning _ c.in-Board.is c.note.ensures c.scan_trip_forward.ensures
+    taken_board c.requires.going c.args.p.context.flagged c.delay_of-adj.result c.args.at.stop c.args.at.after c.args.d.trip c.args.d.offset (c.args.p.stamp - 2) c.board_listed.result c.board_listed.ensures.meaning c.delay_of-adj.ensures.meaning _ c.in-Some.is c.note.ensures c.scan_trip_forward.ensures

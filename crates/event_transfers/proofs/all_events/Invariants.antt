@@ -7,7 +7,4 @@ use Prim.Native.Nat.{◌*◌, ◌-◌, ◌≤◌}
 use Rattle.event_transfers.proofs.all_events.Given as goal
 
 abbrev pub invariant-loop-ti : goal.invariant-loop-ti
-invariant-loop-ti l = (l.trips ≡ l.c.trips) × (l.e ≤ l.ti * 65536) × (l.n ≤ 65537) × (length l.area ≡ length l.initial.area) × (length l.transfer_runs ≡ length l.initial.transfer_runs) × (lay_events l.time 0 (all_keys (prepared l.tables l.c l.runs l.work l.time)) (area_walk 0 l.initial.area l.initial.transfer_runs) ≡ lay_events l.time l.e (flatten (tab_from (trip_keys (prepared l.tables l.c l.runs l.work l.time)) l.ti (l.trips - l.ti))) (area_walk l.n l.area l.transfer_runs))
-
-abbrev pub decreases-loop-ti : goal.decreases-loop-ti
-decreases-loop-ti l = l.trips - l.ti
+invariant-loop-ti l = (l.e ≤ l.ti * 65536) × (l.n ≤ 65537) × (length l.area ≡ length l.initial.area) × (length l.transfer_runs ≡ length l.initial.transfer_runs) × (lay_events l.time 0 (all_keys (prepared l.tables l.c l.runs l.work l.time)) (area_walk 0 l.initial.area l.initial.transfer_runs) ≡ lay_events l.time l.e (flatten (tab_from (trip_keys (prepared l.tables l.c l.runs l.work l.time)) l.ti (l.c.trips - l.ti))) (area_walk l.n l.area l.transfer_runs))

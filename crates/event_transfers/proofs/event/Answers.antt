@@ -1,17 +1,8 @@
-use Rattle.event_transfers.proofs.Events.{event_is, event_time, lay_grown}
-use native.Mathlib.Omega.{arith}
+use Rattle.event_transfers.proofs.Events.{event_is, lay_grown}
 use Rattle.event_transfers.specs.Packed.{alight_keys, laid, lay, prepared}
 use mathlib.Core.Path.{◌∙◌, ap}
 use Prim.Native.Nat.{◌+◌, ℕ}
 use Rattle.event_transfers.proofs.event.Goals as goal
-
-pub overflow_add-at : goal.overflow_add-at
-overflow_add-at c =
-    omega (arith, event_time c.args.tables.now c.args.c c.args.ti c.args.off c.trip.result c.requires.sane c.requires.event_at.trip c.requires.event_at.offset c.trip.ensures.value, c.requires.sane.counts.times)
-
-pub alight-r-requires : goal.alight-r-requires
-alight-r-requires c =
-    record { sane = c.requires.sane; runs_listed = c.requires.runs_listed; sorted_runs = c.requires.sorted_runs; at_bound = event_time c.args.tables.now c.args.c c.args.ti c.args.off c.trip.result c.requires.sane c.requires.event_at.trip c.requires.event_at.offset c.trip.ensures.value; time_bound = c.requires.event_at.short }
 
 pub put_run-requires : goal.put_run-requires
 put_run-requires c =

@@ -1,5 +1,5 @@
 use mathlib.Core.Path.{◌∙◌, sym}
-use Rattle.event_transfers.proofs.Events.{most_barred, most_open, run_keys, run_lines, stop_read}
+use Rattle.event_transfers.proofs.Events.{most_barred, most_open, run_keys, run_lines}
 use Rattle.event_transfers.specs.Packed.{prepared}
 use native.Mathlib.Omega.{arith}
 use Rattle.event_transfers.proofs.most_alight.Goals as goal
@@ -8,13 +8,13 @@ pub returns-then-barred : goal.returns-then-barred
 returns-then-barred c =
     λ ti. most_barred (prepared c.args.tables.now c.args.c c.args.runs.now c.args.work.now c.args.time) ti c.args.at c.args.n (omega arith) (sym c.barred.ensures ∙ c.if-barred.true)
 
-pub stop_run-r-requires : goal.stop_run-r-requires
-stop_run-r-requires c =
-    stop_read (prepared c.args.tables.now c.args.c c.args.runs.now c.args.work.now c.args.time) c.args.ends.now c.args.d c.args.at c.requires.sane c.requires.runs_listed c.requires.sorted_runs c.requires.most_at.below c.time-2.result c.time-2.ensures.value
+pub lines_after-requires-clause-keys : goal.lines_after-requires-clause-keys
+lines_after-requires-clause-keys c =
+    run_keys (prepared c.args.tables.now c.args.c c.args.runs.now c.args.work.now c.args.time) c.args.ends.now c.args.d c.args.at c.requires.sane c.requires.runs_listed c.requires.sorted_runs c.requires.most_at.below c.time-2.result c.time-2.ensures.value c.stop_run-r.result c.stop_run-r.ensures.value
 
-pub lines_after-requires : goal.lines_after-requires
-lines_after-requires c =
-    record { keys = run_keys (prepared c.args.tables.now c.args.c c.args.runs.now c.args.work.now c.args.time) c.args.ends.now c.args.d c.args.at c.requires.sane c.requires.runs_listed c.requires.sorted_runs c.requires.most_at.below c.time-2.result c.time-2.ensures.value c.stop_run-r.result c.stop_run-r.ensures.value; line_ends = run_lines (prepared c.args.tables.now c.args.c c.args.runs.now c.args.work.now c.args.time) c.args.ends.now c.args.d c.args.at c.requires.sane c.requires.runs_listed c.requires.sorted_runs c.requires.most_at.below c.time-2.result c.time-2.ensures.value c.stop_run-r.result c.stop_run-r.ensures.value }
+pub lines_after-requires-clause-line_ends : goal.lines_after-requires-clause-line_ends
+lines_after-requires-clause-line_ends c =
+    run_lines (prepared c.args.tables.now c.args.c c.args.runs.now c.args.work.now c.args.time) c.args.ends.now c.args.d c.args.at c.requires.sane c.requires.runs_listed c.requires.sorted_runs c.requires.most_at.below c.time-2.result c.time-2.ensures.value c.stop_run-r.result c.stop_run-r.ensures.value
 
 pub returns : goal.returns
 returns c =

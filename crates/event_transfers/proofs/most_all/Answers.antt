@@ -6,16 +6,12 @@ use mathlib.Core.Path.{refl}
 use Rattle.event_transfers.proofs.most_all.Goals as goal
 
 pub loop-ti-init : goal.loop-ti-init
-loop-ti-init c = (refl, most_all_start _ _ refl)
-
-pub most_trip-n-requires : goal.most_trip-n-requires
-most_trip-n-requires c =
-    record { sane = c.requires.sane; runs_listed = c.requires.runs_listed; sorted_runs = c.requires.sorted_runs; most_at = record { below = omega arith; few = c.loop-ti.invariant.1.few; short = c.requires.time_bound } }
+loop-ti-init c = most_all_start _ _ refl
 
 pub loop-ti-preserved : goal.loop-ti-preserved
 loop-ti-preserved c =
-    (c.loop-ti.invariant.0, most_again (λ k. flatten (trip_keys (prepared c.args.tables.now c.args.c c.args.runs.now c.args.work.now c.args.time) k)) 0 _ c.loop-ti.ti c.args.c.trips c.loop-ti.n c.most_trip-n.result c.loop-ti.invariant.1 c.most_trip-n.ensures (omega arith))
+    most_again (λ k. flatten (trip_keys (prepared c.args.tables.now c.args.c c.args.runs.now c.args.work.now c.args.time) k)) 0 _ c.loop-ti.ti c.args.c.trips c.loop-ti.n c.most_trip-n.result c.loop-ti.invariant c.most_trip-n.ensures (omega arith)
 
 pub returns : goal.returns
 returns c =
-    most_left (λ k. flatten (trip_keys (prepared c.args.tables.now c.args.c c.args.runs.now c.args.work.now c.args.time) k)) 0 _ c.loop-ti.ti c.args.c.trips c.loop-ti.n c.loop-ti.invariant.1 (omega arith)
+    most_left (λ k. flatten (trip_keys (prepared c.args.tables.now c.args.c c.args.runs.now c.args.work.now c.args.time) k)) 0 _ c.loop-ti.ti c.args.c.trips c.loop-ti.n c.loop-ti.invariant (omega arith)

@@ -1,18 +1,7 @@
-use Rattle.event_transfers.proofs.Events.{event_time, most_again, most_event, most_left, most_start}
+use Rattle.event_transfers.proofs.Events.{most_again, most_event, most_left}
 use Rattle.event_transfers.specs.Packed.{event_keys, prepared}
 use native.Mathlib.Omega.{arith}
 use Rattle.event_transfers.proofs.most_trip.Goals as goal
-
-pub loop-off-init : goal.loop-off-init
-loop-off-init c = (c.trip-count.ensures.value, c.trip-first.ensures.value, most_start _ _ _ _ c.trip-count.ensures.value c.requires.most_at.few)
-
-pub overflow_add-first : goal.overflow_add-first
-overflow_add-first c =
-    omega (arith, event_time c.args.tables.now c.args.c c.args.ti c.loop-off.off c.trip-first.result c.requires.sane c.requires.most_at.below (omega arith) c.loop-off.invariant.1, c.requires.sane.counts.times)
-
-pub most_alight-m-requires : goal.most_alight-m-requires
-most_alight-m-requires c =
-    record { sane = c.requires.sane; runs_listed = c.requires.runs_listed; sorted_runs = c.requires.sorted_runs; most_at = record { below = event_time c.args.tables.now c.args.c c.args.ti c.loop-off.off c.trip-first.result c.requires.sane c.requires.most_at.below (omega arith) c.loop-off.invariant.1; few = c.loop-off.invariant.2.few; short = c.requires.most_at.short } }
 
 pub loop-off-preserved : goal.loop-off-preserved
 loop-off-preserved c =

@@ -9,6 +9,3 @@ use Rattle.event_transfers.proofs.most_trip.Given as goal
 
 abbrev pub invariant-loop-off : goal.invariant-loop-off
 invariant-loop-off l = (l.count ≡ count_of l.tables l.c l.ti) × (l.first ≡ first_of l.tables l.c l.ti) × Most l.n (length (flatten (trip_keys (prepared l.tables l.c l.runs l.work l.time) l.ti))) l.m (length (flatten (tab_from (event_keys (prepared l.tables l.c l.runs l.work l.time) l.ti) l.off (l.count - l.off))))
-
-abbrev pub decreases-loop-off : goal.decreases-loop-off
-decreases-loop-off l = l.count - l.off

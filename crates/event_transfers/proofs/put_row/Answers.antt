@@ -1,6 +1,5 @@
 use Rattle.departures.specs.Packed.{un_offset, un_trip}
 use Rattle.event_transfers.specs.Packed.{put_row}
-use lib.ListN.{length-set}
 use borrow.Author.Tests.{le-leb, lt-leb}
 use Rattle.event_transfers.proofs.Laying.{four}
 use native.Mathlib.Omega.{arith}
@@ -11,15 +10,6 @@ use Rattle.event_transfers.proofs.put_row.Goals as goal
 pub returns-then-area-at : goal.returns-then-area-at
 unfolding put_row
 returns-then-area-at c = simp (lt-leb _ _ c.if-area-at.true)
-
-pub bounds-area-at-2 : goal.bounds-area-at-2
-bounds-area-at-2 c = simp length-set (omega arith)
-
-pub bounds-area-at-3 : goal.bounds-area-at-3
-bounds-area-at-3 c = simp length-set (omega arith)
-
-pub bounds-area-at-4 : goal.bounds-area-at-4
-bounds-area-at-4 c = simp length-set (omega arith)
 
 pub returns : goal.returns
 unfolding put_row un_trip un_offset

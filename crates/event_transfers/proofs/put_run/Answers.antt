@@ -1,6 +1,5 @@
 use Rattle.event_transfers.proofs.Laying.{two}
 use Rattle.event_transfers.specs.Packed.{put_run}
-use lib.ListN.{length-set}
 use borrow.Author.Tests.{le-leb, lt-leb}
 use native.Mathlib.Omega.{arith}
 use mathlib.Core.Path.{◌∙◌}
@@ -10,9 +9,6 @@ use Rattle.event_transfers.proofs.put_run.Goals as goal
 pub returns-then-transfer_runs-at : goal.returns-then-transfer_runs-at
 unfolding put_run
 returns-then-transfer_runs-at c = simp (lt-leb _ _ c.if-transfer_runs-at.true)
-
-pub bounds-transfer_runs-at-2 : goal.bounds-transfer_runs-at-2
-bounds-transfer_runs-at-2 c = simp length-set (omega arith)
 
 pub returns : goal.returns
 unfolding put_run

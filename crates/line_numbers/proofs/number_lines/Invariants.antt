@@ -1,11 +1,6 @@
 use Rattle.tables.specs.Timetable.{timetable}
-use mathlib.Core.Path.{◌≡◌}
-use Prim.Native.Nat.{◌-◌}
 use Rattle.line_numbers.specs.Grouping.{Grouping}
 use Rattle.line_numbers.proofs.number_lines.Given as goal
 
 abbrev pub invariant-loop-i : goal.invariant-loop-i
-invariant-loop-i l = (l.trips ≡ l.c.trips) × Grouping (timetable l.tables l.c) l.lines l.leads l.work l.other l.n l.i
-
-abbrev pub decreases-loop-i : goal.decreases-loop-i
-decreases-loop-i l = l.trips - l.i
+invariant-loop-i l = Grouping (timetable l.tables l.c) l.lines l.leads l.work l.other l.n l.i

@@ -1,4 +1,3 @@
-use mathlib.Core.Path.{◌∙◌}
 use Rattle.search_state.proofs.Part.{few_of}
 use Rattle.line_pruning.proofs.Reading.{read_at, dominated_is}
 use Rattle.line_pruning.proofs.dominated.Goals as goal
@@ -12,4 +11,4 @@ some_before-requires c =
 
 pub returns : goal.returns
 returns c =
-    λ T Q k built b ag bk el. dominated_is T Q c.args.lay k built c.args.work.now c.args.stamp c.args.line c.args.trip c.args.off _ _ _ b ag bk el c.requires.line_bound c.requires.trip_bound (c.field-p.ensures.value ∙ read_at c.args.work.now c.args.trip _ _ c.positions_at.ensures) c.first_of-first.ensures c.some_before.ensures
+    λ T Q k built b ag bk el. dominated_is T Q c.args.lay k built c.args.work.now c.args.stamp c.args.line c.args.trip c.args.off _ _ _ b ag bk el c.requires.line_bound c.requires.trip_bound (read_at c.args.work.now c.args.trip _ _ c.positions_at.ensures) c.first_of-first.ensures c.some_before.ensures

@@ -5,12 +5,12 @@ use Rattle.line_pruning.proofs.first_of.Goals as goal
 pub line_stamps_at-requires : goal.line_stamps_at-requires
 line_stamps_at-requires c = few_of c.requires.work_sized
 
-pub returns-then-work-at : goal.returns-then-work-at
-returns-then-work-at c = first_no c.args.lay c.args.stamp c.args.work.now c.args.line _ c.line_stamps_at.ensures c.if-work-at.true
+pub returns-else-work-at : goal.returns-else-work-at
+returns-else-work-at c = first_no c.args.lay c.args.stamp c.args.work.now c.args.line _ c.line_stamps_at.ensures c.if-work-at.false
 
 pub heads_at-requires : goal.heads_at-requires
 heads_at-requires c = few_of c.requires.work_sized
 
-pub returns : goal.returns
-returns c =
-    first-yes c.args.lay c.args.stamp c.args.work.now c.args.line _ _ c.line_stamps_at.ensures c.heads_at.ensures c.if-work-at.false
+pub returns-then-work-at : goal.returns-then-work-at
+returns-then-work-at c =
+    first-yes c.args.lay c.args.stamp c.args.work.now c.args.line _ _ c.line_stamps_at.ensures c.heads_at.ensures c.if-work-at.true

@@ -14,7 +14,7 @@ pub returns : goal.returns
 returns c =
     finished
     (lent c.args.counts c.args.tables.now c.args.built.now c.args.transfers.now c.args.patterns.now c.args.distances.now c.args.query.now)
-    c.args.rust
+    c.args.mode
     (query_areas c.args.labels.now c.args.label_distances.now c.args.work.now c.args.queue_a.now c.args.queue_b.now c.args.candidates.now)
     c.requires
     c.search-h.ensures

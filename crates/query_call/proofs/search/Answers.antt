@@ -29,4 +29,4 @@ rounds-requires c =
 
 pub returns : goal.returns
 returns c =
-    ended c.args.rust c.rounds.ensures (c.in_use-flagged.ensures c.args.distances.now c.args.query.now (c.net_of-net.ensures _ _ c.requires.admitted (lends c.requires.admitted)) (sym c.flags_off-flags_off.ensures)) c.lay_for-lay.ensures
+    ended c.args.mode c.rounds.ensures (c.in_use-flagged.ensures c.args.distances.now c.args.query.now (c.net_of-net.ensures _ _ c.requires.admitted (lends c.requires.admitted)) (sym c.flags_off-flags_off.ensures)) c.lay_for-lay.ensures

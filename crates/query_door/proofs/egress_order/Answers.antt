@@ -1,21 +1,11 @@
-use Rattle.loops.proofs.Iter.{every_again, every_left, every_no}
-use Rattle.query_door.specs.Door.{column_rises}
-use native.Mathlib.Omega.{arith}
-use mathlib.Core.Path.{◌∙◌, refl, sym}
+use Rattle.std.proofs.Common.{rules, refl}
+use Prim.Native.Nat.{◌-◌}
+use lib.Dec.{ltb}
+use Rattle.loops.proofs.Chains.{every_from_all}
+use Rattle.query_door.specs.Door.{column_at, column_rises}
+use borrow.Author.Tests.{tests}
 use Rattle.query_door.proofs.egress_order.Goals as goal
 
-pub loop-i-init : goal.loop-i-init
-unfolding column_rises
-loop-i-init c = (omega arith, refl)
-
-pub stop_rises-requires : goal.stop_rises-requires
-stop_rises-requires c = record { i_above = omega arith; at_bound = omega (arith, c.requires) }
-
-pub returns-then-not-stop_rises : goal.returns-then-not-stop_rises
-returns-then-not-stop_rises c = every_no _ _ _ c.loop-i.invariant.1 (sym c.stop_rises.ensures ∙ c.if-not-stop_rises.true) (omega arith)
-
-pub loop-i-preserved : goal.loop-i-preserved
-loop-i-preserved c = (omega arith, every_again _ _ _ c.loop-i.invariant.1 (sym c.stop_rises.ensures ∙ c.if-not-stop_rises.false) (omega arith))
-
 pub returns : goal.returns
-returns c = every_left _ _ _ c.loop-i.invariant.1 (omega arith)
+unfolding column_rises
+returns c = every_from_all _ _ _ (λ k. ltb (column_at c.args.query.now c.args.at 2 (k - 1)) (column_at c.args.query.now c.args.at 2 k)) 1 _ refl c.all.ensures.ran (λ x b q k. search (rules, tests))

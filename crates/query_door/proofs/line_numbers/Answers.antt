@@ -14,8 +14,3 @@ column_below-lines-requires c = record { inside = λ i l. omega (arith, c.requir
 
 pub entries_ok-entries-requires : goal.entries_ok-entries-requires
 entries_ok-entries-requires c = ap length c.line_entries.ensures ∙ entries_size c.args.built.now c.args.counts c.requires.marks_at
-
-pub returns : goal.returns
-unfolding line_numbers
-returns c =
-    c.both.ensures ∙ ap₂ ◌&&◌ c.column_below-lines.ensures (c.entries_ok-entries.ensures ∙ ap (λ (l : List ℕ). entries_ok c.args.counts.timetable l c.args.counts.entries) c.line_entries.ensures)

@@ -27,10 +27,5 @@ line_numbers-requires c = record { limits = c.requires.limits; marks_at = marks_
 pub query_numbers-requires : goal.query_numbers-requires
 query_numbers-requires c = record { limits = c.requires.limits; query_size = query_room c.requires.read_sized }
 
-pub delays_ok-requires : goal.delays_ok-requires
-delays_ok-requires c = record { limits = c.requires.limits; query_size = query_room c.requires.read_sized }
-
-pub returns : goal.returns
-unfolding query_question4
-returns c =
-    c.both-4.ensures ∙ ap₂ ◌&&◌ (c.both.ensures ∙ ap₂ ◌&&◌ c.numbers_ok.ensures c.line_numbers.ensures) (c.both-3.ensures ∙ ap₂ ◌&&◌ (c.listed_ok-listed.ensures ∙ ap₂ (λ (a b : List ℕ). listed_ok c.args.tables.now c.args.counts.timetable a b c.args.counts.departures) c.stop_runs.ensures c.departure_rows.ensures) (c.both-2.ensures ∙ ap₂ ◌&&◌ c.query_numbers.ensures c.delays_ok.ensures))
+pub delay_numbers-requires : goal.delay_numbers-requires
+delay_numbers-requires c = record { limits = c.requires.limits; query_size = query_room c.requires.read_sized }

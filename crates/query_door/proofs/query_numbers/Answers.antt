@@ -15,7 +15,3 @@ overflow_add-counts c = omega (arith, c.requires.limits.origins)
 
 pub column_below-egress-requires : goal.column_below-egress-requires
 column_below-egress-requires c = record { inside = λ i l. omega (arith, c.requires.query_size) }
-
-pub returns : goal.returns
-unfolding query_numbers
-returns c = c.both.ensures ∙ ap₂ ◌&&◌ c.column_below-origins.ensures c.column_below-egress.ensures

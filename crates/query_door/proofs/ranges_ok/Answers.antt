@@ -20,10 +20,5 @@ query_ranges-requires c = omega (arith, query_room c.requires.read_sized)
 pub walk_ranges-requires : goal.walk_ranges-requires
 walk_ranges-requires c = record { limits = c.requires.limits; query_size = query_room c.requires.read_sized }
 
-pub delays_ok-requires : goal.delays_ok-requires
-delays_ok-requires c = record { limits = c.requires.limits; query_size = query_room c.requires.read_sized }
-
-pub returns : goal.returns
-unfolding query_question5
-returns c =
-    c.both-4.ensures ∙ ap₂ ◌&&◌ (c.both-ranged.ensures ∙ ap₂ ◌&&◌ c.ranges_ok.ensures (c.both.ensures ∙ ap₂ ◌&&◌ c.mark_ranges.ensures c.transfer_ranges.ensures)) (c.both-3.ensures ∙ ap₂ ◌&&◌ c.query_ranges.ensures (c.both-2.ensures ∙ ap₂ ◌&&◌ c.walk_ranges.ensures c.delays_ok.ensures))
+pub delay_ranges-requires : goal.delay_ranges-requires
+delay_ranges-requires c = record { limits = c.requires.limits; query_size = query_room c.requires.read_sized }

@@ -31,8 +31,3 @@ runs_ok-requires c = record { counts_ok = c.requires.limits.counts; slices_ok = 
 pub transfer_runs_ok-requires : goal.transfer_runs_ok-requires
 transfer_runs_ok-requires c =
     record { limits = c.requires.limits; transfer_runs_at = omega (arith, c.requires.built_length, c.event_count-events.ensures.value); transfer_rows_bound = c.requires.transfer_rows_bound }
-
-pub returns : goal.returns
-unfolding query_question3
-returns c =
-    c.both-3.ensures ∙ ap₂ ◌&&◌ (c.both.ensures ∙ ap₂ ◌&&◌ c.runs_ok.ensures (c.line_runs_ok-lines.ensures ∙ ap (λ (l : List ℕ). line_runs_ok l c.args.counts.lines c.args.counts.entries) c.line_runs.ensures)) (c.both-2.ensures ∙ ap₂ ◌&&◌ (c.stop_runs_ok-stops.ensures ∙ ap (λ (l : List ℕ). stop_runs_ok l c.args.counts.timetable c.args.counts.departures) c.stop_runs.ensures) (c.transfer_runs_ok.ensures ∙ ap (λ (e : ℕ). transfer_runs_ok c.args.built.now c.args.counts e c.args.transfer_rows) c.event_count-events.ensures.value))

@@ -14,7 +14,7 @@ loop-k-init c = (omega arith, refl)
 
 pub loop-k-preserved : goal.loop-k-preserved
 loop-k-preserved c =
-    let l = c.loop-k in (omega arith, every_keep (λ i. ltb (column_at c.args.transfers.now 2 4 i) (time_limit + 1)) l.k c.args.transfer_rows (leb l.bits 1048575) l.invariant.1 (time_kept l.bits c.word-bits.result (column_at c.args.transfers.now 2 4 l.k) c.word-bits.ensures) (omega arith))
+    let l = c.loop-k in (omega arith, every_keep (λ i. ltb (column_at c.args.transfers.now 2 4 i) (time_limit + 1)) l.k c.args.transfer_rows (leb l.bits 1048575) l.invariant.1 (time_kept l.bits _ (column_at c.args.transfers.now 2 4 l.k) refl) (omega arith))
 
 pub returns : goal.returns
 returns c =

@@ -19,6 +19,6 @@ pub not_before-requires : goal.not_before-requires
 not_before-requires c =
     subst (λ (l : List ℕ). RowsOrdered c.args.tables.now c.args.counts.timetable l (length l / 2)) (sym c.departures_at-list.ensures) c.requires.rows_ordered
 
-pub returns : goal.returns
-returns c =
+pub returns-else-has_freq : goal.returns-else-has_freq
+returns-else-has_freq c =
     let L = list_at c.args.built.now c.args.counts c.args.x in let whole = late_scanned c.args.tables.now c.args.counts.timetable L _ c.args.has_freq c.args.m c.departures_at-list.ensures c.if-has_freq.false c.not_before.result.now c.not_before.ensures.rows_ordered c.not_before.ensures.meaning in record { rows_known = whole.0; meaning = whole.1 }

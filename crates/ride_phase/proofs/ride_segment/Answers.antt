@@ -1,13 +1,9 @@
 use Rattle.ride_phase.proofs.Segmented.{segment_barred, segment_ready, segment_ridden, segment_riding, segment_trip}
 use mathlib.Core.Path.{◌∙◌, sym}
-use native.Mathlib.Omega.{arith}
 use Prim.Native.Nat.{◌-◌}
 use mathlib.Core.Path.{ap}
 use mathlib.Core.Bool.{not}
 use Rattle.ride_phase.proofs.ride_segment.Goals as goal
-
-pub ride_of-ride-requires : goal.ride_of-ride-requires
-ride_of-ride-requires c = omega (arith, c.requires.segments.room)
 
 pub permitted-requires : goal.permitted-requires
 permitted-requires c =

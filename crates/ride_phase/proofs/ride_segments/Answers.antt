@@ -32,9 +32,6 @@ pub returns-then-g : goal.returns-then-g
 returns-then-g c =
     let p = c.loop-k.invariant in ride_over (λ T Q. segments_from T Q c.args.p.context.flagged (c.args.p.stamp - 2) c.args.p.stamp c.args.from.now c.args.m (c.loop-k.k + 1)) p c.ride_segment-g.ensures (λ T Q y. rides_kept c.requires.going.laid p.kept y) (λ T Q y s e. segments_turn T Q c.args.p.context.flagged (c.args.p.stamp - 2) c.args.p.stamp c.args.from.now c.args.m c.loop-k.k s c.loop-k-test.true) c.if-g.true (λ T Q s. (segments_later T Q c.args.p.context.flagged (c.args.p.stamp - 2) c.args.p.stamp _ s).queue)
 
-pub overflow_add-k : goal.overflow_add-k
-overflow_add-k c = omega (arith, c.ranges.m.fits, c.loop-k-test.true)
-
 pub loop-k-preserved : goal.loop-k-preserved
 loop-k-preserved c =
     let p = c.loop-k.invariant in ride_turn _ p c.ride_segment-g.ensures (λ T Q y. rides_kept c.requires.going.laid p.kept y) (λ T Q y s e. segments_turn T Q c.args.p.context.flagged (c.args.p.stamp - 2) c.args.p.stamp c.args.from.now c.args.m c.loop-k.k s c.loop-k-test.true) c.if-g.false

@@ -10,7 +10,3 @@ use Rattle.ride_phase.proofs.ride_segments.Given as goal
 abbrev pub invariant-loop-k : goal.invariant-loop-k
 invariant-loop-k l =
     Riding l.p.context.lay l.p.stamp (Rides l.p.context (slices l.tables l.delay_rows l.stop_rows l.built l.patterns l.transfers) l.initial.work) (λ T Q. ride_segments T Q l.p.context.flagged (l.p.stamp - 2) l.p.stamp (queue_of l.from l.m)) (λ T Q. segments_from T Q l.p.context.flagged (l.p.stamp - 2) l.p.stamp l.from l.m l.k) (memory l.initial.work l.initial.labels l.initial.label_distances l.initial.g) (memory l.work l.labels l.label_distances l.g) l.initial.queue l.queue
-
-abbrev pub decreases-loop-k : goal.decreases-loop-k
-decreases-loop-k l =
-    l.m - l.k

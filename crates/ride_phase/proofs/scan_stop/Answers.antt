@@ -4,12 +4,6 @@ use native.Mathlib.Omega.{arith}
 use Prim.Native.Nat.{◌-◌}
 use Rattle.ride_phase.proofs.scan_stop.Goals as goal
 
-pub bounds-work-x : goal.bounds-work-x
-bounds-work-x c = omega (arith, c.requires.x_bound, c.requires.going.laid.netted.stops, c.requires.going.ready.sized.sections.words)
-
-pub overflow_add-after : goal.overflow_add-after
-overflow_add-after c = omega (arith, c.requires.work_word, c.requires.change_bound)
-
 pub returns-then-h-after : goal.returns-then-h-after
 returns-then-h-after c =
     stop_late c.requires.going c.args.p.context.flagged (c.args.p.stamp - 2) c.args.p.change c.args.x c.requires.x_bound c.requires.work_word c.if-h-after.true
@@ -20,9 +14,6 @@ marked-has_freq-requires c = record { limits = c.requires.going.laid.limits; mar
 pub departures_from-list-requires : goal.departures_from-list-requires
 departures_from-list-requires c =
     record { limits = c.requires.going.laid.limits; marks_at = omega (arith, c.requires.going.laid.long); runs_listed = c.requires.going.laid.listed.stops; x_bound = c.requires.x_bound; rows_ordered = list_ordered c.requires.going.laid c.args.x c.requires.x_bound _ refl }
-
-pub overflow_cast-stop : goal.overflow_cast-stop
-overflow_cast-stop c = omega (arith, c.requires.x_bound, c.requires.going.laid.netted.stops, c.requires.going.ready.sized.sections.stops)
 
 pub scan_departures-requires : goal.scan_departures-requires
 scan_departures-requires c =
@@ -42,4 +33,4 @@ shape_of-queue c = c.scan_departures.ensures.step.size
 
 pub returns : goal.returns
 returns c =
-    stop_scanned c.requires.going c.args.p.context.flagged (c.args.p.stamp - 2) c.args.p.change c.args.x c.requires.x_bound c.requires.work_word c.if-h-after.false _ refl c.marked-has_freq.result c.marked-has_freq.ensures _ c.less-from.ensures c.departures_from-list.result.now c.departures_from-list.ensures.meaning c.scan_departures.ensures
+    stop_scanned c.requires.going c.args.p.context.flagged (c.args.p.stamp - 2) c.args.p.change c.args.x c.requires.x_bound c.requires.work_word c.if-h-after.false _ refl c.marked-has_freq.result c.marked-has_freq.ensures _ c.saturating_sub-from.ensures c.departures_from-list.result.now c.departures_from-list.ensures.meaning c.scan_departures.ensures

@@ -51,10 +51,6 @@ pub returns-then-g : goal.returns-then-g
 returns-then-g c =
     let p = c.loop-i.invariant in ride_over (λ T Q. scan_stops T Q c.args.p.context.flagged (c.args.p.stamp - 2) c.args.p.stamp (drop (c.loop-i.i + 1) (part c.args.work.now c.args.p.context.lay.other c.args.count))) p c.scan_stop-g.ensures (λ T Q y. changing_kept c.requires.going.laid p.kept y) (λ T Q y s v. stops_turn T Q c.args.p.context.flagged (c.args.p.stamp - 2) c.args.p.stamp (part c.args.work.now c.args.p.context.lay.other c.args.count) c.loop-i.i _ s (other_in c.loop-i.i c.requires.stops_listed (kept_other p.kept) c.loop-i-test.true) (omega (arith, other_length c.requires.stops_listed c.requires.going.ready.sized.sections, c.loop-i-test.true))) c.if-g.true (λ T Q s. (stops_later T Q c.args.p.context.flagged (c.args.p.stamp - 2) c.args.p.stamp _ s).queue)
 
-pub overflow_add-i : goal.overflow_add-i
-overflow_add-i c =
-    let p = c.loop-i.invariant in let W = listed_kept c.requires.stops_listed (kept_other p.kept) p.falls in let s = p.ready.sized.sections in omega (arith, W.few, s.stops, c.loop-i-test.true)
-
 pub loop-i-preserved : goal.loop-i-preserved
 loop-i-preserved c =
     let p = c.loop-i.invariant in ride_turn _ p c.scan_stop-g.ensures (λ T Q y. changing_kept c.requires.going.laid p.kept y) (λ T Q y s v. stops_turn T Q c.args.p.context.flagged (c.args.p.stamp - 2) c.args.p.stamp (part c.args.work.now c.args.p.context.lay.other c.args.count) c.loop-i.i _ s (other_in c.loop-i.i c.requires.stops_listed (kept_other p.kept) c.loop-i-test.true) (omega (arith, other_length c.requires.stops_listed c.requires.going.ready.sized.sections, c.loop-i-test.true))) c.if-g.false

@@ -7,9 +7,9 @@ round-requires c = let qa = c.args.queue_a.now in let qb = c.args.queue_b.now in
 pub returns-then-at : goal.returns-then-at
 returns-then-at c = let qa = c.args.queue_a.now in let qb = c.args.queue_b.now in even_close qa qb c.args.at.even _ _ c.if-at.true c.round.ensures
 
-pub round-requires-2 : goal.round-requires-2
-round-requires-2 c = let qa = c.args.queue_a.now in let qb = c.args.queue_b.now in odd_open qa qb c.args.at.even c.if-at.false c.requires
+pub round-requires-else-at : goal.round-requires-else-at
+round-requires-else-at c = let qa = c.args.queue_a.now in let qb = c.args.queue_b.now in odd_open qa qb c.args.at.even c.if-at.false c.requires
 
-pub returns : goal.returns
-returns c =
-    let qa = c.args.queue_a.now in let qb = c.args.queue_b.now in odd_close qa qb c.args.at.even _ _ c.if-at.false c.round-2.ensures
+pub returns-else-at : goal.returns-else-at
+returns-else-at c =
+    let qa = c.args.queue_a.now in let qb = c.args.queue_b.now in odd_close qa qb c.args.at.even _ _ c.if-at.false c.round-else-at.ensures

@@ -7,12 +7,6 @@ pub loop-k-init : goal.loop-k-init
 loop-k-init c =
     (omega arith, c.requires.work_sized, c.requires.egress_rows, rw (rows_end c.args.query.now c.args.first c.args.n) c.requires.egressed)
 
-pub overflow_mul-k : goal.overflow_mul-k
-overflow_mul-k c = let v = c.loop-k.invariant in omega (arith, v.2.room)
-
-pub overflow_add-first : goal.overflow_add-first
-overflow_add-first c = let v = c.loop-k.invariant in omega (arith, v.2.room)
-
 pub put_egress-requires : goal.put_egress-requires
 put_egress-requires c =
     let v = c.loop-k.invariant in let k = c.loop-k.k - 1 in let h : k < c.args.n = omega (arith, v.0) in record { work_sized = v.1; at_bound = omega (arith, v.2.room); query_word = v.2.stop k h; query_word_2 = v.2.walk k h }

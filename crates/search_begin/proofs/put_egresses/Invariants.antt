@@ -7,6 +7,3 @@ use Rattle.search_begin.proofs.put_egresses.Given as goal
 
 abbrev pub invariant-loop-k : goal.invariant-loop-k
 invariant-loop-k l = (l.k ≤ l.n) × WorkSized l.lay (length l.work) × EgressRows l.lay l.query l.first l.n × Egressed (tab_from (egress_row_from l.query l.first) l.k (l.n - l.k)) l.lay l.initial.work l.work
-
-abbrev pub decreases-loop-k : goal.decreases-loop-k
-decreases-loop-k l = l.k

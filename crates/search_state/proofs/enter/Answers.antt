@@ -1,13 +1,5 @@
-use native.Mathlib.Omega.{arith}
-use lib.ListN.{length-set}
 use Rattle.search_state.proofs.Marking.{entered_at}
 use Rattle.search_state.proofs.enter.Goals as goal
-
-pub bounds-work-at : goal.bounds-work-at
-bounds-work-at c = simp length-set (omega arith)
-
-pub bounds-work-end : goal.bounds-work-end
-bounds-work-end c = simp length-set (omega arith)
 
 pub returns : goal.returns
 returns c =

@@ -1,14 +1,9 @@
 use lib.Ieee
-use native.Mathlib.Omega.{arith}
 use mathlib.Core.Path.{◌≡◌, ◌∙◌}
 use Rattle.model.specs.Tables.{no_windows}
 use Rattle.search_state.specs.Places.{EgressTable}
 use Rattle.search_state.proofs.Queue.{queue_step, queue_then}
 use Rattle.search_state.proofs.transfer.Goals as goal
-
-pub enqueue-requires : goal.enqueue-requires
-enqueue-requires c =
-    record { work_sized = c.relax-x.ensures.ready.sized.sections; trip_bound = c.requires.trip_bound; queued_bound = omega (arith, c.relax-x.ensures.queued, c.requires.queued_bound) }
 
 pub returns : goal.returns
 unfolding Ieee.of_bits

@@ -1,6 +1,9 @@
-use Rattle.tables.specs.Door.{order_ok}
+use Rattle.std.proofs.Common.{rules, refl}
+use Rattle.tables.specs.Door.{EdgeOrder, row_ok, order_ok}
+use Rattle.loops.proofs.Chains.{every_from_all}
+use borrow.Author.Tests.{tests}
 use Rattle.tables.proofs.order_ok.Goals as goal
 
 pub returns : goal.returns
 unfolding order_ok
-returns c = c.every_row.ensures
+returns c = every_from_all _ _ _ (row_ok c.args.tables.now c.args.c EdgeOrder) 0 _ refl c.all.ensures.ran (λ x b q k. search (rules, tests))

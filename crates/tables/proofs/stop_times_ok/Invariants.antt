@@ -1,4 +1,3 @@
-use Prim.Native.Nat.{◌-◌, ◌≤◌}
 use mathlib.Core.Path.{◌≡◌}
 use mathlib.Core.Bool.{◌&&◌}
 use Rattle.loops.specs.Iter.{every_in}
@@ -6,7 +5,4 @@ use Rattle.tables.proofs.Yes.{in_range, kept}
 use Rattle.tables.proofs.stop_times_ok.Given as goal
 
 abbrev pub invariant-loop-i : goal.invariant-loop-i
-invariant-loop-i l = (l.n ≡ l.c.times) × (l.i ≤ l.n) × (every_in (in_range l.tables l.c) 0 l.c.times ≡ kept l.c l.stops l.times l.codes && every_in (in_range l.tables l.c) l.i l.n)
-
-abbrev pub decreases-loop-i : goal.decreases-loop-i
-decreases-loop-i l = l.n - l.i
+invariant-loop-i l = every_in (in_range l.tables l.c) 0 l.c.times ≡ kept l.c l.stops l.times l.codes && every_in (in_range l.tables l.c) l.i l.i-end

@@ -1,11 +1,9 @@
 use Rattle.target_resolving.proofs.Lines.{line_past, line_known}
-use native.Mathlib.Omega.{arith}
+use mathlib.Core.Path.{refl}
 use Rattle.target_resolving.proofs.line_at.Goals as goal
 
-pub returns-then-c-trip : goal.returns-then-c-trip
-returns-then-c-trip c =
-    record { bound = omega arith; bound_2 = λ l. absurd (omega arith); meaning = λ T n work e h. line_past T c.args.c n c.args.built.now work e h c.args.trip c.if-c-trip.true }
+pub returns-then-trip-c-clause-meaning : goal.returns-then-trip-c-clause-meaning
+returns-then-trip-c-clause-meaning c = λ T n work e h. line_known T c.args.c n c.args.built.now work e h c.args.trip _ c.if-trip-c.true refl
 
-pub returns : goal.returns
-returns c =
-    record { bound = c.field.ensures.bound; bound_2 = λ l. c.if-c-trip.false; meaning = λ T n work e h. line_known T c.args.c n c.args.built.now work e h c.args.trip _ c.if-c-trip.false c.field.ensures.value }
+pub returns-else-trip-c-clause-meaning : goal.returns-else-trip-c-clause-meaning
+returns-else-trip-c-clause-meaning c = λ T n work e h. line_past T c.args.c n c.args.built.now work e h c.args.trip c.if-trip-c.false

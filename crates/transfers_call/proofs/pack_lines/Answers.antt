@@ -15,7 +15,7 @@ pack_line-requires c =
 
 pub loop-k-preserved : goal.loop-k-preserved
 loop-k-preserved c =
-    (simp length-set (omega arith), simp length-set (omega arith), fill_again (packed_line_at c.args.tables.now c.args.c c.args.lines.now c.args.rows.now) c.loop-k.k c.loop-k.work _ c.loop-k.invariant.2 (ap (set c.loop-k.work c.loop-k.k) (c.pack_line.ensures ∙ ap (pack_line _ _ _) c.departure_row.ensures)) (omega arith))
+    (omega arith, simp length-set (omega arith), fill_again (packed_line_at c.args.tables.now c.args.c c.args.lines.now c.args.rows.now) c.loop-k.k c.loop-k.work _ c.loop-k.invariant.2 (ap (set c.loop-k.work c.loop-k.k) (c.pack_line.ensures ∙ ap (pack_line _ _ _) c.departure_row.ensures)) (omega arith))
 
 pub returns : goal.returns
 returns c =

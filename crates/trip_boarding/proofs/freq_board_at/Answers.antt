@@ -1,16 +1,8 @@
 use Rattle.tables.specs.Tables.{first_of}
-use Rattle.trip_boarding.proofs.Laws.{event_time, part_board, part_fits, part_nominal}
+use Rattle.trip_boarding.proofs.Laws.{event_time, part_board, part_nominal}
 use native.Mathlib.Omega.{arith}
 use Prim.Native.Nat.{ℕ, ◌+◌, ◌*◌}
 use Rattle.trip_boarding.proofs.freq_board_at.Goals as goal
-
-pub event_word-base-requires : goal.event_word-base-requires
-event_word-base-requires c =
-    record { sane = c.requires.sane; event = record { trip = c.requires.trip_bound; offset = c.requires.sane.runs.some c.args.trip c.requires.trip_bound }; k_bound = omega arith }
-
-pub slice_bounds-earliest_freq_board-end : goal.slice_bounds-earliest_freq_board-end
-slice_bounds-earliest_freq_board-end c =
-    let from : ℕ = c.args.c.times * 6 + c.args.c.trips * 8 + c.trip.result * 3 in part_fits c.args.tables.now c.args.c c.args.trip from (from + c.trip-2.result * 3) c.requires.sane c.requires.trip_bound (omega (arith, c.trip.ensures.value)) (omega (arith, c.trip-2.ensures.value))
 
 pub earliest_freq_board-requires : goal.earliest_freq_board-requires
 earliest_freq_board-requires c =

@@ -14,7 +14,3 @@ abbrev pub invariant-loop-o : goal.invariant-loop-o
 invariant-loop-o l =
     (l.n ≡ count_of l.tables l.s.context.counts.timetable l.s.ride.trip) × (l.trip ≡ l.s.ride.trip) × Along l.s.context.lay l.s.ride.stamp (Reads l.tables l.s.context.counts.timetable l.delay_rows l.stop_rows l.s.context.lay l.initial.work) (λ T Q. alightings T Q l.s.ride.stamp (hit_of l.s.adj) l.s.ride.shift l.s.ride.trip l.s.ride.stop l.s.ride.offset (stop_count T l.s.ride.trip - l.p) l.p)
     (λ T Q. alight_from T Q l.s.ride.stamp (hit_of l.s.adj) l.s.ride.shift l.s.ride.trip l.s.ride.stop l.s.ride.offset l.n l.o) (memory l.initial.work l.initial.labels l.initial.label_distances l.initial.x) (memory l.work l.labels l.label_distances l.x)
-
-abbrev pub decreases-loop-o : goal.decreases-loop-o
-decreases-loop-o l =
-    l.n - l.o

@@ -5,10 +5,10 @@ use Rattle.trip_scan.proofs.Alighting.{stop_read}
 use Rattle.trip_scan.specs.Scan.{RunIn}
 use Rattle.event_transfers.specs.Transfers.{Transfer, transfers_at}
 use Rattle.model.specs.Search.{take_transfers}
-use mathlib.Core.Path.{◌∙◌, sym, ap, ap₂, subst}
+use mathlib.Core.Path.{◌∙◌, sym, ap, ap₂, subst, refl}
 use mathlib.Core.List.{List}
 use native.Mathlib.Omega.{arith}
-use Prim.Native.Nat.{ℕ}
+use Prim.Native.Nat.{ℕ, ◌+◌}
 use Rattle.trip_scan.proofs.take_event.Goals as goal
 
 pub overflow_cast-trip : goal.overflow_cast-trip
@@ -26,41 +26,49 @@ pub time-from-requires : goal.time-from-requires
 time-from-requires c =
     let k = c.requires.netted.ground.sane.runs.run c.args.s.ride.trip c.requires.event.trip in record { counts_ok = c.requires.netted.ground.sane.counts; slices_ok = c.requires.netted.ground.sane.slices; i_bound = omega (arith, c.trip-i.ensures.value, k, c.requires.event.offset); k_bound = omega arith }
 
-pub overflow_add-s : goal.overflow_add-s
-overflow_add-s c =
-    let k = c.requires.netted.ground.sane.runs.run c.args.s.ride.trip c.requires.event.trip in omega (arith, c.requires.netted.events, c.requires.ready.sized.sections.words, c.requires.ready.sized.sections.stops, c.requires.ready.sized.sections.trips, c.requires.ready.sized.sections.lines, c.requires.event.trip)
-
-pub field-requires : goal.field-requires
-field-requires c =
-    let k = c.requires.netted.ground.sane.runs.run c.args.s.ride.trip c.requires.event.trip in omega (arith, c.requires.netted.events, c.requires.event.trip)
-
 pub overflow_add-at : goal.overflow_add-at
 overflow_add-at c =
-    let k = c.requires.netted.ground.sane.runs.run c.args.s.ride.trip c.requires.event.trip in omega (arith, c.field.ensures.bound, k, c.requires.event.offset, c.requires.netted.ground.sane.counts.times)
+    let k = c.requires.netted.ground.sane.runs.run c.args.s.ride.trip c.requires.event.trip in omega (arith, c.requires.netted.events, c.requires.ready.sized.sections.words, c.requires.ready.sized.sections.stops, c.requires.ready.sized.sections.trips, c.requires.ready.sized.sections.lines, c.requires.event.trip)
 
-pub overflow_mul-at : goal.overflow_mul-at
-overflow_mul-at c =
-    let k = c.requires.netted.ground.sane.runs.run c.args.s.ride.trip c.requires.event.trip in omega (arith, c.field.ensures.bound, k, c.requires.event.offset, c.requires.netted.ground.sane.counts.times)
+pub bounds-work-s : goal.bounds-work-s
+bounds-work-s c =
+    let k = c.requires.netted.ground.sane.runs.run c.args.s.ride.trip c.requires.event.trip in omega (arith, c.requires.netted.events, c.requires.event.trip)
 
 pub overflow_add-at-2 : goal.overflow_add-at-2
 overflow_add-at-2 c =
-    let k = c.requires.netted.ground.sane.runs.run c.args.s.ride.trip c.requires.event.trip in let z = c.requires.netted.words c.args.s.ride.trip c.args.off c.requires.event.trip c.requires.event.offset in omega (arith, z, c.field.ensures.value, c.well_formed.1.1.1.0.0)
+    let k = c.requires.netted.ground.sane.runs.run c.args.s.ride.trip c.requires.event.trip in omega (arith, c.type_inv.work (c.args.s.context.net.events + c.args.s.ride.trip), k, c.requires.event.offset, c.requires.netted.ground.sane.counts.times)
 
-pub field-first-requires : goal.field-first-requires
-field-first-requires c =
-    let k = c.requires.netted.ground.sane.runs.run c.args.s.ride.trip c.requires.event.trip in let z = c.requires.netted.words c.args.s.ride.trip c.args.off c.requires.event.trip c.requires.event.offset in omega (arith, z, c.field.ensures.value)
+pub overflow_mul-at : goal.overflow_mul-at
+overflow_mul-at c =
+    let k = c.requires.netted.ground.sane.runs.run c.args.s.ride.trip c.requires.event.trip in omega (arith, c.type_inv.work (c.args.s.context.net.events + c.args.s.ride.trip), k, c.requires.event.offset, c.requires.netted.ground.sane.counts.times)
 
 pub overflow_add-at-3 : goal.overflow_add-at-3
 overflow_add-at-3 c =
-    let k = c.requires.netted.ground.sane.runs.run c.args.s.ride.trip c.requires.event.trip in let z = c.requires.netted.words c.args.s.ride.trip c.args.off c.requires.event.trip c.requires.event.offset in omega (arith, z, c.field.ensures.value, c.well_formed.1.1.1.0.0)
+    let k = c.requires.netted.ground.sane.runs.run c.args.s.ride.trip c.requires.event.trip in let z = c.requires.netted.words c.args.s.ride.trip c.args.off c.requires.event.trip c.requires.event.offset in omega (arith, z, c.well_formed.1.1.1.0.0)
 
-pub field-length-requires : goal.field-length-requires
-field-length-requires c =
-    let k = c.requires.netted.ground.sane.runs.run c.args.s.ride.trip c.requires.event.trip in let z = c.requires.netted.words c.args.s.ride.trip c.args.off c.requires.event.trip c.requires.event.offset in omega (arith, z, c.field.ensures.value)
+pub bounds-built-at : goal.bounds-built-at
+bounds-built-at c =
+    let k = c.requires.netted.ground.sane.runs.run c.args.s.ride.trip c.requires.event.trip in let z = c.requires.netted.words c.args.s.ride.trip c.args.off c.requires.event.trip c.requires.event.offset in omega (arith, z)
+
+pub offset_bounds-built-at : goal.offset_bounds-built-at
+offset_bounds-built-at c =
+    let k = c.requires.netted.ground.sane.runs.run c.args.s.ride.trip c.requires.event.trip in let z = c.requires.netted.words c.args.s.ride.trip c.args.off c.requires.event.trip c.requires.event.offset in omega (arith, z, c.well_formed.1.1.1.0.0)
+
+pub overflow_add-length : goal.overflow_add-length
+overflow_add-length c =
+    let k = c.requires.netted.ground.sane.runs.run c.args.s.ride.trip c.requires.event.trip in let z = c.requires.netted.words c.args.s.ride.trip c.args.off c.requires.event.trip c.requires.event.offset in omega (arith, z, c.well_formed.1.1.1.0.0)
+
+pub bounds-built-at-2 : goal.bounds-built-at-2
+bounds-built-at-2 c =
+    let k = c.requires.netted.ground.sane.runs.run c.args.s.ride.trip c.requires.event.trip in let z = c.requires.netted.words c.args.s.ride.trip c.args.off c.requires.event.trip c.requires.event.offset in omega (arith, z)
+
+pub offset_bounds-built-at-2 : goal.offset_bounds-built-at-2
+offset_bounds-built-at-2 c =
+    let k = c.requires.netted.ground.sane.runs.run c.args.s.ride.trip c.requires.event.trip in let z = c.requires.netted.words c.args.s.ride.trip c.args.off c.requires.event.trip c.requires.event.offset in omega (arith, z, c.well_formed.1.1.1.0.0)
 
 pub take_transfers-requires : goal.take_transfers-requires
 take_transfers-requires c =
-    let k = c.requires.netted.ground.sane.runs.run c.args.s.ride.trip c.requires.event.trip in record { netted = c.requires.netted; run_in = subst (λ r. RunIn c.args.transfers.now r.first r.length) (run_read c.args.s.context.net c.args.built.now c.args.work.now c.args.s.ride.trip c.args.off _ _ _ c.field.ensures.value c.field-first.ensures.value c.field-length.ensures.value) (c.requires.netted.run c.args.s.ride.trip c.args.off c.requires.event.trip c.requires.event.offset); ready = c.requires.ready; is_open = c.requires.is_open; v_bound = c.requires.v_bound }
+    let k = c.requires.netted.ground.sane.runs.run c.args.s.ride.trip c.requires.event.trip in record { netted = c.requires.netted; run_in = subst (λ r. RunIn c.args.transfers.now r.first r.length) (run_read c.args.s.context.net c.args.built.now c.args.work.now c.args.s.ride.trip c.args.off _ _ _ refl refl refl) (c.requires.netted.run c.args.s.ride.trip c.args.off c.requires.event.trip c.requires.event.offset); ready = c.requires.ready; is_open = c.requires.is_open; v_bound = c.requires.v_bound }
 
 pub shape_of-work : goal.shape_of-work
 shape_of-work c = c.take_transfers.ensures.same.size
@@ -76,4 +84,4 @@ shape_of-queue c = c.take_transfers.ensures.size
 
 pub returns : goal.returns
 returns c =
-    let k = c.requires.netted.ground.sane.runs.run c.args.s.ride.trip c.requires.event.trip in queue_as _ c.take_transfers.ensures (λ T Q y. y) (λ T Q y. ap₂ (λ (s : ℕ) (l : List Transfer). take_transfers T Q c.args.s.ride.stamp c.args.v s l (arrivals_of c.args.s.context.lay (memory c.args.work.now c.args.labels.now c.args.label_distances.now c.args.h) c.args.queue.now)) (stop_read T c.args.tables.now c.args.s.context.counts.timetable c.args.s.ride.trip c.args.off _ _ y.agree.timetable c.trip-i.ensures.value c.time-from.ensures.value) (sym (y.transfers c.args.s.ride.trip c.args.off c.requires.event.trip c.requires.event.offset ∙ ap (transfers_at c.args.transfers.now) (run_read c.args.s.context.net c.args.built.now c.args.work.now c.args.s.ride.trip c.args.off _ _ _ c.field.ensures.value c.field-first.ensures.value c.field-length.ensures.value))))
+    let k = c.requires.netted.ground.sane.runs.run c.args.s.ride.trip c.requires.event.trip in queue_as _ c.take_transfers.ensures (λ T Q y. y) (λ T Q y. ap₂ (λ (s : ℕ) (l : List Transfer). take_transfers T Q c.args.s.ride.stamp c.args.v s l (arrivals_of c.args.s.context.lay (memory c.args.work.now c.args.labels.now c.args.label_distances.now c.args.h) c.args.queue.now)) (stop_read T c.args.tables.now c.args.s.context.counts.timetable c.args.s.ride.trip c.args.off _ _ y.agree.timetable c.trip-i.ensures.value c.time-from.ensures.value) (sym (y.transfers c.args.s.ride.trip c.args.off c.requires.event.trip c.requires.event.offset ∙ ap (transfers_at c.args.transfers.now) (run_read c.args.s.context.net c.args.built.now c.args.work.now c.args.s.ride.trip c.args.off _ _ _ refl refl refl))))

@@ -1,62 +1,31 @@
 use Rattle.trip_scan.proofs.Taking.{take_skip, take_none, take_some, boards_in}
 use Rattle.trip_scan.proofs.Queuing.{queue_as, queue_none}
 use Rattle.event_transfers.specs.Transfers.{transfer_at}
-use Rattle.model.specs.Search.{holds_target}
 use native.Mathlib.Omega.{arith}
 use mathlib.Core.Path.{◌≡◌, ◌∙◌, ap, refl, sym}
 use Prim.Native.Nat.{◌+◌}
 use mathlib.Core.Bool.{not}
 use Rattle.trip_scan.proofs.take_transfer.Goals as goal
 
-pub overflow_mul-at : goal.overflow_mul-at
-overflow_mul-at c = omega (arith, c.requires.run_in.near, c.requires.run_in.inside)
-
-pub overflow_add-at : goal.overflow_add-at
-overflow_add-at c = omega (arith, c.requires.run_in.near, c.requires.run_in.inside)
-
-pub field-requires : goal.field-requires
-field-requires c = omega (arith, c.requires.run_in.near, c.requires.run_in.inside)
-
 pub returns-then-not-holds_target : goal.returns-then-not-holds_target
 returns-then-not-holds_target c =
-    queue_none _ _ _ c.requires.ready c.requires.is_open (λ T Q y. take_skip T Q c.args.s.ride.stamp c.args.v c.args.from (transfer_at c.args.transfers.now c.args.k) _ _ (c.holds_target.ensures T Q y.patterned y.target ∙ ap (holds_target T Q) c.field.ensures.value) (ap not c.if-not-holds_target.true))
-
-pub overflow_add-time : goal.overflow_add-time
-overflow_add-time c = omega (arith, c.requires.run_in.near, c.requires.run_in.inside)
-
-pub offset_bounds-transfers-at : goal.offset_bounds-transfers-at
-offset_bounds-transfers-at c = omega (arith, c.requires.run_in.near, c.requires.run_in.inside)
-
-pub bounds-transfers-at : goal.bounds-transfers-at
-bounds-transfers-at c = omega (arith, c.requires.run_in.near, c.requires.run_in.inside)
-
-pub overflow_add-at-2 : goal.overflow_add-at-2
-overflow_add-at-2 c = omega (arith, c.requires.run_in.near, c.requires.run_in.inside)
-
-pub field-off-requires : goal.field-off-requires
-field-off-requires c = omega (arith, c.requires.run_in.near, c.requires.run_in.inside)
-
-pub offset_bounds-transfers-at-2 : goal.offset_bounds-transfers-at-2
-offset_bounds-transfers-at-2 c = omega (arith, c.requires.run_in.near, c.requires.run_in.inside)
-
-pub bounds-transfers-at-2 : goal.bounds-transfers-at-2
-bounds-transfers-at-2 c = omega (arith, c.requires.run_in.near, c.requires.run_in.inside)
+    queue_none _ _ _ c.requires.ready c.requires.is_open (λ T Q y. take_skip T Q c.args.s.ride.stamp c.args.v c.args.from (transfer_at c.args.transfers.now c.args.k) _ _ (c.holds_target.ensures T Q y.patterned y.target) (ap not c.if-not-holds_target.true))
 
 pub overflow_add-v : goal.overflow_add-v
 overflow_add-v c =
     let s = c.requires.run_in.small 0 (omega arith) in let e : c.args.k + 0 ≡ c.args.k = omega arith in omega (arith, rw e at s, c.requires.v_bound)
 
-pub resolve-found-requires : goal.resolve-found-requires
-resolve-found-requires c =
+pub resolve-requires : goal.resolve-requires
+resolve-requires c =
     let s = c.requires.run_in.small 0 (omega arith) in let e : c.args.k + 0 ≡ c.args.k = omega arith in record { on_ground = c.requires.netted.ground; after_bound = omega (arith, rw e at s, c.requires.v_bound); lines_held = c.requires.netted.held }
 
 pub returns-in_default : goal.returns-in_default
 returns-in_default c =
-    queue_none _ _ _ c.requires.ready c.requires.is_open (λ T Q y. take_none T Q c.args.s.ride.stamp c.args.v c.args.from (transfer_at c.args.transfers.now c.args.k) _ _ _ (c.holds_target.ensures T Q y.patterned y.target ∙ ap (holds_target T Q) c.field.ensures.value) (ap not c.if-not-holds_target.false) c.in_default.is (c.resolve-found.ensures T Q _ y.agree y.asks y.lines (record { trip = refl; place = sym c.field-off.ensures.value })))
+    queue_none _ _ _ c.requires.ready c.requires.is_open (λ T Q y. take_none T Q c.args.s.ride.stamp c.args.v c.args.from (transfer_at c.args.transfers.now c.args.k) _ _ _ (c.holds_target.ensures T Q y.patterned y.target) (ap not c.if-not-holds_target.false) c.in_default.is (c.resolve.ensures T Q _ y.agree y.asks y.lines (record { trip = refl; place = refl })))
 
 pub take_boarding-requires : goal.take_boarding-requires
 take_boarding-requires c =
-    record { counts_agree = record { sane = c.requires.netted.ground.sane; stops = c.requires.netted.stops; trips = c.requires.netted.trips }; boarded_at = boards_in c.requires.netted.T c.requires.netted.Q c.requires.netted.door c.args.tables.now c.args.s.context.counts.timetable c.requires.netted.nets.agree.timetable (transfer_at c.args.transfers.now c.args.k) _ _ _ _ _ _ c.in-Trip.is (c.resolve-found.ensures c.requires.netted.T c.requires.netted.Q (transfer_at c.args.transfers.now c.args.k) c.requires.netted.nets.agree c.requires.netted.nets.asks c.requires.netted.nets.lines (record { trip = refl; place = sym c.field-off.ensures.value })) c.field-off.ensures.value; ready = c.requires.ready; is_open = c.requires.is_open }
+    record { counts_agree = record { sane = c.requires.netted.ground.sane; stops = c.requires.netted.stops; trips = c.requires.netted.trips }; boarded_at = boards_in c.requires.netted.T c.requires.netted.Q c.requires.netted.door c.args.tables.now c.args.s.context.counts.timetable c.requires.netted.nets.agree.timetable (transfer_at c.args.transfers.now c.args.k) _ _ _ _ _ c.in-Some.is (c.resolve.ensures c.requires.netted.T c.requires.netted.Q (transfer_at c.args.transfers.now c.args.k) c.requires.netted.nets.agree c.requires.netted.nets.asks c.requires.netted.nets.lines (record { trip = refl; place = refl })) refl; ready = c.requires.ready; is_open = c.requires.is_open }
 
 pub shape_of-work : goal.shape_of-work
 shape_of-work c = c.take_boarding.ensures.same.size
@@ -72,4 +41,4 @@ shape_of-queue c = c.take_boarding.ensures.size
 
 pub returns : goal.returns
 returns c =
-    queue_as _ c.take_boarding.ensures (λ T Q y. (y.egress, y.agree.timetable)) (λ T Q y. take_some T Q c.args.s.ride.stamp c.args.v c.args.from (transfer_at c.args.transfers.now c.args.k) _ _ _ _ _ _ (c.holds_target.ensures T Q y.patterned y.target ∙ ap (holds_target T Q) c.field.ensures.value) (ap not c.if-not-holds_target.false) c.in-Trip.is (c.resolve-found.ensures T Q (transfer_at c.args.transfers.now c.args.k) y.agree y.asks y.lines (record { trip = refl; place = sym c.field-off.ensures.value })) c.field-off.ensures.value)
+    queue_as _ c.take_boarding.ensures (λ T Q y. (y.egress, y.agree.timetable)) (λ T Q y. take_some T Q c.args.s.ride.stamp c.args.v c.args.from (transfer_at c.args.transfers.now c.args.k) _ _ _ _ _ (c.holds_target.ensures T Q y.patterned y.target) (ap not c.if-not-holds_target.false) c.in-Some.is (c.resolve.ensures T Q (transfer_at c.args.transfers.now c.args.k) y.agree y.asks y.lines (record { trip = refl; place = refl })) refl)

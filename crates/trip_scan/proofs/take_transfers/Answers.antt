@@ -3,15 +3,11 @@ use Prim.Native.Nat.{◌+◌}
 use mathlib.Core.Path.{◌∙◌, sym}
 use Rattle.trip_scan.proofs.Queuing.{queuing_start, queuing_turn, queuing_over, queuing_end}
 use Rattle.trip_scan.proofs.Keeping.{nets_kept, netted_kept, run_one}
-use native.Mathlib.Omega.{arith}
 use Rattle.trip_scan.proofs.take_transfers.Goals as goal
 
 pub loop-j-init : goal.loop-j-init
 loop-j-init c =
     queuing_start _ _ _ _ c.requires.ready c.requires.is_open (λ T Q y z. from_start T Q c.args.s.ride.stamp c.args.v c.args.from c.args.transfers.now c.args.run.first c.args.run.length z)
-
-pub overflow_add-k : goal.overflow_add-k
-overflow_add-k c = omega (arith, c.requires.run_in.near, c.loop-j-test.true)
 
 pub take_transfer-x-requires : goal.take_transfer-x-requires
 take_transfer-x-requires c =
@@ -32,12 +28,6 @@ shape_of-queue-then-x c = c.take_transfer-x.ensures.size ∙ c.loop-j.invariant.
 pub returns-then-x : goal.returns-then-x
 returns-then-x c =
     queuing_over (λ T Q. take_from T Q c.args.s.ride.stamp c.args.v c.args.from c.args.transfers.now c.args.run.first c.args.run.length (c.loop-j.j + 1)) c.loop-j.invariant c.take_transfer-x.ensures (λ T Q y. nets_kept c.loop-j.invariant.same c.requires.netted.past y) (λ T Q y. from_turn T Q c.args.s.ride.stamp c.args.v c.args.from c.args.transfers.now c.args.run.first c.args.run.length _ _ c.loop-j-test.true) c.if-x.true (λ T Q z. from_grows T Q c.args.s.ride.stamp c.args.v c.args.from c.args.transfers.now c.args.run.first c.args.run.length _ z)
-
-pub overflow_add-j : goal.overflow_add-j
-overflow_add-j c = omega (arith, c.requires.run_in.near, c.loop-j-test.true)
-
-pub loop-j-smaller : goal.loop-j-smaller
-loop-j-smaller c = omega (arith, c.loop-j-test.true)
 
 pub loop-j-preserved : goal.loop-j-preserved
 loop-j-preserved c =

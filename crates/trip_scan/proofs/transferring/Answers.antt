@@ -24,13 +24,6 @@ pub shut-requires : goal.shut-requires
 shut-requires c =
     let r = c.args.s.ride in let i = c.loop-o.invariant in record { on_ground = c.requires.riding.ground; known = c.requires.riding.known; event = record { trip = c.requires.riding.trip; offset = omega (arith, i.0, c.loop-o-test.true) } }
 
-pub overflow_add-o : goal.overflow_add-o
-overflow_add-o c =
-    let r = c.args.s.ride in let i = c.loop-o.invariant in omega (arith, i.0, c.loop-o-test.true, c.requires.riding.ground.sane.runs.run r.trip c.requires.riding.trip, c.requires.riding.ground.sane.counts.times)
-
-pub loop-o-smaller-then-shut : goal.loop-o-smaller-then-shut
-loop-o-smaller-then-shut c = omega (arith, c.loop-o-test.true)
-
 pub loop-o-preserved-then-shut : goal.loop-o-preserved-then-shut
 loop-o-preserved-then-shut c =
     let r = c.args.s.ride in let i = c.loop-o.invariant in (i.0, queuing_skip _ i.1 (λ T Q y. transfer_shut T Q r.stamp (hit_of c.args.s.adj) r.shift r.trip _ c.loop-o.o _ c.loop-o-test.true _ (c.shut.ensures T Q y.agree) c.if-shut.true))
@@ -74,13 +67,6 @@ shape_of-queue-then-x c = c.take_event-x.ensures.size ∙ c.loop-o.invariant.1.s
 pub returns-then-x : goal.returns-then-x
 returns-then-x c =
     let r = c.args.s.ride in let i = c.loop-o.invariant in queuing_over (λ T Q. transfer_from T Q r.stamp (hit_of c.args.s.adj) r.shift r.trip c.trip-n.result (c.loop-o.o + 1)) i.1 c.take_event-x.ensures (λ T Q y. nets_kept i.1.same c.requires.netted.past y) (λ T Q y. transfer_go T Q r.stamp (hit_of c.args.s.adj) r.shift r.trip _ c.loop-o.o _ c.loop-o-test.true _ (c.shut.ensures T Q y.agree) _ c.if-shut.false (c.arrival_now-v.ensures.meaning T Q y.agree) c.if-x-v.false) c.if-x.true (λ T Q z. transferring_grows T Q r.stamp (hit_of c.args.s.adj) r.shift r.trip _ _ z)
-
-pub overflow_add-o-in-loop-o : goal.overflow_add-o-in-loop-o
-overflow_add-o-in-loop-o c =
-    let r = c.args.s.ride in let i = c.loop-o.invariant in omega (arith, i.0, c.loop-o-test.true, c.requires.riding.ground.sane.runs.run r.trip c.requires.riding.trip, c.requires.riding.ground.sane.counts.times)
-
-pub loop-o-smaller : goal.loop-o-smaller
-loop-o-smaller c = omega (arith, c.loop-o-test.true)
 
 pub loop-o-preserved : goal.loop-o-preserved
 loop-o-preserved c =

@@ -1,4 +1,4 @@
-use mathlib.Core.Path.{refl, sym, ◌∙◌}
+use mathlib.Core.Path.{refl}
 use native.Mathlib.Omega.{arith}
 use Rattle.search_state.specs.Part.{part}
 use Rattle.walk_phase.proofs.Along.{along_start, along_turn, along_end}
@@ -10,26 +10,6 @@ use Rattle.walk_phase.proofs.walk_all.Goals as goal
 pub loop-i-init : goal.loop-i-init
 loop-i-init c = along_start _ _ _ c.requires.ready (λ T Q y z. refl)
 
-pub overflow_add-at : goal.overflow_add-at
-overflow_add-at c =
-    let p = c.loop-i.invariant in let s = p.step.ready.sized in let k = listed_kept c.requires.stops_listed (same_other p.step.same) p.falls in omega (arith, s.sections.other_fits, s.sections.stops, s.sections.trips, k.few)
-
-pub offset_bounds-work-at : goal.offset_bounds-work-at
-offset_bounds-work-at c =
-    let p = c.loop-i.invariant in let s = p.step.ready.sized in let k = listed_kept c.requires.stops_listed (same_other p.step.same) p.falls in omega (arith, s.sections.other_fits, s.sections.stops, s.sections.trips, k.few)
-
-pub bounds-work-at : goal.bounds-work-at
-bounds-work-at c =
-    let p = c.loop-i.invariant in let s = p.step.ready.sized in let k = listed_kept c.requires.stops_listed (same_other p.step.same) p.falls in omega (arith, s.sections.other_fits, s.sections.words, k.few)
-
-pub overflow_cast-x : goal.overflow_cast-x
-overflow_cast-x c =
-    let p = c.loop-i.invariant in let s = p.step.ready.sized in let k = listed_kept c.requires.stops_listed (same_other p.step.same) p.falls in let u = k.inside _ c.loop-i-test.true in omega (arith, u, s.sections.stops)
-
-pub offset_bounds-work-x : goal.offset_bounds-work-x
-offset_bounds-work-x c =
-    let p = c.loop-i.invariant in let s = p.step.ready.sized in let k = listed_kept c.requires.stops_listed (same_other p.step.same) p.falls in let u = k.inside _ c.loop-i-test.true in omega (arith, u, s.sections.stops)
-
 pub bounds-work-x : goal.bounds-work-x
 bounds-work-x c =
     let p = c.loop-i.invariant in let s = p.step.ready.sized in let k = listed_kept c.requires.stops_listed (same_other p.step.same) p.falls in let u = k.inside _ c.loop-i-test.true in omega (arith, u, s.sections.words)
@@ -38,22 +18,9 @@ pub walk_from-g-requires : goal.walk_from-g-requires
 walk_from-g-requires c =
     let p = c.loop-i.invariant in let s = p.step.ready.sized in let k = listed_kept c.requires.stops_listed (same_other p.step.same) p.falls in let u = k.inside _ c.loop-i-test.true in record { ready = p.step.ready; walk_ground = c.requires.walk_ground; x_bound = u; v_bound = k.early _ c.loop-i-test.true }
 
-pub overflow_add-i : goal.overflow_add-i
-overflow_add-i c =
-    let p = c.loop-i.invariant in let s = p.step.ready.sized in let k = listed_kept c.requires.stops_listed (same_other p.step.same) p.falls in omega (arith, k.few, s.sections.stops, c.loop-i-test.true)
-
 pub loop-i-preserved : goal.loop-i-preserved
 loop-i-preserved c =
     let p = c.loop-i.invariant in let s = p.step.ready.sized in let k = listed_kept c.requires.stops_listed (same_other p.step.same) p.falls in let u = k.inside _ c.loop-i-test.true in along_turn _ p (step_at _ _ _ u refl c.walk_from-g.ensures.step) c.walk_from-g.ensures.falls (λ T Q y. agree_kept p.step.same y) (λ T Q y z. all_turn T Q _ _ (part c.args.work.now c.args.lay.other c.args.n) c.loop-i.i _ z (other_in _ c.requires.stops_listed (same_other p.step.same) c.loop-i-test.true) (omega (arith, other_length c.requires.stops_listed c.requires.ready.sized.sections, c.loop-i-test.true)))
-
-pub shape_of-work : goal.shape_of-work
-shape_of-work c = let p = c.loop-i.invariant in p.step.same.size
-
-pub shape_of-labels : goal.shape_of-labels
-shape_of-labels c = let p = c.loop-i.invariant in p.step.ready.sized.rows ∙ sym c.requires.ready.sized.rows
-
-pub shape_of-label_distances : goal.shape_of-label_distances
-shape_of-label_distances c = let p = c.loop-i.invariant in p.step.ready.sized.metres ∙ sym c.requires.ready.sized.metres
 
 pub returns : goal.returns
 returns c =

@@ -1,4 +1,3 @@
-use Prim.Native.Nat.{◌-◌}
 use lib.ListN.{drop}
 use Rattle.model.specs.Search.{walk_all}
 use Rattle.search_state.specs.Part.{part}
@@ -11,7 +10,3 @@ abbrev pub invariant-loop-i : goal.invariant-loop-i
 invariant-loop-i l =
     Along l.lay l.stamp (WalksAgree l.lay l.ctx l.tables l.distances l.patterns l.initial.work) (λ T Q. walk_all T Q l.ctx.flagged l.stamp (part l.initial.work l.lay.other l.n))
     (λ T Q. walk_all T Q l.ctx.flagged l.stamp (drop l.i (part l.initial.work l.lay.other l.n))) (memory l.initial.work l.initial.labels l.initial.label_distances l.initial.g) (memory l.work l.labels l.label_distances l.g)
-
-abbrev pub decreases-loop-i : goal.decreases-loop-i
-decreases-loop-i l =
-    l.n - l.i

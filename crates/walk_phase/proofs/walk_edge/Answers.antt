@@ -10,15 +10,6 @@ pub returns-then-skips : goal.returns-then-skips
 returns-then-skips c =
     record { step = edge_skipped c.args.lay c.args.ctx c.args.stamp c.args.x c.args.v c.args.e c.args.tables.now c.args.distances.now c.args.patterns.now c.args.work.now c.args.labels.now c.args.label_distances.now c.args.h c.edge_row-row.result c.edge_row-row.ensures _ refl c.requires.e_bound _ c.skips.ensures c.requires.ready c.if-skips.true; falls = falls_refl _ _ }
 
-pub overflow_cast-row : goal.overflow_cast-row
-overflow_cast-row c = let q = row-ok _ _ c.requires.walk_ground c.edge_row-row.ensures c.requires.e_bound in omega (arith, q.duration)
-
-pub overflow_cast-row-2 : goal.overflow_cast-row-2
-overflow_cast-row-2 c = let q = row-ok _ _ c.requires.walk_ground c.edge_row-row.ensures c.requires.e_bound in omega (arith, q.pathway)
-
-pub effective_duration_s-d-requires : goal.effective_duration_s-d-requires
-effective_duration_s-d-requires c = let q = row-ok _ _ c.requires.walk_ground c.edge_row-row.ensures c.requires.e_bound in q.duration
-
 pub overflow_add-w : goal.overflow_add-w
 overflow_add-w c =
     let q = row-ok _ _ c.requires.walk_ground c.edge_row-row.ensures c.requires.e_bound in let k = duration_most _ c.edge_row-row.result.pathway c.args.ctx.net.terms.wheelchair q.duration in omega (arith, k, c.effective_duration_s-d.ensures, c.requires.v_bound)
@@ -26,22 +17,6 @@ overflow_add-w c =
 pub returns-then-h-w : goal.returns-then-h-w
 returns-then-h-w c =
     record { step = edge_late c.args.lay c.args.ctx c.args.stamp c.args.x c.args.v c.args.e c.args.tables.now c.args.distances.now c.args.patterns.now c.args.work.now c.args.labels.now c.args.label_distances.now c.args.h c.edge_row-row.result c.edge_row-row.ensures _ c.effective_duration_s-d.ensures c.requires.e_bound _ c.skips.ensures c.requires.ready c.if-skips.false c.if-h-w.true; falls = falls_refl _ _ }
-
-pub overflow_cast-how : goal.overflow_cast-how
-overflow_cast-how c = omega (arith, c.requires.x_bound, c.requires.ready.sized.sections.stops)
-
-pub overflow_cast-how-2 : goal.overflow_cast-how-2
-overflow_cast-how-2 c =
-    let q = row-ok _ _ c.requires.walk_ground c.edge_row-row.ensures c.requires.e_bound in omega (arith, q.to, c.requires.ready.sized.sections.stops)
-
-pub offset_bounds-distances-e : goal.offset_bounds-distances-e
-offset_bounds-distances-e c = omega (arith, c.requires.e_bound, c.requires.walk_ground.sane.counts.edges)
-
-pub bounds-distances-e : goal.bounds-distances-e
-bounds-distances-e c = omega (arith, c.requires.e_bound, c.requires.walk_ground.distances)
-
-pub overflow_sub-how : goal.overflow_sub-how
-overflow_sub-how c = omega (arith, c.requires.ready.round.low)
 
 pub relax-requires : goal.relax-requires
 relax-requires c =

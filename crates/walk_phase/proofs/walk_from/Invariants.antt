@@ -1,4 +1,3 @@
-use Prim.Native.Nat.{◌-◌}
 use Rattle.model.specs.Tables.{edges_from}
 use Rattle.model.specs.Search.{walk_from}
 use Rattle.search_state.specs.View.{memory}
@@ -11,7 +10,3 @@ abbrev pub invariant-loop-e : goal.invariant-loop-e
 invariant-loop-e l =
     Along l.lay l.stamp (WalksAgree l.lay l.ctx l.tables l.distances l.patterns l.initial.work) (λ T Q. walk_from T Q l.ctx.flagged l.stamp l.x l.v (edges_from T l.x))
     (λ T Q. walk_left T Q l.ctx.flagged l.stamp l.x l.v l.tables l.ctx.counts.timetable l.e) (memory l.initial.work l.initial.labels l.initial.label_distances l.initial.g) (memory l.work l.labels l.label_distances l.g)
-
-abbrev pub decreases-loop-e : goal.decreases-loop-e
-decreases-loop-e l =
-    l.ctx.counts.timetable.edges - l.e

@@ -1,10 +1,6 @@
 use Rattle.search_state.proofs.Lists.{same_other, listed_kept}
-use Rattle.walk_phase.proofs.Phases.{turned_ready, turned_ground, phase_fits, phase_flagged, phase_plain}
+use Rattle.walk_phase.proofs.Phases.{phase_fits, phase_flagged, phase_plain}
 use Rattle.walk_phase.proofs.walk_phase.Goals as goal
-
-pub walk_all-x-requires : goal.walk_all-x-requires
-walk_all-x-requires c =
-    record { ready = turned_ready c.requires.ready; walk_ground = turned_ground c.requires.walk_ground; stops_listed = c.requires.stops_listed }
 
 pub returns-then-ctx : goal.returns-then-ctx
 returns-then-ctx c =

@@ -11,4 +11,4 @@ use Rattle.cell_bitset.proofs.CellBitSet.intersects.Goals as goal
 
 pub returns : goal.returns
 returns c =
-    let self = c.args.self in let other = c.args.other in let small : (k : ℕ) → Fits w8 (get_or self.bytes k 0) = λ k. search rules in let n : c.smaller-shorter.result ≡ min (reserved_of self) (reserved_of other) = omega (arith, c.smaller-shorter.ensures, c.reserved_bytes.ensures, c.reserved_bytes-2.ensures) in c.share_bit.ensures ∙ meets_shorter self other _ n (λ k. (small k).fits)
+    let self = c.args.self in let other = c.args.other in let small : (k : ℕ) → Fits w8 (get_or self.bytes k 0) = λ k. search rules in let n : c.min.result ≡ min (reserved_of self) (reserved_of other) = omega (arith, c.min.ensures, c.reserved_bytes-a.ensures, c.reserved_bytes-b.ensures) in c.share_bit.ensures ∙ meets_shorter self other _ n (λ k. (small k).fits)

@@ -1,4 +1,4 @@
-use Prim.Native.Nat.{◌≤◌, ◌-◌}
+use Prim.Native.Nat.{◌≤◌}
 use mathlib.Core.Path.{◌≡◌}
 use lib.ListN.{get_or}
 use Rattle.loops.specs.Iter.{range}
@@ -7,6 +7,3 @@ use Rattle.cell_bitset.proofs.CellBitSet.is_empty.Given as goal
 
 abbrev pub invariant-loop-at : goal.invariant-loop-at
 invariant-loop-at l = (l.at ≤ l.end) × (range (or_with (λ k. get_or l.self.bytes k 0)) 0 l.end 0 ≡ range (or_with (λ k. get_or l.self.bytes k 0)) l.at l.end l.found)
-
-abbrev pub decreases-loop-at : goal.decreases-loop-at
-decreases-loop-at l = l.end - l.at

@@ -3,4 +3,4 @@ use Rattle.cell_bitset.proofs.CellBitSet.union_with.Goals as goal
 
 pub returns : goal.returns
 returns c =
-    simp (c.larger.ensures, c.merged-bytes.ensures, c.cleared.ensures, c.reserved_bytes-a.ensures, c.reserved_bytes-b.ensures, union_made)
+    simp (c.max.ensures, c.merged-self.ensures, c.cleared.ensures, c.reserved_bytes-a.ensures, c.reserved_bytes-b.ensures, union_made)

@@ -1,8 +1,0 @@
-use mathlib.Core.Path.{◌∙◌, sym}
-use Rattle.cell_set_call.proofs.get_bit.Goals as goal
-
-pub returns-then-not-settings_ok : goal.returns-then-not-settings_ok
-returns-then-not-settings_ok c = simp (c.refused.ensures, sym c.settings_ok.ensures ∙ c.if-not-settings_ok.true)
-
-pub returns : goal.returns
-returns c = simp (c.yes_or_no.ensures, c.get_bit.ensures, sym c.settings_ok.ensures ∙ c.if-not-settings_ok.false)
