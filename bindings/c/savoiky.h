@@ -101,7 +101,9 @@ typedef struct SavoikyCellBitSet {
 } SavoikyCellBitSet;
 SAVOIKY_SIZE(SavoikyCellBitSet, 68);
 
-/* What a caller in C reads of a call that gives a set: 0 and the set made, or the number of the first no and the set as it came. */
+/* What a caller in C reads of a call that gives a set: 0 and the set made, or the number of the first no and the set as it came (of a call that is handed
+ * none, an empty one).
+ */
 typedef struct SavoikyCellSetAnswer {
     uint32_t code;
     SavoikyCellBitSet set;

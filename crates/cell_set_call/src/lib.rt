@@ -17,7 +17,8 @@ use door::{Refusal, Settings};
 // The most cells that a set has room for.
 const CELL_LIMIT: u32 = 512;
 
-// What a caller in C reads of a call that gives a set: 0 and the set made, or the number of the first no and the set as it came.
+// What a caller in C reads of a call that gives a set: 0 and the set made, or the number of the first no and the set as it came (of a call that is handed
+// none, an empty one).
 #[repr(C)]
 #[derive(Clone, Copy)]
 pub struct CellSetAnswer {

@@ -54,10 +54,10 @@ told code known d =
     }
 
 -- an outcome of the look-up, as a caller in C reads it
-abbrev pub delay_of : Result (Option StopDelay) Refusal → DelayAt
-delay_of (Ok (Some d)) = told 0 1 d
-delay_of (Ok None) = told 0 0 no_delay
-delay_of (Err q) = told (number_of q) 0 no_delay
+abbrev pub delay_at_of : Result (Option StopDelay) Refusal → DelayAt
+delay_at_of (Ok (Some d)) = told 0 1 d
+delay_at_of (Ok None) = told 0 0 no_delay
+delay_at_of (Err q) = told (number_of q) 0 no_delay
 
 -- a refusal writes no answer: all else is 0
 abbrev pub delay_answer : ℕ → ℕ → StopDelay → DelayAt

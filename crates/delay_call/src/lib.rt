@@ -8,7 +8,7 @@
 
 ghost use Rattle.std.specs.Prelude.{◌≡◌};
 ghost use Rattle.door.specs.Door.{code_of, answer_of};
-ghost use Rattle.delay_call.specs.DelayCall.{delay_counts, delay_lengths, delays_door, margin_outcome, told, delay_of, delay_at_outcome};
+ghost use Rattle.delay_call.specs.DelayCall.{delay_counts, delay_lengths, delays_door, margin_outcome, told, delay_at_of, delay_at_outcome};
 ghost use Rattle.delay_rows.specs.Delays.{margin};
 
 use door::{Refusal, Settings};
@@ -113,7 +113,7 @@ fn told(code: u32, known: u32, d: StopDelay) -> DelayAt
 
 // What a caller in C reads of delay_at.
 impl From<Result<Option<StopDelay>, Refusal>> for DelayAt {
-    ghost from_gives = { λ r a. a ≡ delay_of r };
+    ghost from_gives = { λ r a. a ≡ delay_at_of r };
 
     fn from(outcome: Result<Option<StopDelay>, Refusal>) -> DelayAt {
         match outcome {
@@ -137,7 +137,7 @@ pub fn delay_at(
     trip: u32,
     sequence: u32,
 ) -> Result<Option<StopDelay>, Refusal>
-    ensures { delay_of result ≡ delay_at_outcome settings trips delay_row_count stop_row_count
+    ensures { delay_at_of result ≡ delay_at_outcome settings trips delay_row_count stop_row_count
         delay_rows.now stop_rows.now trip sequence }
 {
     delays_door(

@@ -90,7 +90,10 @@ fn first_run(
     requires base_bound { (base ≤ 1048575) × (dep < 4194304) × (after < 134217728) }
     ensures { result ≡ window_run (window_from start end headway) window base dep after }
 {
-    if headway == 0 || end <= start {
+    if headway == 0 {
+        return NO_RUN;
+    }
+    if end <= start {
         return NO_RUN;
     }
     let wanted = after + base;
@@ -108,14 +111,13 @@ fn first_run(
     let run = need.div_ceil(headway);
     let t = start + run * headway;
     if t < end {
-        Run {
+        return Run {
             start: t,
             window,
             run,
-        }
-    } else {
-        NO_RUN
+        };
     }
+    NO_RUN
 }
 
 // The first run of window i.

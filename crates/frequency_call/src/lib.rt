@@ -92,7 +92,12 @@ fn window_in_range(windows: &[u32], i: usize) -> bool
 fn windows_in_range(windows: &[u32]) -> bool
     ensures { result ≡ windows_in_range windows.now }
 {
-    (0..windows.len() / 3).all(|i| window_in_range(windows, i))
+    for i in 0..windows.len() / 3 {
+        if !window_in_range(windows, i) {
+            return false;
+        }
+    }
+    true
 }
 
 // Question 5: is every time in its range?

@@ -117,10 +117,14 @@ fn times_in_order(tables: &[u32], c: Counts, x: usize, y: usize, n: usize) -> bo
     requires y_bound { y + n ≤ c.times }
     ensures { result ≡ every_in (λ k. in_order (stop_time_at tables.now (x + k)) (stop_time_at tables.now (y + k))) 0 n }
 {
-    (0..n).all(|k| in_order(
-        tables::stop_time_row(tables, c, x + k),
-        tables::stop_time_row(tables, c, y + k),
-    ))
+    for k in 0..n {
+        let p = tables::stop_time_row(tables, c, x + k);
+        let q = tables::stop_time_row(tables, c, y + k);
+        if !in_order(p, q) {
+            return false;
+        }
+    }
+    true
 }
 
 fn no_windows(tables: &[u32], c: Counts, a: usize) -> bool

@@ -18,19 +18,29 @@ pub struct Line {
 }
 
 impl Line {
-    pub fn read(text: &[u8]) -> Line {
-        let mut words = [0; 1024];
+    pub fn empty() -> Line {
+        Line {
+            words: [0; 1024],
+            count: 0,
+        }
+    }
+
+    // Reads a line in place of the one before. (Each line that had room of its own would have all of it cleared, an empty line too.)
+    pub fn read(&mut self, text: &[u8]) {
         let mut numbers = text
             .split(|byte| !byte.is_ascii_digit())
             .filter(|digits| !digits.is_empty())
             .map(number);
         for count in 0..1024 {
             match numbers.next() {
-                Some(number) => words[count] = number,
-                None => return Line { words, count },
+                Some(number) => self.words[count] = number,
+                None => {
+                    self.count = count;
+                    return;
+                }
             }
         }
-        Line { words, count: 1024 }
+        self.count = 1024;
     }
 
     pub fn words(&self) -> &[u32] {

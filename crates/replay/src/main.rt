@@ -52,8 +52,10 @@ impl fmt::Display for Replayed {
 
 // A line with no words is passed over.
 fn replay_lines(tally: &mut [u32; 128], text: &[u8], all: &mut Replayed) {
-    for line in text.split(|byte| *byte == b'\n') {
-        let line = Line::read(line);
+    let mut line = Line::empty();
+    let lines = text.split(|byte| *byte == b'\n');
+    for bytes in lines.filter(|bytes| !bytes.is_empty()) {
+        line.read(bytes);
         let words = line.words();
         if !words.is_empty() {
             all.count(cases::right(tally, words));

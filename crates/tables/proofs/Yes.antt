@@ -13,7 +13,8 @@ use Rattle.loops.specs.Iter.{every_in}
 use Rattle.loops.proofs.Iter.{and_left, and_right, every_in_at, every_keep, every_kept, every_both}
 use Rattle.loops.proofs.Most.{max_most, or_most}
 use Rattle.tables.specs.declared.Counts.{Counts}
-use Rattle.tables.specs.Door.{Check, TripRuns, StopTimeNumbers, EdgeNumbers, StopTimeRanges, TripRanges, WindowRanges, EdgeRanges, EdgeOrder}
+use Rattle.tables.specs.declared.Check.{Check}
+use Rattle.tables.specs.declared.Check.TheVariants.{TripRuns, StopTimeNumbers, EdgeNumbers, StopTimeRanges, TripRanges, WindowRanges, EdgeRanges, EdgeOrder}
 use Rattle.tables.specs.Tables.{count_of, first_of, timetable_size, trip_of, edge_of, time_of, window_of}
 use Rattle.tables.specs.Door.{counts_ok, slices_ok, trip_runs, stop_time_numbers, edge_numbers, stop_time_ranges, trip_ranges, window_ranges, edge_ranges, edge_rises, row_count_of, row_ok, every_row, runs_ok, numbers_ok, ranges_ok, order_ok}
 use Rattle.tables.specs.Sane.{CountsOk, SlicesOk, RunsOk, NumbersOk, RangesOk, OrderOk, Sane}

@@ -7,6 +7,9 @@ use Rattle.tables.specs.declared.StopTimeRow.{StopTimeRow}
 use Rattle.tables.specs.declared.TripRow.{TripRow}
 use Rattle.tables.specs.declared.WindowRow.{WindowRow}
 use Rattle.tables.specs.declared.EdgeRow.{EdgeRow}
+use Rattle.tables.specs.declared.Check.{Check}
+use Rattle.tables.specs.declared.Check.TheVariants.{TripRuns, StopTimeNumbers, EdgeNumbers, StopTimeRanges, TripRanges, WindowRanges}
+use Rattle.tables.specs.declared.Check.TheVariants.{EdgeRanges, EdgeOrder}
 use Rattle.tables.specs.Tables.{timetable_size, edge_of, stop_time_at, trip_at, window_at, edge_at}
 
 -- 1: are all counts within the limits?
@@ -45,17 +48,6 @@ edge_ranges r = leb r.duration time_limit && leb r.pathway 7
 unfoldable pub edge_rises : List ℕ → Counts → ℕ → Bool
 edge_rises t c zero = true
 edge_rises t c (suc i) = leb (edge_of t c i 0) (edge_of t c (suc i) 0)
-
--- a check: what is asked of every row of a table
-pub data Check : Type 0 where
-  TripRuns : Check
-  StopTimeNumbers : Check
-  EdgeNumbers : Check
-  StopTimeRanges : Check
-  TripRanges : Check
-  WindowRanges : Check
-  EdgeRanges : Check
-  EdgeOrder : Check
 
 -- how many rows a check looks at, and what it asks of one
 abbrev pub row_count_of : Check → Counts → ℕ

@@ -1,9 +1,18 @@
-use Rattle.std.proofs.Common.{rules, refl}
-use Rattle.tables.specs.Door.{EdgeOrder, row_ok, order_ok}
-use Rattle.loops.proofs.Chains.{every_from_all}
-use borrow.Author.Tests.{tests}
+use Rattle.loops.proofs.Iter.{every_again, every_left, every_no}
+use Rattle.tables.specs.Door.{order_ok}
+use native.Mathlib.Omega.{arith}
+use mathlib.Core.Path.{sym, refl, ◌∙◌}
 use Rattle.tables.proofs.order_ok.Goals as goal
 
-pub returns : goal.returns
+pub loop-i-init : goal.loop-i-init
 unfolding order_ok
-returns c = every_from_all _ _ _ (row_ok c.args.tables.now c.args.c EdgeOrder) 0 _ refl c.all.ensures.ran (λ x b q k. search (rules, tests))
+loop-i-init c = (omega arith, refl)
+
+pub returns-then-not-edge_rises : goal.returns-then-not-edge_rises
+returns-then-not-edge_rises c = every_no _ _ _ c.loop-i.invariant.1 (sym c.edge_rises.ensures ∙ c.if-not-edge_rises.true) (omega arith)
+
+pub loop-i-preserved : goal.loop-i-preserved
+loop-i-preserved c = (omega arith, every_again _ _ _ c.loop-i.invariant.1 (sym c.edge_rises.ensures ∙ c.if-not-edge_rises.false) (omega arith))
+
+pub returns : goal.returns
+returns c = every_left _ _ _ c.loop-i.invariant.1 (omega arith)

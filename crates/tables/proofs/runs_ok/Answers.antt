@@ -1,5 +1,6 @@
 use Rattle.std.proofs.Common.{rules, refl}
-use Rattle.tables.specs.Door.{TripRuns, row_ok, runs_ok}
+use Rattle.tables.specs.declared.Check.TheVariants.{TripRuns}
+use Rattle.tables.specs.Door.{row_ok, runs_ok}
 use Rattle.loops.proofs.Chains.{every_from_all}
 use borrow.Author.Tests.{tests}
 use Rattle.tables.proofs.runs_ok.Goals as goal

@@ -1,5 +1,6 @@
 use Rattle.std.proofs.Common.{rules, refl}
-use Rattle.tables.specs.Door.{StopTimeRanges, row_ok}
+use Rattle.tables.specs.declared.Check.TheVariants.{StopTimeRanges}
+use Rattle.tables.specs.Door.{row_ok}
 use Rattle.loops.proofs.Chains.{every_from_all}
 use borrow.Author.Tests.{tests}
 use Rattle.tables.proofs.stop_times_in_range.Goals as goal

@@ -1,5 +1,6 @@
 use Rattle.std.proofs.Common.{rules, refl}
-use Rattle.tables.specs.Door.{WindowRanges, row_ok}
+use Rattle.tables.specs.declared.Check.TheVariants.{WindowRanges}
+use Rattle.tables.specs.Door.{row_ok}
 use Rattle.loops.proofs.Chains.{every_from_all}
 use borrow.Author.Tests.{tests}
 use Rattle.tables.proofs.windows_in_range.Goals as goal
